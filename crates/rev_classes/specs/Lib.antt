@@ -1,0 +1,4 @@
+pub mod Sizes
+pub mod Limits
+pub mod Table
+pub mod Laws

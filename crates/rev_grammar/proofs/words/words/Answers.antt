@@ -1,0 +1,10 @@
+use Rattle.std.proofs.Common.{rules, tests}
+use Rattle.std.proofs.lemmas.Iterator.Consumers.{map_from_collect, YieldsList-from_filter}
+use Rattle.std.proofs.lemmas.Iterator.Splits.{YieldsList-from_slice_split}
+use Rattle.rev_grammar.proofs.words.words.Goals as goal
+
+pub returns : goal.returns
+returns g c = map_from_collect _ c.collect.ensures.ran
+    (YieldsList-from_filter _ _
+    (YieldsList-from_slice_split _ _ c.args.text.now (cc) (cc) (cc) (λ x r q k. search (rules, tests)))
+    c.filter.ensures.closure (λ x r q k. search (rules, tests)))

@@ -1,0 +1,151 @@
+//! What a line may ask for.
+//!
+//! These types hold no text: a key or a name is always the word behind the command's own word.
+
+use rev_model::{ClassSet, Queue};
+
+/// How a malformed line is answered. The line makes no step.
+#[derive(Clone, Copy, Debug, PartialEq, Eq)]
+pub enum BadAnswer {
+    /// Unknown command, or wrong number of words.
+    Error,
+    /// A key or a number that breaks its rule.
+    BadFormat,
+    /// `delete` with words behind its key that it does not know.
+    DeleteUsage,
+    /// `touch` with a bad expiry time.
+    BadExptime,
+    /// `incr` or `decr` with a bad number.
+    BadDelta,
+    /// `lru tune` with shares whose sum is over 80 per cent.
+    SharesOver80,
+    /// More bytes than a line may have.
+    LineTooLong,
+    /// A data block that does not end in CR LF, or that the input cut off.
+    BadChunk,
+    /// A malformed line that begins with `~`, `@` or `:`.
+    BadCommand,
+}
+
+/// A storage command of protocol.txt; `cas` with its unique number.
+#[derive(Clone, Copy, Debug, PartialEq, Eq)]
+pub enum StorageCommand {
+    Set,
+    Add,
+    Replace,
+    Append,
+    Prepend,
+    Cas(u64),
+}
+
+/// A client's command that changes one stored item and has no data block.
+#[derive(Clone, Copy, Debug, PartialEq, Eq)]
+pub enum UpdateCommand {
+    Delete,
+    /// With the expiry time.
+    Touch(i32),
+    /// With what is added.
+    Increment(u64),
+    /// With what is taken off.
+    Decrement(u64),
+}
+
+/// A command to the background actors: the maintainer, the crawler and the page mover.
+#[derive(Clone, Copy, Debug, PartialEq, Eq)]
+pub enum ActorCommand {
+    Pull {
+        class: u32,
+        queue: Queue,
+    },
+    Bump,
+    Crawl {
+        class: u32,
+        queue: Queue,
+    },
+    Advance,
+    StartCrawl(ClassSet),
+    Reassign {
+        source: u32,
+        target: u32,
+    },
+    /// Shares of HOT and WARM in per cent, and their age factors in thousandths.
+    Tune {
+        hot_share: u32,
+        warm_share: u32,
+        hot_factor: u32,
+        warm_factor: u32,
+    },
+    /// In seconds; negative disables TEMP.
+    TempTtl(i32),
+}
+
+/// A debug command that names no key and no bookmark. Like each debug command it makes no step.
+#[derive(Clone, Copy, Debug, PartialEq, Eq)]
+pub enum DebugCommand {
+    At,
+    Back,
+    /// With the child's place, from 0.
+    Forward(u32),
+    /// With the node's number.
+    Go(u32),
+    Queue { class: u32, queue: Queue },
+    Free(u32),
+    Pages,
+    Counters(u32),
+    Globals,
+    Tree,
+    Marks,
+    Prune(u32),
+}
+
+/// A debug command about one key.
+#[derive(Clone, Copy, Debug, PartialEq, Eq)]
+pub enum KeyQuery {
+    Item,
+    Chunk,
+    Why,
+    Story,
+}
+
+/// A debug command about one bookmark.
+#[derive(Clone, Copy, Debug, PartialEq, Eq)]
+pub enum BookmarkCommand {
+    Mark,
+    Goto,
+}
+
+/// What a line asks for, but for its keys or its bookmark's name, which stand behind its first word.
+#[derive(Clone, Copy, Debug, PartialEq, Eq)]
+pub enum Command {
+    /// The second word is the key; a data block of `size` bytes and CR LF follows the line.
+    Storage {
+        command: StorageCommand,
+        flags: u32,
+        exptime: i32,
+        size: u32,
+        noreply: bool,
+    },
+    /// Each word from the second on is a key, for one step each; `gets` prints cas numbers.
+    Retrieval {
+        with_cas: bool,
+    },
+    /// The second word is the key.
+    Update {
+        command: UpdateCommand,
+        noreply: bool,
+    },
+    /// With the delay in seconds; 0 where the line has none.
+    FlushAll {
+        delay: i32,
+        noreply: bool,
+    },
+    Actor(ActorCommand),
+    /// With the time that the clock is set to.
+    Clock(u32),
+    Debug(DebugCommand),
+    /// The second word is the key.
+    Query(KeyQuery),
+    /// The second word is the bookmark's name.
+    Bookmark(BookmarkCommand),
+    Bad(BadAnswer),
+}

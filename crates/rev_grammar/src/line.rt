@@ -1,0 +1,122 @@
+//! What a line asks for.
+ghost use Rattle.std.specs.Prelude.{◌≡◌, map};
+ghost use Rattle.std.specs.Io.BufRead.{strip_last};
+ghost use Rattle.rev_grammar.specs.Words.{words};
+ghost use Rattle.rev_grammar.specs.Commands.{begins, other_command, command, longest, asked};
+ghost use Rattle.rev_grammar.specs.Keyed.{HasKeys};
+
+use crate::actor::{actor_command, crawler_command, lru_command, slabs_command};
+use crate::client::{
+    cas_command, decrement_command, delete_command, flush_command, increment_command,
+    retrieval_command, storage_command, storage_of, touch_command,
+};
+use crate::command::{BadAnswer, Command};
+use crate::debug::debug_command;
+use crate::words::word;
+
+/// A line's bytes without one CR at their end.
+pub fn body(text: &[u8]) -> &[u8]
+    ensures { result.now ≡ strip_last 13 text.now }
+{
+    let n = text.len();
+    if n > 0 && text[n - 1] == b'\r' {
+        &text[..n - 1]
+    } else {
+        text
+    }
+}
+
+fn begins(b: u8, w: &[u8]) -> bool
+    ensures { result ≡ begins b w.now }
+{
+    match w.first() {
+        Some(x) => *x == b,
+        None => false,
+    }
+}
+
+#[tactic(auto, unfolding(crate::specs::Commands::other_command))]
+fn other_command(name: &[u8], words: &[&[u8]]) -> Command
+    ensures value { result ≡ other_command name.now (map (λ x. x.now) words.now) }
+    ensures keyed { HasKeys result (map (λ x. x.now) words.now) }
+{
+    if name == b"cas".as_slice() {
+        return cas_command(words);
+    }
+    if name == b"get".as_slice() {
+        return retrieval_command(false, words);
+    }
+    if name == b"gets".as_slice() {
+        return retrieval_command(true, words);
+    }
+    if name == b"delete".as_slice() {
+        return delete_command(words);
+    }
+    if name == b"touch".as_slice() {
+        return touch_command(words);
+    }
+    if name == b"incr".as_slice() {
+        return increment_command(words);
+    }
+    if name == b"decr".as_slice() {
+        return decrement_command(words);
+    }
+    if name == b"flush_all".as_slice() {
+        return flush_command(words);
+    }
+    if name == b"lru_crawler".as_slice() {
+        return crawler_command(words);
+    }
+    if name == b"slabs".as_slice() {
+        return slabs_command(words);
+    }
+    if name == b"lru".as_slice() {
+        return lru_command(words);
+    }
+    if begins(b':', name) {
+        return debug_command(words);
+    }
+    if begins(b'@', name) || begins(b'~', name) {
+        actor_command(words)
+    } else {
+        Command::Bad(BadAnswer::Error)
+    }
+}
+
+#[tactic(auto, unfolding(crate::specs::Commands::command))]
+fn command_of(words: &[&[u8]]) -> Command
+    ensures value { result ≡ command (map (λ x. x.now) words.now) }
+    ensures keyed { HasKeys result (map (λ x. x.now) words.now) }
+{
+    let name = word(words, 0);
+    match storage_of(name) {
+        Some(command) => storage_command(command, words),
+        None => other_command(name, words),
+    }
+}
+
+// How many bytes such a line may have without its ending.
+fn longest(words: &[&[u8]]) -> usize
+    ensures { result ≡ longest (map (λ x. x.now) words.now) }
+{
+    let name = word(words, 0);
+    if name == b"get".as_slice() || name == b"gets".as_slice() {
+        65536
+    } else {
+        2048
+    }
+}
+
+/// What a line asks for, by its bytes without their ending and by its words.
+/// A line of more bytes than it may have is not looked at further.
+#[tactic(auto, unfolding(crate::specs::Commands::asked))]
+pub fn asked(body: &[u8], parts: &[&[u8]]) -> Command
+    requires { map (λ x. x.now) parts.now ≡ words body.now }
+    ensures value { result ≡ asked body.now }
+    ensures keyed { HasKeys result (words body.now) }
+{
+    if body.len() > longest(parts) {
+        return Command::Bad(BadAnswer::LineTooLong);
+    }
+    command_of(parts)
+}

@@ -1,0 +1,54 @@
+//! The words of a line.
+ghost use Rattle.std.specs.Prelude.{◌≡◌, map, length, true, ◌≤◌, ◌<◌, ◌+◌, IfOk};
+ghost use Rattle.std.specs.List.{list_all};
+ghost use Rattle.rev_grammar.specs.Words.{words, word, is_name, are_words};
+ghost use Rattle.rev_items.specs.Keys.{is_key};
+
+use rev_items::is_key;
+use std::alloc::{AllocError, Allocator};
+
+/// The words of a text, parted by runs of spaces. Only the list takes memory.
+pub fn words<A: Allocator>(alloc: A, text: &[u8]) -> Result<Vec<&[u8], A>, AllocError>
+    ensures { IfOk result (λ v. map (λ x. x.now) v.items ≡ words text.now) }
+{
+    text.split(|b| *b == b' ')
+        .filter(|w| !w.is_empty())
+        .collect(alloc)
+}
+
+/// A word by its place from 0, empty where there is none.
+pub fn word<'a>(words: &[&'a [u8]], i: usize) -> &'a [u8]
+    ensures { result.now ≡ word (map (λ x. x.now) words.now) i }
+{
+    match words.get(i) {
+        Some(w) => *w,
+        None => &[],
+    }
+}
+
+/// Whether the word is a bookmark's name: a key of at most 64 bytes.
+pub fn is_name(w: &[u8]) -> bool
+    ensures { result ≡ is_name w.now }
+{
+    w.len() <= 64 && is_key(w)
+}
+
+/// Whether each of the words is a key.
+pub fn are_keys(words: &[&[u8]]) -> bool
+    ensures { result ≡ list_all is_key (map (λ x. x.now) words.now) }
+{
+    for w in words {
+        if !is_key(*w) {
+            return false;
+        }
+    }
+    true
+}
+
+/// Whether there are `n` words, or one more that is `noreply`.
+pub fn are_words(n: usize, words: &[&[u8]]) -> bool
+    requires { n < 16 }
+    ensures { result ≡ are_words n (map (λ x. x.now) words.now) }
+{
+    words.len() == n || (words.len() == n + 1 && word(words, n) == b"noreply".as_slice())
+}

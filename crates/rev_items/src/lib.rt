@@ -1,0 +1,284 @@
+//! Keys and items, seen by contracts as plain records without an allocator.
+#![tactic(auto)]
+
+ghost use Rattle.std.specs.Prelude.{◌≡◌, ◌≤◌, ◌<◌, ◌^◌, ◌↔◌, ℕ, IfOk, IsTrue, List, length, true, false};
+ghost use Rattle.std.specs.List.{list_all};
+ghost use Rattle.rev_items.specs.Plain.{PlainItem, is_key, is_key_byte};
+ghost use Rattle.rev_items.specs.Rules.{footprint, footprint_of, is_past, moment};
+
+use std::alloc::{AllocError, Allocator};
+use std::marker::Model;
+use thiserror::Error;
+
+/// The most bytes that a key has (protocol.txt).
+pub const MAX_KEY_LENGTH: usize = 250;
+
+/// The longest time to live that counts from now, in seconds: thirty days (protocol.txt).
+pub const MAX_RELATIVE_TTL: u32 = 2592000;
+
+/// Bytes of an item's header (this project's own figure).
+const HEADER: u64 = 56;
+
+/// Why there is no key.
+#[derive(Clone, Copy, Debug, PartialEq, Eq, Drop, Error)]
+pub enum KeyFault {
+    /// Not 1 to 250 bytes, or one of them is 0 to 32 or 127.
+    #[error("not a key")]
+    BadKey,
+    #[error("out of memory")]
+    Memory,
+}
+
+/// The two bits of an item (new_lru.txt).
+#[derive(Clone, Copy, Debug, PartialEq, Eq)]
+pub struct Bits {
+    /// The item was hit since it was linked.
+    pub fetched: bool,
+    /// The item was hit once more since then, and has not been moved for it.
+    pub active: bool,
+}
+
+/// The name of an item: 1 to 250 bytes, none of them 0 to 32 or 127 (protocol.txt).
+#[derive(Drop)]
+pub struct Key<A: Allocator> {
+    bytes: Vec<u8, A>,
+}
+
+impl<A: Allocator> Model for Key<A> {
+    ghost use Rattle.std.specs.Prelude.{List, ℕ};
+    ghost use Rattle.rev_items.specs.Keys.{IsKey};
+
+    ghost Value = { List ℕ };
+
+    ghost view = { λ k. k.bytes.items };
+
+    ghost invariant = { λ k. IsKey k.bytes.items };
+}
+
+/// What a chunk holds.
+#[derive(Drop)]
+pub struct Item<A: Allocator> {
+    key: Key<A>,
+    value: Vec<u8, A>,
+    flags: u32,
+    moment: u64,
+    time: u32,
+    cas: u64,
+    bits: Bits,
+}
+
+impl<A: Allocator> Model for Item<A> {
+    ghost use Rattle.std.specs.Prelude.{length, ◌≤◌};
+    ghost use Rattle.rev_items.specs.Plain.{PlainItem};
+
+    ghost Value = { PlainItem };
+
+    ghost view = { λ i. record { key = i.key; value = i.value.items; flags = i.flags; moment = i.moment; time = i.time; cas = i.cas; bits = i.bits } };
+
+    ghost invariant = { λ i. length i.value.items ≤ 1048576 };
+}
+
+fn is_key_byte(byte: u8) -> bool
+    ensures { result ≡ is_key_byte byte }
+{
+    byte > 32 && byte != 127
+}
+
+fn are_key_bytes(bytes: &[u8]) -> bool
+    ensures { result ≡ list_all is_key_byte bytes.now }
+{
+    bytes.iter().all(|byte| is_key_byte(*byte))
+}
+
+/// Whether these bytes may be a key: 1 to 250, none of them 0 to 32 or 127 (protocol.txt).
+pub fn is_key(bytes: &[u8]) -> bool
+    ensures { result ≡ is_key bytes.now }
+{
+    let clean = are_key_bytes(bytes);
+    let some = !bytes.is_empty();
+    let few = bytes.len() <= MAX_KEY_LENGTH;
+    some && few && clean
+}
+
+/// The bytes that an item takes of its chunk, from the bytes of its key and of its data (this project's own rule, in
+/// memcached's layout): a header of 56, the key and a byte, four bytes where flags are not 0, the data, CR LF.
+pub fn footprint(key_length: usize, flags: u32, data_length: u64) -> u64
+    requires key { key_length ≤ 250 }
+    requires data { data_length ≤ 2 ^ 32 }
+    ensures { result ≡ footprint key_length flags data_length }
+{
+    let flag_bytes = if flags == 0 { 0 } else { 4 };
+    HEADER + key_length as u64 + 1 + flag_bytes + data_length + 2
+}
+
+/// The second of the clock at which an item expires, told when it is linked at `now` with this time to live
+/// (protocol.txt): 0 never; 1, which is past, where the time is negative; up to thirty days from now; else the time
+/// itself.
+pub fn moment(now: u32, exptime: i32) -> u64
+    ensures { result ≡ moment now exptime }
+{
+    if exptime < 0 {
+        return 1;
+    }
+    let seconds = exptime as u32;
+    if seconds == 0 {
+        0
+    } else if seconds <= MAX_RELATIVE_TTL {
+        u64::from(now) + u64::from(seconds)
+    } else {
+        u64::from(seconds)
+    }
+}
+
+/// Whether an item of this moment and cas number is dead at `now`, after a flush of all items up to the cas number
+/// `mark` (this project's own test, one for every reader).
+pub fn is_past(now: u32, mark: u64, moment: u64, cas: u64) -> bool
+    ensures { result ≡ is_past now mark moment cas }
+{
+    let expired = moment != 0 && moment <= u64::from(now);
+    expired || cas <= mark
+}
+
+impl<A: Allocator> Key<A> {
+    /// The key of these bytes, which are copied.
+    pub fn new(alloc: A, bytes: &[u8]) -> Result<Key<A>, KeyFault>
+        ensures ok { IfOk result (λ key. (key ≡ bytes.now) × (is_key bytes.now ≡ true)) }
+        ensures bad { (result ≡ Err KeyFault.BadKey) ↔ (is_key bytes.now ≡ false) }
+    {
+        if !is_key(bytes) {
+            return Err(KeyFault::BadKey);
+        }
+        match bytes.to_vec(alloc) {
+            Ok(bytes) => Ok(Key { bytes }),
+            Err(_) => Err(KeyFault::Memory),
+        }
+    }
+
+    /// The key's bytes, 1 to 250.
+    pub fn bytes(&self) -> &[u8]
+        ensures same { result.now ≡ self.now }
+        ensures rule { is_key self.now ≡ true }
+    {
+        &self.bytes
+    }
+
+    /// An equal key.
+    pub fn copy<B: Allocator>(&self, alloc: B) -> Result<Key<B>, AllocError>
+        ensures { IfOk result (λ key. key ≡ self.now) }
+    {
+        let bytes = self.bytes.as_slice().to_vec(alloc)?;
+        Ok(Key { bytes })
+    }
+
+    /// Whether the two keys have the same bytes.
+    pub fn is_same<B: Allocator>(&self, other: &Key<B>) -> bool
+        ensures { IsTrue result ↔ (self.now ≡ other.now) }
+    {
+        self.bytes.as_slice() == other.bytes.as_slice()
+    }
+}
+
+impl<A: Allocator> Item<A> {
+    /// An item as it stands when it is linked: neither bit is set. Its data are at most 1048576 bytes, the largest
+    /// page, so that a footprint fits 32 bits.
+    pub fn new(
+        key: Key<A>,
+        value: Vec<u8, A>,
+        flags: u32,
+        moment: u64,
+        time: u32,
+        cas: u64,
+    ) -> Item<A>
+        requires data { length value.items ≤ 1048576 }
+        ensures { result ≡ record { key = key; value = value.items; flags = flags; moment = moment; time = time; cas = cas; bits = record { fetched = false; active = false } } }
+    {
+        let bits = Bits {
+            fetched: false,
+            active: false,
+        };
+        Item {
+            key,
+            value,
+            flags,
+            moment,
+            time,
+            cas,
+            bits,
+        }
+    }
+
+    pub fn key(&self) -> &Key<A>
+        ensures { result.now ≡ self.now.key }
+    {
+        &self.key
+    }
+
+    /// The item's data.
+    pub fn value(&self) -> &[u8]
+        ensures { result.now ≡ self.now.value }
+    {
+        &self.value
+    }
+
+    /// The number that the client keeps with the item.
+    pub fn flags(&self) -> u32
+        ensures { result ≡ self.now.flags }
+    {
+        self.flags
+    }
+
+    /// The second of the clock at which the item expires; 0: never.
+    pub fn moment(&self) -> u64
+        ensures { result ≡ self.now.moment }
+    {
+        self.moment
+    }
+
+    /// The second of the clock at which the item was linked or last bumped.
+    pub fn time(&self) -> u32
+        ensures { result ≡ self.now.time }
+    {
+        self.time
+    }
+
+    /// The item's unique number, by which `cas` compares.
+    pub fn cas(&self) -> u64
+        ensures { result ≡ self.now.cas }
+    {
+        self.cas
+    }
+
+    pub fn bits(&self) -> Bits
+        ensures { result ≡ self.now.bits }
+    {
+        self.bits
+    }
+
+    /// The bytes that the item takes of its chunk.
+    pub fn footprint(&self) -> u64
+        ensures bytes { result ≡ footprint_of self.now }
+        ensures within { result < 2 ^ 32 }
+    {
+        footprint(self.key.bytes().len(), self.flags, self.value.len() as u64)
+    }
+
+    /// Whether the item is dead at `now`, after a flush of all items up to the cas number `mark`: it has expired, or
+    /// was linked no later than the flush (this project's own test, one for every reader).
+    pub fn is_dead(&self, now: u32, mark: u64) -> bool
+        ensures { result ≡ is_past now mark self.now.moment self.now.cas }
+    {
+        is_past(now, mark, self.moment, self.cas)
+    }
+
+    /// Exchanges bits, time and moment, and gives the old ones.
+    pub fn touch(&mut self, bits: Bits, time: u32, moment: u64) -> (Bits, u32, u64)
+        ensures old { result ≡ (self.old.bits, self.old.time, self.old.moment) }
+        ensures new { self.new ≡ record self.old { bits = bits; time = time; moment = moment } }
+    {
+        let old = (self.bits, self.time, self.moment);
+        self.bits = bits;
+        self.time = time;
+        self.moment = moment;
+        old
+    }
+}

@@ -1,0 +1,4 @@
+pub mod Rings
+pub mod Lists
+pub mod Neighbours
+pub mod Grids

@@ -1,0 +1,92 @@
+-- Lists that run through slots: each member knows the place before it and the place after it,
+-- and a list's end stands before its first member and after its last one.
+use Rattle.std.specs.Prelude.{◌≡◌, ◌≢◌, true, false, ℕ, suc, zero, Bool, cond, Option, Some, None, List, [], ◌∷◌, ◌⊎◌}
+use Rattle.rev_links.specs.declared.places.Place.{Place}
+use Rattle.rev_links.specs.declared.places.Place.TheVariants.{End, At}
+
+-- the member that a step leads to, if it leads to one
+abbrev pub member_of : {E X : Type 0} → Option (Place E X) → Option X
+member_of None = None
+member_of (Some (End e)) = None
+member_of (Some (At x)) = Some x
+
+-- the members that are met from a place on, until a step leads to no member: at most n
+unfoldable pub walk : {E X : Type 0} → (Place E X → Option (Place E X)) → ℕ → Place E X → List X
+walk next zero p = []
+walk next (suc n) p = elim (member_of (next p)) [ None ↦ [] | Some x ↦ x ∷ walk next n (At x) ]
+
+-- one step, seen from both sides
+pub record Joined {E X : Type 0} (next previous : Place E X → Option (Place E X)) (p q : Place E X) : Type 0 where
+  pub onward : next p ≡ Some q
+  pub back : previous q ≡ Some p
+
+-- from p through the members xs to q
+abbrev pub Path : {E X : Type 0} → (next previous : Place E X → Option (Place E X)) → Place E X → List X → Place E X → Type 0
+Path next previous p [] q = Joined next previous p q
+Path next previous p (x ∷ xs) q = Joined next previous p (At x) × Path next previous (At x) xs q
+
+-- the list without the first x
+abbrev pub without : {X : Type 0} → (X → X → Bool) → X → List X → List X
+without eq x [] = []
+without eq x (y ∷ ys) = cond (eq x y) ys (y ∷ without eq x ys)
+
+-- the list with x behind the first y
+abbrev pub insert_behind : {X : Type 0} → (X → X → Bool) → X → X → List X → List X
+insert_behind eq x y [] = []
+insert_behind eq x y (z ∷ zs) = cond (eq y z) (z ∷ x ∷ zs) (z ∷ insert_behind eq x y zs)
+
+-- the list with x behind a member, or in front
+abbrev pub insert : {X : Type 0} → (X → X → Bool) → X → Option X → List X → List X
+insert eq x None xs = x ∷ xs
+insert eq x (Some y) xs = insert_behind eq x y xs
+
+-- x stands in the list
+abbrev pub In : {X : Type 0} → X → List X → Type 0
+In x [] = ⊥
+In x (y ∷ ys) = (y ≡ x) ⊎ In x ys
+
+-- a test that decides whether two members are the same
+pub record Tells {X : Type 0} (eq : X → X → Bool) : Type 0 where
+  pub same : (x y : X) → eq x y ≡ true → x ≡ y
+  pub apart : (x y : X) → eq x y ≡ false → x ≢ y
+
+-- x was taken out from between p and n
+pub record Closed {E X : Type 0} (next previous next' previous' : Place E X → Option (Place E X)) (x : X) (p n : Place E X) : Type 0 where
+  pub before : Joined next previous p (At x)
+  pub behind : Joined next previous (At x) n
+  pub joined : Joined next' previous' p n
+  pub next_same : (q : Place E X) → q ≢ p → next' q ≡ next q
+  pub previous_same : (q : Place E X) → q ≢ n → previous' q ≡ previous q
+
+-- x was put between a and n
+pub record Opened {E X : Type 0} (next previous next' previous' : Place E X → Option (Place E X)) (x : X) (a n : Place E X) : Type 0 where
+  pub joined : Joined next previous a n
+  pub before : Joined next' previous' a (At x)
+  pub behind : Joined next' previous' (At x) n
+  pub next_same : (q : Place E X) → q ≢ a → q ≢ At x → next' q ≡ next q
+  pub previous_same : (q : Place E X) → q ≢ n → q ≢ At x → previous' q ≡ previous q
+
+-- the place behind p is v, and no other neighbour changed
+pub record SetsNext {E X : Type 0} (next previous next' previous' : Place E X → Option (Place E X)) (p v : Place E X) : Type 0 where
+  pub at : next' p ≡ Some v
+  pub others : (q : Place E X) → q ≢ p → next' q ≡ next q
+  pub kept : (q : Place E X) → previous' q ≡ previous q
+
+-- the place before p is v, and no other neighbour changed
+pub record SetsPrevious {E X : Type 0} (next previous next' previous' : Place E X → Option (Place E X)) (p v : Place E X) : Type 0 where
+  pub at : previous' p ≡ Some v
+  pub others : (q : Place E X) → q ≢ p → previous' q ≡ previous q
+  pub kept : (q : Place E X) → next' q ≡ next q
+
+-- x stands between two places
+pub record Between {E X : Type 0} (next previous : Place E X → Option (Place E X)) (x : X) : Type 0 where
+  pub p : Place E X
+  pub n : Place E X
+  pub before : Joined next previous p (At x)
+  pub behind : Joined next previous (At x) n
+
+-- behind the place a stands a place that is not x
+pub record Gap {E X : Type 0} (next previous : Place E X → Option (Place E X)) (a : Place E X) (x : X) : Type 0 where
+  pub n : Place E X
+  pub joined : Joined next previous a n
+  pub apart : n ≢ At x

@@ -1,0 +1,122 @@
+ghost use Rattle.std.specs.Prelude.{◌≡◌, ◌<◌, ◌+◌, ℕ, List, [], length, IfOk, IsSome, Some, slice_index_or, slice_set};
+ghost use Rattle.rev_links.specs.Grids.{cell_at, with_cell, away};
+
+use crate::ticks::Ticks;
+use std::alloc::{AllocError, Allocator};
+use std::marker::Model;
+use std::mem;
+use std::sync::ledger::Ledger;
+
+/// Cells by page and slot. The table of pages is made once, and a page is there or away.
+#[derive(Drop)]
+pub struct Grid<T, A: Allocator> {
+    pages: Vec<Option<Vec<T, A>>, A>,
+}
+
+impl<T, A: Allocator> Model for Grid<T, A> {
+    ghost use Rattle.std.specs.Prelude.{List, map};
+    ghost use Rattle.rev_links.specs.Grids.{cells_of};
+
+    ghost Value = { List (List T) };
+
+    ghost view = { λ g. map (cells_of (λ v. v.items)) g.pages.items };
+}
+
+impl<T: Drop, A: Allocator + Drop> Grid<T, A> {
+    /// A table of so many pages, each away. A want of memory for the table is its only error.
+    pub fn open(alloc: A, pages: usize) -> Result<Grid<T, A>, AllocError>
+        ensures { IfOk result (λ g. g ≡ away pages) }
+    {
+        let mut table = Vec::with_capacity(alloc, pages)?;
+        for _ in 0..pages {
+            table.push(None)?;
+        }
+        Ok(Grid { pages: table })
+    }
+
+    /// Puts a page's cells in.
+    pub fn lay(&mut self, page: u16, cells: Vec<T, A>)
+        requires { page < length self.old }
+        ensures { self.new ≡ slice_set self.old page cells.items }
+    {
+        self.pages[usize::from(page)] = Some(cells);
+    }
+
+    /// Writes a cell.
+    pub fn set(&mut self, page: u16, slot: u16, value: T)
+        requires { IsSome (cell_at self.old page slot) }
+        ensures { self.new ≡ with_cell self.old page slot value }
+    {
+        let _old = self.replace(page, slot, value);
+    }
+}
+
+impl<T, A: Allocator> Grid<T, A> {
+    /// How many cells a page has, 0 where it is away.
+    pub fn count(&self, page: u16) -> usize
+        requires { page < length self.now }
+        ensures { result ≡ length (slice_index_or self.now page []) }
+    {
+        match &self.pages[usize::from(page)] {
+            Some(cells) => cells.len(),
+            None => 0,
+        }
+    }
+
+    /// What a cell holds.
+    pub fn get(&self, page: u16, slot: u16) -> &T
+        requires { IsSome (cell_at self.now page slot) }
+        ensures { cell_at self.now page slot ≡ Some result.now }
+    {
+        match &self.pages[usize::from(page)] {
+            Some(cells) => &cells[usize::from(slot)],
+            None => unreachable!(),
+        }
+    }
+
+    /// Exchanges what a cell holds.
+    pub fn replace(&mut self, page: u16, slot: u16, value: T) -> T
+        requires { IsSome (cell_at self.old page slot) }
+        ensures before { cell_at self.old page slot ≡ Some result }
+        ensures after { self.new ≡ with_cell self.old page slot value }
+    {
+        match &mut self.pages[usize::from(page)] {
+            Some(cells) => mem::replace(&mut cells[usize::from(slot)], value),
+            None => unreachable!(),
+        }
+    }
+
+    /// Takes a page's cells out.
+    pub fn lift(&mut self, page: u16) -> Vec<T, A>
+        requires { 0 < length (slice_index_or self.old page []) }
+        ensures before { result.items ≡ slice_index_or self.old page [] }
+        ensures after { self.new ≡ slice_set self.old page [] }
+    {
+        match self.pages[usize::from(page)].take() {
+            Some(cells) => cells,
+            None => unreachable!(),
+        }
+    }
+}
+
+impl<T: Copy, A: Allocator> Grid<T, A> {
+    /// What a cell holds, read in one tick.
+    pub fn read<L: Ledger>(&self, page: u16, slot: u16, ticks: &mut Ticks<L>) -> T
+        requires { IsSome (cell_at self.now page slot) }
+        ensures value { cell_at self.now page slot ≡ Some result }
+        ensures cost { ticks.new ≡ ticks.old + 1 }
+    {
+        ticks.tick();
+        *self.get(page, slot)
+    }
+
+    /// Writes a cell in one tick.
+    pub fn write<L: Ledger>(&mut self, page: u16, slot: u16, value: T, ticks: &mut Ticks<L>)
+        requires { IsSome (cell_at self.old page slot) }
+        ensures value { self.new ≡ with_cell self.old page slot value }
+        ensures cost { ticks.new ≡ ticks.old + 1 }
+    {
+        ticks.tick();
+        let _old = self.replace(page, slot, value);
+    }
+}

@@ -1,0 +1,13 @@
+//! Lists that run through slots of pages: places and links with the theory of the lists that they make, cells that
+//! are counted as they are read and written, and tables of pages that may be away.
+#![tactic(auto)]
+
+mod cells;
+mod grid;
+mod places;
+mod ticks;
+
+pub use cells::Cells;
+pub use grid::Grid;
+pub use places::{Link, Place};
+pub use ticks::Ticks;

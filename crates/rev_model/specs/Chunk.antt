@@ -1,0 +1,44 @@
+-- Chunks and entries: the test for equality, the order, the code.
+use Rattle.std.specs.Prelude.{ℕ, Bool, true, false, ◌&&◌, ◌==◌, ◌≡◌, ◌<◌, refl, List, length, slice_index}
+use Rattle.std.specs.Coded.{Coded, code_by, coded×, coded_ℕ}
+use Rattle.std.specs.Ordering.{nat_cmp, ordering_then}
+use Rattle.std.specs.declared.cmp.Ordering.{Ordering}
+use Rattle.std.specs.Cmp.{IsTotalOrder, nat_cmp_total}
+use Rattle.std.specs.FinMap.{IsAntisymmetric}
+use Rattle.std.proofs.Common.{ap}
+use Rattle.std.proofs.lemmas.Cmp.{on_total, then_total}
+use Rattle.std.proofs.lemmas.Map.Lookups.{exact_pairs, exact_unsigned}
+use Rattle.rev_model.specs.declared.ChunkRef.{ChunkRef}
+use Rattle.rev_model.specs.declared.Entry.{Entry}
+use Rattle.rev_model.specs.declared.Entry.TheVariants.{Chunk, Mark}
+
+-- the same page and the same slot
+abbrev pub same_chunk : ChunkRef → ChunkRef → Bool
+same_chunk a b = (a.page == b.page) && (a.slot == b.slot)
+
+abbrev pub same_entry : Entry → Entry → Bool
+same_entry (Chunk a) (Chunk b) = same_chunk a b
+same_entry (Chunk a) Mark = false
+same_entry Mark (Chunk b) = false
+same_entry Mark Mark = true
+
+-- by page, and then by slot
+abbrev pub chunk_cmp : ChunkRef → ChunkRef → Ordering
+chunk_cmp a b = ordering_then (nat_cmp a.page b.page) (nat_cmp a.slot b.slot)
+
+abbrev pub coded_chunk : Coded ChunkRef
+coded_chunk = code_by (ℕ × ℕ) (coded× coded_ℕ coded_ℕ) (λ c. (c.page, c.slot)) (λ p. record { page = p.0; slot = p.1 }) (λ _. refl)
+
+pub chunk_cmp_exact : IsAntisymmetric chunk_cmp
+chunk_cmp_exact a b h = ap (λ (p : ℕ × ℕ). record { page = p.0; slot = p.1 }) (exact_pairs nat_cmp nat_cmp exact_unsigned exact_unsigned (a.page, a.slot) (b.page, b.slot) h)
+
+pub chunk_cmp_total : IsTotalOrder chunk_cmp
+chunk_cmp_total = then_total (on_total (λ c. c.page) nat_cmp_total) (on_total (λ c. c.slot) nat_cmp_total)
+
+-- the chunk is a slot of a page, where `slots` counts each page's
+abbrev pub HasSlot : List ℕ → ChunkRef → Type 0
+HasSlot slots x = (x.page < length slots) × (x.slot < slice_index slots x.page)
+
+abbrev pub EntryHasSlot : List ℕ → Entry → Type 0
+EntryHasSlot slots (Chunk x) = HasSlot slots x
+EntryHasSlot slots Mark = Unit {0}

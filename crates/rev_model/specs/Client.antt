@@ -1,0 +1,224 @@
+-- The steps of clients.
+use Rattle.std.specs.Prelude.{ℕ, ℤ, pos, negsuc, ◌+◌, ◌-◌, ◌*◌, ◌%◌, ◌^◌, Bool, true, false, cond, not, ◌&&◌, List, [], ◌∷◌, ◌++◌, Option, None, Some, length, nat_eq, nat_lt, nat_le}
+use Rattle.std.specs.List.{list_all}
+use Rattle.std.specs.Fmt.{decimal}
+use Rattle.std.specs.FinMap as map
+use Rattle.rev_items.specs.Plain.{PlainItem}
+use Rattle.rev_model.specs.State.{State, free_of, queue_of, owner_of, item_at, find}
+use Rattle.rev_model.specs.Words.{class_of, is_dead, queue_with, dropped, freed, with_item, new_item, linked}
+use Rattle.rev_items.specs.Rules.{footprint, moment}
+use Rattle.rev_model.specs.Pull.{room}
+use Rattle.rev_model.specs.declared.ChunkRef.{ChunkRef}
+use Rattle.rev_model.specs.declared.Queue.{Queue}
+use Rattle.rev_model.specs.declared.Queue.TheVariants.{Hot, Warm, Cold, Temp}
+use Rattle.rev_model.specs.declared.Outcome.{Outcome}
+use Rattle.rev_model.specs.declared.Outcome.TheVariants.{Stored, NotStored, Exists, NotFound, Deleted, Touched, Okay, Hit, Miss, TooLarge, NoChunk, Number, NotNumber}
+
+pub data Payload : Type 0 where
+  Bytes : List ℕ → Payload
+  Skipped : ℕ → Payload
+
+pub data Verb : Type 0 where
+  Sets : Verb
+  Adds : Verb
+  Replaces : Verb
+  Cases : ℕ → Verb
+
+pub data Side : Type 0 where
+  Appends : Side
+  Prepends : Side
+
+pub data Sum : Type 0 where
+  Increases : Sum
+  Decreases : Sum
+
+pub data ClientStep : Type 0 where
+  -- key, flags, exptime, data
+  Stores : Verb → List ℕ → ℕ → ℤ → Payload → ClientStep
+  Joins : Side → List ℕ → Payload → ClientStep
+  Gets : List ℕ → ClientStep
+  Touches : List ℕ → ℤ → ClientStep
+  Deletes : List ℕ → ClientStep
+  Flushes : Option ℤ → ClientStep
+  Counts : Sum → List ℕ → ℕ → ClientStep
+
+-- ---- lookup and hit
+
+-- what an item that is found leaves and gives: a dead one is unlinked and its chunk freed
+abbrev pub looked_item : State → ChunkRef → Option PlainItem → State × Option (ChunkRef × PlainItem)
+looked_item s x None = (s, None)
+looked_item s x (Some i) = cond (is_dead s.globals i) (dropped (owner_of s x.page) (queue_with s (owner_of s x.page) x) x i s, None) (s, Some (x, i))
+
+abbrev pub looked_at : State → Option ChunkRef → State × Option (ChunkRef × PlainItem)
+looked_at s None = (s, None)
+looked_at s (Some x) = looked_item s x (item_at s x)
+
+abbrev pub lookup : State → List ℕ → State × Option (ChunkRef × PlainItem)
+lookup s k = looked_at s (find s k)
+
+abbrev pub hit_again : State → Queue → ChunkRef → PlainItem → State
+hit_again s Hot x i = with_item x (record i { bits = record i.bits { active = true }; time = s.globals.clock }) s
+hit_again s Warm x i = with_item x (record i { bits = record i.bits { active = true }; time = s.globals.clock }) s
+hit_again s Temp x i = with_item x (record i { bits = record i.bits { active = true }; time = s.globals.clock }) s
+hit_again s Cold x i = cond (nat_lt (length s.bump) s.fixed.bump_room) (with_item x (record i { bits = record i.bits { active = true } }) (record s { bump = s.bump ++ record { chunk = x; cas = i.cas } ∷ [] })) s
+
+abbrev pub hit : State → ChunkRef → PlainItem → State
+hit s x i = cond i.bits.active s (cond i.bits.fetched (hit_again s (queue_with s (owner_of s x.page) x) x i) (with_item x (record i { bits = record i.bits { fetched = true } }) s))
+
+-- an item that was found leaves
+abbrev pub removed : Option (ChunkRef × PlainItem) → State → State
+removed None s = s
+removed (Some (x, i)) s = dropped (owner_of s x.page) (queue_with s (owner_of s x.page) x) x i s
+
+-- ---- set, add, replace, cas
+
+abbrev pub bytes_of : Payload → List ℕ
+bytes_of (Bytes bs) = bs
+bytes_of (Skipped n) = []
+
+-- the class that such an item lies in; skipped data fit none
+abbrev pub class_for : State → List ℕ → ℕ → Payload → Option ℕ
+class_for s k flags (Bytes bs) = class_of s.fixed (footprint (length k) flags (length bs))
+class_for s k flags (Skipped n) = None
+
+-- why nothing is stored, by what the lookup found
+abbrev pub refusal : Verb → Option (ChunkRef × PlainItem) → Option Outcome
+refusal Sets o = None
+refusal Adds None = None
+refusal Adds (Some f) = Some NotStored
+refusal Replaces None = Some NotStored
+refusal Replaces (Some f) = None
+refusal (Cases n) None = Some NotFound
+refusal (Cases n) (Some (x, i)) = cond (nat_eq i.cas n) None (Some Exists)
+
+abbrev pub failed : Verb → List ℕ → Outcome → State → State × Outcome
+failed Sets k o s = (removed (lookup s k).1 (lookup s k).0, o)
+failed Adds k o s = (s, o)
+failed Replaces k o s = (s, o)
+failed (Cases n) k o s = (s, o)
+
+-- the new item in its chunk, with the old one gone
+abbrev pub renewed : ℕ → ChunkRef → List ℕ → List ℕ → ℕ → ℕ → Option (ChunkRef × PlainItem) → State → State
+renewed c x k value flags m old s = linked c x (new_item s k value flags m) (removed old s)
+
+abbrev pub settled_by : ℕ → ChunkRef → List ℕ → List ℕ → ℕ → ℤ → State × Option (ChunkRef × PlainItem) → Option Outcome → State × Outcome
+settled_by c x k value flags e (s, old) None = (renewed c x k value flags (moment s.globals.clock e) old s, Stored)
+settled_by c x k value flags e (s, old) (Some o) = (freed c x s, o)
+
+abbrev pub settled : Verb → ℕ → ChunkRef → List ℕ → List ℕ → ℕ → ℤ → State × Option (ChunkRef × PlainItem) → State × Outcome
+settled v c x k value flags e (s, old) = settled_by c x k value flags e (s, old) (refusal v old)
+
+abbrev pub stored_room : Verb → ℕ → List ℕ → List ℕ → ℕ → ℤ → State × Option ChunkRef → State × Outcome
+stored_room v c k value flags e (s, None) = failed v k NoChunk s
+stored_room v c k value flags e (s, Some x) = settled v c x k value flags e (lookup s k)
+
+abbrev pub stored_class : State → Verb → List ℕ → List ℕ → ℕ → ℤ → Option ℕ → State × Outcome
+stored_class s v k value flags e None = failed v k TooLarge s
+stored_class s v k value flags e (Some c) = stored_room v c k value flags e (room s c)
+
+abbrev pub store : State → Verb → List ℕ → ℕ → ℤ → Payload → State × Outcome
+store s v k flags e d = stored_class s v k (bytes_of d) flags e (class_for s k flags d)
+
+-- ---- append, prepend, incr, decr
+
+abbrev pub rewritten_old : ℕ → ChunkRef → List ℕ → List ℕ → ℕ → ℕ → Outcome → Outcome → State × Option (ChunkRef × PlainItem) → State × Outcome
+rewritten_old c x k value flags m gone done (s, None) = (freed c x s, gone)
+rewritten_old c x k value flags m gone done (s, Some f) = (renewed c x k value flags m (Some f) s, done)
+
+abbrev pub rewritten_room : ℕ → List ℕ → List ℕ → ℕ → ℕ → Outcome → Outcome → State × Option ChunkRef → State × Outcome
+rewritten_room c k value flags m gone done (s, None) = (s, NoChunk)
+rewritten_room c k value flags m gone done (s, Some x) = rewritten_old c x k value flags m gone done (lookup s k)
+
+abbrev pub rewritten_class : State → List ℕ → List ℕ → ℕ → ℕ → Outcome → Outcome → Option ℕ → State × Outcome
+rewritten_class s k value flags m gone done None = (s, TooLarge)
+rewritten_class s k value flags m gone done (Some c) = rewritten_room c k value flags m gone done (room s c)
+
+-- the data of the item i, which was found, become these
+abbrev pub rewritten : State → PlainItem → Payload → Outcome → Outcome → State × Outcome
+rewritten s i d gone done = rewritten_class s i.key (bytes_of d) i.flags i.moment gone done (class_for s i.key i.flags d)
+
+abbrev pub joined : Side → List ℕ → Payload → Payload
+joined Appends old (Bytes bs) = Bytes (old ++ bs)
+joined Prepends old (Bytes bs) = Bytes (bs ++ old)
+joined side old (Skipped n) = Skipped n
+
+abbrev pub join_found : Side → Payload → State × Option (ChunkRef × PlainItem) → State × Outcome
+join_found side d (s, None) = (s, NotStored)
+join_found side d (s, Some (x, i)) = rewritten s i (joined side i.value d) NotStored Stored
+
+abbrev pub join : State → Side → List ℕ → Payload → State × Outcome
+join s side k d = join_found side d (lookup s k)
+
+-- 1 to 20 digits of at most 64 bits
+abbrev pub is_digit : ℕ → Bool
+is_digit b = nat_le 48 b && nat_le b 57
+
+abbrev pub digits_from : ℕ → List ℕ → ℕ
+digits_from n [] = n
+digits_from n (b ∷ bs) = digits_from (10 * n + (b - 48)) bs
+
+abbrev pub is_number : List ℕ → Bool
+is_number bs = nat_lt 0 (length bs) && (nat_le (length bs) 20 && (list_all is_digit bs && nat_lt (digits_from 0 bs) (2 ^ 64)))
+
+abbrev pub summed : Sum → ℕ → ℕ → ℕ
+summed Increases n d = (n + d) % 2 ^ 64
+summed Decreases n d = n - d
+
+abbrev pub count_as : State → PlainItem → ℕ → State × Outcome
+count_as s i n = rewritten s i (Bytes (decimal n)) NotFound (Number n)
+
+abbrev pub count_found : Sum → ℕ → State × Option (ChunkRef × PlainItem) → State × Outcome
+count_found side d (s, None) = (s, NotFound)
+count_found side d (s, Some (x, i)) = cond (is_number i.value) (count_as s i (summed side (digits_from 0 i.value) d)) (s, NotNumber)
+
+abbrev pub count : State → Sum → List ℕ → ℕ → State × Outcome
+count s side k d = count_found side d (lookup s k)
+
+-- ---- get, touch, delete, flush_all
+
+abbrev pub get_found : State × Option (ChunkRef × PlainItem) → State × Outcome
+get_found (s, None) = (s, Miss)
+get_found (s, Some (x, i)) = (hit s x i, Hit i.cas (length i.value))
+
+abbrev pub get : State → List ℕ → State × Outcome
+get s k = get_found (lookup s k)
+
+abbrev pub until : ℕ → ChunkRef → Option PlainItem → State → State
+until m x None s = s
+until m x (Some i) s = with_item x (record i { moment = m }) s
+
+abbrev pub touch_found : ℤ → State × Option (ChunkRef × PlainItem) → State × Outcome
+touch_found e (s, None) = (s, NotFound)
+touch_found e (s, Some (x, i)) = (until (moment s.globals.clock e) x (item_at (hit s x i) x) (hit s x i), Touched)
+
+abbrev pub touch : State → List ℕ → ℤ → State × Outcome
+touch s k e = touch_found e (lookup s k)
+
+abbrev pub delete_found : State × Option (ChunkRef × PlainItem) → State × Outcome
+delete_found (s, None) = (s, NotFound)
+delete_found (s, Some f) = (removed (Some f) s, Deleted)
+
+abbrev pub delete : State → List ℕ → State × Outcome
+delete s k = delete_found (lookup s k)
+
+-- the moment of a flush; 0 is at once
+abbrev pub flush_moment : ℕ → Option ℤ → ℕ
+flush_moment now None = 0
+flush_moment now (Some (pos n)) = moment now (pos n)
+flush_moment now (Some (negsuc n)) = 0
+
+abbrev pub flush_at : State → ℕ → State
+flush_at s m = cond (nat_le m s.globals.clock) (record s { globals = record s.globals { mark = s.globals.last_cas; flush = None } }) (record s { globals = record s.globals { flush = Some m } })
+
+abbrev pub flush_all : State → Option ℤ → State × Outcome
+flush_all s d = (flush_at s (flush_moment s.globals.clock d), Okay)
+
+-- a step of a client
+abbrev pub client : State → ClientStep → State × Outcome
+client s (Stores v k flags e d) = store s v k flags e d
+client s (Joins side k d) = join s side k d
+client s (Gets k) = get s k
+client s (Touches k e) = touch s k e
+client s (Deletes k) = delete s k
+client s (Flushes d) = flush_all s d
+client s (Counts side k d) = count s side k d

@@ -1,0 +1,197 @@
+//! The command line of `lrudb`: which words ask for what.
+#![tactic(auto)]
+
+ghost use Rattle.std.specs.Prelude.{◌≡◌, IfOk, true};
+ghost use Rattle.rev_options.specs.Request.{IsInRange, is_temp_ttl};
+
+use clap::error::ErrorKind;
+use clap::{Arg, ArgMatches, Command, Error, value_parser};
+use rev_classes::Config;
+use std::alloc::{AllocError, Global};
+use std::convert::AsStr;
+
+/// The time to live by which no item enters TEMP.
+const NEVER: i32 = -1;
+
+/// What a command line asks for.
+#[derive(Clone, Copy, Debug, PartialEq, Eq)]
+pub enum Request {
+    /// Run the script of the standard input.
+    Run { config: Config },
+}
+
+/// Why there is no request.
+#[derive(Debug, Drop)]
+pub enum Refused {
+    /// The words are at fault or ask for help: the parser's text for the user.
+    Told(String),
+    Memory,
+}
+
+/// An option whose value is a number from 0 to 4294967295.
+struct Number {
+    name: &'static str,
+    unit: &'static str,
+    default: &'static str,
+    help: &'static str,
+}
+
+static NUMBERS: [Number; 7] = [
+    Number {
+        name: "page-size",
+        unit: "BYTES",
+        default: "1048576",
+        help: "Bytes of a slab page: 256 to 1048576, a multiple of 8",
+    },
+    Number {
+        name: "pages",
+        unit: "COUNT",
+        default: "64",
+        help: "Pages before classes that own one have to evict: 1 to 4096",
+    },
+    Number {
+        name: "num",
+        unit: "NUMBER",
+        default: "5",
+        help: "Growth factor of chunk sizes, numerator: 1 to 1000, the factor 21/20 to 4",
+    },
+    Number {
+        name: "den",
+        unit: "NUMBER",
+        default: "4",
+        help: "Growth factor of chunk sizes, denominator: 1 to 1000",
+    },
+    Number {
+        name: "bump",
+        unit: "COUNT",
+        default: "64",
+        help: "Entries that the bump queue of COLD items holds: 1 to 4096",
+    },
+    Number {
+        name: "hash-power",
+        unit: "POWER",
+        default: "10",
+        help: "The index has 2 to this power buckets: 4 to 20",
+    },
+    Number {
+        name: "now",
+        unit: "SECONDS",
+        default: "1",
+        help: "Where the clock starts: 1 to 4294967295",
+    },
+];
+
+const ABOUT: &str =
+    "Replays memcached's storage commands and the steps of its segmented LRU, forwards and backwards";
+
+const AFTER: &str =
+    "A script has one command a line: memcached's own (set, get, delete, ..) and questions (:item KEY, :back, ..).\n\nExit status: 0 done, 2 command line or configuration, 3 out of memory, 4 input or output.";
+
+fn option<'a>(alloc: Global, of: &'static Number) -> Arg<'a> {
+    Arg::new(alloc, of.name)
+        .long(of.name)
+        .value_name(of.unit)
+        .value_parser(value_parser!(u32))
+        .default_value(of.default)
+        .help(of.help)
+}
+
+fn temp_ttl<'a>(alloc: Global) -> Arg<'a> {
+    Arg::new(alloc, "temp-ttl")
+        .long("temp-ttl")
+        .value_name("SECONDS")
+        .value_parser(value_parser!(i32).range(0..))
+        .help(
+            "Items that expire within fewer seconds enter TEMP: 0 to 2147483647 [without it: never]",
+        )
+}
+
+fn with_config<'a>(alloc: Global, command: Command<'a>) -> Result<Command<'a>, AllocError> {
+    let mut command = command;
+    for of in &NUMBERS {
+        command = command.arg(option(alloc, of))?;
+    }
+    command.arg(temp_ttl(alloc))
+}
+
+fn run_command<'a>(alloc: Global) -> Result<Command<'a>, AllocError> {
+    let run = Command::new(alloc, "run").about(
+        "Runs a script from the standard input, and answers each line",
+    );
+    with_config(alloc, run)
+}
+
+fn whole_command<'a>(alloc: Global) -> Result<Command<'a>, AllocError> {
+    Command::new(alloc, "lrudb")
+        .bin_name("lrudb")?
+        .about(ABOUT)
+        .after_help(AFTER)
+        .no_binary_name(true)
+        .subcommand_required(true)
+        .arg_required_else_help(true)
+        .subcommand(run_command(alloc)?)
+}
+
+// Each number has a default and passed its parser, so none is absent.
+fn number_of(matches: &ArgMatches<'_>, name: &str) -> u32 {
+    matches.get_one(name).unwrap_or(0)
+}
+
+fn temp_ttl_of(matches: &ArgMatches<'_>) -> i32
+    ensures { is_temp_ttl result ≡ true }
+{
+    match matches.get_one("temp-ttl") {
+        Some(seconds) if seconds >= 0 => seconds,
+        _ => NEVER,
+    }
+}
+
+fn config_of(matches: &ArgMatches<'_>) -> Config
+    ensures { is_temp_ttl result.temp_ttl ≡ true }
+{
+    Config {
+        page_size: number_of(matches, "page-size"),
+        pages: number_of(matches, "pages"),
+        num: number_of(matches, "num"),
+        den: number_of(matches, "den"),
+        bump: number_of(matches, "bump"),
+        hash_power: number_of(matches, "hash-power"),
+        temp_ttl: temp_ttl_of(matches),
+        now: number_of(matches, "now"),
+    }
+}
+
+// What the words ask for, or the parser's error.
+fn parsed<S: AsStr>(alloc: Global, words: &[S]) -> Result<Request, Error>
+    ensures { IfOk result IsInRange }
+{
+    let matches = whole_command(alloc)?.try_get_matches_from(words)?;
+    if let Some(inner) = matches.subcommand_matches("run") {
+        let config = config_of(inner);
+        return Ok(Request::Run { config });
+    }
+    Err(whole_command(alloc)?.error(ErrorKind::MissingSubcommand, "run")?)
+}
+
+fn told(alloc: Global, error: Error) -> Refused {
+    if error.kind() == ErrorKind::OutOfMemory {
+        return Refused::Memory;
+    }
+    match format!(in alloc; "{error}") {
+        Ok(text) => Refused::Told(text),
+        Err(_) => Refused::Memory,
+    }
+}
+
+/// What the words behind the program's name ask for.
+///
+/// Words that ask for nothing that there is are refused with the parser's text, and so is a wish for help; a want of
+/// memory is told apart. Whether a store can be opened with the numbers is `rev_classes::fault_of`'s to say.
+pub fn parse_words<S: AsStr>(alloc: Global, words: &[S]) -> Result<Request, Refused>
+    ensures { IfOk result IsInRange }
+{
+    match parsed(alloc, words) {
+        Ok(asked) => Ok(asked),
+        Err(error) => Err(told(alloc, error)),
+    }
+}

@@ -1,0 +1,8 @@
+pub mod Known
+pub mod Front
+pub mod Text
+pub mod Pieces
+pub mod Data
+pub mod Cuts
+pub mod Next
+pub mod Each

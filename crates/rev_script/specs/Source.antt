@@ -1,0 +1,32 @@
+-- What a source tells of itself.
+use Rattle.std.specs.Prelude.{ℕ, List, [], Option, Some, ◌==◌, ◌&&◌, nat_lt, if◌then◌else◌, Result, Ok, Err}
+use Rattle.rev_script.specs.declared.source.LastRead.{LastRead}
+use Rattle.rev_script.specs.declared.source.LastRead.TheVariants.{Gave, Ended, Failed}
+
+-- what a contract sees of a source
+pub record Told : Type 0 where
+  pub remaining : Option (List ℕ)  -- the bytes that reads will give, where they are known
+  pub last : LastRead  -- what the last read did
+  pub identity : ℕ  -- which reader it is: of a `&mut` its ghost name
+
+-- after the end nothing is left
+abbrev pub left_of : LastRead → Option (List ℕ) → Option (List ℕ)
+left_of Gave bytes = bytes
+left_of Ended bytes = Some []
+left_of Failed bytes = bytes
+
+-- what a reader of std tells, where its last read is known
+abbrev pub told_of : Option (List ℕ) → LastRead → Told
+told_of bytes last = record { remaining = left_of last bytes; last = last; identity = 0 }
+
+-- what a `&mut` to a source tells
+abbrev pub told_by : Told → ℕ → Told
+told_by t name = record { remaining = t.remaining; last = t.last; identity = name }
+
+-- what a read did, by its answer and the room in its buffer: after the end, the end; none where there was room is the end
+abbrev pub last_of : {E : Type 0} → LastRead → Result ℕ E → ℕ → LastRead
+last_of Ended result room = Ended
+last_of Gave (Ok n) room = if (n == 0) && nat_lt 0 room then Ended else Gave
+last_of Gave (Err e) room = Failed
+last_of Failed (Ok n) room = if (n == 0) && nat_lt 0 room then Ended else Gave
+last_of Failed (Err e) room = Failed

@@ -1,0 +1,154 @@
+//! Bytes by large pieces, from a source that gives them in pieces of any size.
+ghost use Rattle.std.specs.Prelude.{◌≡◌, ◌≢◌, ◌∷◌, [], ◌≤◌, ◌<◌, ◌+◌, ◌^◌, ℕ, length, take, Ok, None, IfOk, IfErr, OnErr, IfNone, IfSome, OnOk, true, false, option_to_list, IsErrOf};
+ghost use Rattle.std.specs.Io.KnownBytes.{Consumes, Keeps, IsAtEnd};
+
+use crate::source::{LastRead, ReadFailed, Source};
+use thiserror::Error;
+
+/// The most bytes that a script may have.
+pub const MOST_BYTES: u64 = 4294967296;
+
+// Bytes asked for in one read.
+const PIECE: usize = 65536;
+
+/// Why there is no next line.
+#[derive(Clone, Copy, Debug, PartialEq, Eq, Drop, Error)]
+pub enum LineFault {
+    #[error("out of memory")]
+    Memory,
+    /// A read failed.
+    #[error("cannot read")]
+    Read,
+    /// The script has more than 4294967296 bytes.
+    #[error("input too long")]
+    TooLong,
+}
+
+/// A source, with the piece of it that was read and is not yet used up.
+#[derive(Drop)]
+pub struct ByteReader<S> {
+    source: S,
+    piece: [u8; 65536],
+    from: usize,
+    to: usize,
+    given: u64,
+    ghost ordered: { from ≤ to },
+    ghost within: { to ≤ 65536 },
+    ghost whole: { length piece ≡ 65536 },
+    ghost bounded: { given ≤ 4294967296 },
+}
+
+impl<S: Source> ByteReader<S> {
+    ghost use Rattle.rev_script.specs.ByteReader.{ahead, in_piece, front, given, identity, source_in, Took, AtEnd, IsEnded, StoppedBy};
+    ghost use Rattle.rev_script.specs.declared.byte_reader.LineFault.{LineFault};
+    ghost use Rattle.rev_script.specs.declared.source.LastRead.{LastRead};
+
+    /// All that the source will give. No memory is taken.
+    pub fn over(source: S) -> ByteReader<S>
+        ensures ahead { ahead S.told result ≡ (S.told source).remaining }
+        ensures given { given result ≡ 0 }
+        ensures piece { in_piece result ≡ [] }
+        ensures same { identity S.told result ≡ (S.told source).identity }
+    {
+        ByteReader {
+            source,
+            piece: [0; PIECE],
+            from: 0,
+            to: 0,
+            given: 0,
+        }
+    }
+
+    // Reads the next piece where the last one is used up. At `true` the piece has a byte.
+    fn fill(&mut self) -> Result<bool, LineFault>
+        ensures keeps { Keeps (ahead S.told self.old) (ahead S.told self.new) }
+        ensures given { given self.new ≡ given self.old }
+        ensures same { identity S.told self.new ≡ identity S.told self.old }
+        ensures some { IfOk result (λ some. some ≡ true → self.new.from < self.new.to) }
+        ensures none { IfOk result (λ some. some ≡ false → IsAtEnd (ahead S.told self.new)) }
+        ensures ended { IfOk result (λ some. some ≡ false → (S.told self.new.source).last ≡ LastRead.Ended) }
+        ensures used_up { IfOk result (λ some. some ≡ false → in_piece self.new ≡ []) }
+        ensures err { IfErr result (λ e. (e ≡ LineFault.Read)
+            × ((S.told self.new.source).last ≡ LastRead.Failed) × (in_piece self.new ≡ [])) }
+        ensures stays { (S.told self.old.source).last ≡ LastRead.Ended → self.old.to ≤ self.old.from → result ≡ Ok false }
+    {
+        if self.from < self.to {
+            return Ok(true);
+        }
+        match self.source.read(&mut self.piece) {
+            Ok(n) => {
+                self.from = 0;
+                self.to = n;
+                Ok(n > 0)
+            }
+            Err(_) => Err(LineFault::Read),
+        }
+    }
+
+    /// Whether there are more bytes. At `true` some of them can be seen at the front.
+    pub fn more(&mut self) -> Result<bool, LineFault>
+        ensures kept { Took S.told self.old self.new [] }
+        ensures some { IfOk result (λ some. some ≡ true → 0 < length (front self.new)) }
+        ensures none { IfOk result (λ some. some ≡ false → AtEnd S.told self.new) }
+        ensures err { IfErr result (λ e. (e ≢ LineFault.Memory) × StoppedBy S.told self.new e) }
+        ensures stays { IsEnded S.told self.old → result ≡ Ok false }
+    {
+        let some = match self.fill() {
+            Ok(some) => some,
+            Err(e) => return Err(e),
+        };
+        if some && self.given >= MOST_BYTES {
+            return Err(LineFault::TooLong);
+        }
+        Ok(some)
+    }
+
+    /// The bytes that were read, and may be taken.
+    pub fn front(&self) -> &[u8]
+        ensures { result.now ≡ front self.now }
+    {
+        let room = MOST_BYTES - self.given;
+        let there = self.to - self.from;
+        if (there as u64) <= room {
+            &self.piece[self.from..self.to]
+        } else {
+            &self.piece[self.from..self.from + room as usize]
+        }
+    }
+
+    /// Takes so many bytes from the front.
+    pub fn pass(&mut self, n: usize)
+        requires { n ≤ length (front self.old) }
+        ensures { Took S.told self.old self.new (take n (front self.old)) }
+    {
+        self.from += n;
+        self.given += n as u64;
+    }
+
+    /// The next byte; none only at the end.
+    pub fn byte(&mut self) -> Result<Option<u8>, LineFault>
+        ensures taken { IfOk result (λ b. Took S.told self.old self.new (option_to_list b)) }
+        ensures end { IfOk result (λ b. IfNone b (AtEnd S.told self.new)) }
+        ensures err { IfErr result (λ e. (e ≢ LineFault.Memory)
+            × Took S.told self.old self.new [] × StoppedBy S.told self.new e) }
+    {
+        let some = match self.more() {
+            Ok(some) => some,
+            Err(e) => return Err(e),
+        };
+        if !some {
+            return Ok(None);
+        }
+        let b = self.front()[0];
+        self.pass(1);
+        Ok(Some(b))
+    }
+
+    /// The source, as it is now.
+    pub fn into_source(self) -> S
+        ensures { result ≡ source_in self }
+    {
+        let ByteReader { source, .. } = self;
+        source
+    }
+}

@@ -1,0 +1,259 @@
+//! The lines of a script, one after another.
+ghost use Rattle.std.specs.Prelude.{◌≡◌, ◌≢◌, [], ◌∷◌, ◌≤◌, ◌<◌, ◌+◌, ◌^◌, ℕ, List, length, IfOk, IfErr, OnErr, IfSome, Some, None, Err, Ok, true};
+ghost use Rattle.std.specs.Prelude.{map, drop};
+ghost use Rattle.std.specs.Option.{option_map};
+ghost use Rattle.std.specs.List.{list_all};
+ghost use Rattle.std.specs.Io.BufRead.{strip_last};
+ghost use Rattle.rev_items.specs.Keys.{is_key};
+ghost use Rattle.rev_grammar.specs.Commands.{asked};
+ghost use Rattle.rev_grammar.specs.Words.{words};
+ghost use Rattle.rev_script.specs.Line.{view, IsAsked, IsNext, IsFault, IsStorageLine};
+ghost use Rattle.rev_script.specs.ByteReader.{StoppedBy, IsEnded};
+ghost use Rattle.rev_script.specs.DataBlock.{IsShort};
+
+use crate::byte_reader::{ByteReader, LineFault};
+use crate::data_block::{MOST_DATA, take_block};
+use crate::line::{Asked, ClientLine, DebugLine, Line, Payload};
+use crate::raw_line::{MOST_KEPT, read_text};
+use crate::source::Source;
+use rev_grammar::command::{BadAnswer, Command, StorageCommand};
+use rev_grammar::line::{asked, body};
+use rev_grammar::words::{word, words};
+use rev_items::{Key, KeyFault};
+use std::alloc::{AllocError, Allocator};
+
+// A copy of a word that meets the rule of keys.
+fn key_of<A: Allocator>(alloc: A, word: &[u8]) -> Result<Key<A>, AllocError>
+    requires { is_key word.now ≡ true }
+    ensures { IfOk result (λ key. key ≡ word.now) }
+{
+    match Key::new(alloc, word) {
+        Ok(key) => Ok(key),
+        Err(KeyFault::Memory) => Err(AllocError),
+        Err(KeyFault::BadKey) => unreachable!(),
+    }
+}
+
+fn keys_of<A: Allocator + Clone>(alloc: A, words: &[&[u8]]) -> Result<Vec<Key<A>, A>, AllocError>
+    requires { list_all is_key (map (λ x. x.now) words.now) ≡ true }
+    ensures { IfOk result (λ keys. keys.items ≡ map (λ x. x.now) words.now) }
+{
+    let mut keys = Vec::new(alloc.clone()?);
+    for w in words {
+        let key = key_of(alloc.clone()?, *w)?;
+        keys.push(key)?;
+    }
+    Ok(keys)
+}
+
+// The words from the second on.
+fn behind_first<'a, 'b>(words: &'b [&'a [u8]]) -> &'b [&'a [u8]]
+    ensures { result.now ≡ drop 1 words.now }
+{
+    if words.is_empty() { words } else { &words[1..] }
+}
+
+fn asked_line<A: Allocator + Clone>(alloc: A, body: &[u8]) -> Result<Asked<A>, AllocError>
+    ensures { IfOk result (λ a. IsAsked a (asked body.now) (words body.now)) }
+{
+    let words = words(alloc.clone()?, body)?;
+    match asked(body, words.as_slice()) {
+        Command::Storage {
+            command,
+            flags,
+            exptime,
+            size,
+            noreply,
+        } => {
+            let key = key_of(alloc, word(words.as_slice(), 1))?;
+            Ok(Asked::Storage {
+                command,
+                key,
+                flags,
+                exptime,
+                size,
+                noreply,
+            })
+        }
+        Command::Retrieval { with_cas } => {
+            let keys = keys_of(alloc, behind_first(words.as_slice()))?;
+            Ok(Asked::Done(Line::Client(ClientLine::Retrieval { keys, with_cas })))
+        }
+        Command::Update { command, noreply } => {
+            let key = key_of(alloc, word(words.as_slice(), 1))?;
+            Ok(Asked::Done(Line::Client(ClientLine::Update {
+                command,
+                key,
+                noreply,
+            })))
+        }
+        Command::FlushAll { delay, noreply } => Ok(Asked::Done(Line::Client(ClientLine::FlushAll {
+            delay,
+            noreply,
+        }))),
+        Command::Actor(command) => Ok(Asked::Done(Line::Actor(command))),
+        Command::Clock(now) => Ok(Asked::Done(Line::Clock(now))),
+        Command::Debug(command) => Ok(Asked::Done(Line::Debug(DebugLine::Plain(command)))),
+        Command::Query(query) => {
+            let key = key_of(alloc, word(words.as_slice(), 1))?;
+            Ok(Asked::Done(Line::Debug(DebugLine::Query { query, key })))
+        }
+        Command::Bookmark(command) => {
+            let name = Vec::from_slice(alloc, word(words.as_slice(), 1))?;
+            Ok(Asked::Done(Line::Debug(DebugLine::Bookmark { command, name })))
+        }
+        Command::Bad(answer) => Ok(Asked::Done(Line::Bad { answer })),
+    }
+}
+
+// Takes a storage line's data block, and makes the line.
+fn storage_line<S: Source, A: Allocator>(
+    bytes: &mut ByteReader<S>,
+    alloc: A,
+    command: StorageCommand,
+    key: Key<A>,
+    flags: u32,
+    exptime: i32,
+    size: u32,
+    noreply: bool,
+) -> Result<Line<A>, LineFault>
+    ensures ok { IfOk result (λ line. IsStorageLine S.told bytes.old bytes.new command key flags exptime size noreply (view line)) }
+    ensures err { IfErr result (λ e. IsShort S.told bytes.old bytes.new (size + 1) × StoppedBy S.told bytes.new e) }
+{
+    let mut kept = Vec::new(alloc);
+    let sound = match take_block(bytes, size, &mut kept) {
+        Err(e) => return Err(e),
+        Ok(sound) => sound,
+    };
+    if !sound {
+        return Ok(Line::Bad {
+            answer: BadAnswer::BadChunk,
+        });
+    }
+    let payload = if size > MOST_DATA {
+        Payload::Skipped(size)
+    } else {
+        Payload::Bytes(kept)
+    };
+    Ok(Line::Client(ClientLine::Storage {
+        command,
+        key,
+        flags,
+        exptime,
+        payload,
+        noreply,
+    }))
+}
+
+fn two_handles<A: Allocator + Clone>(text: &Vec<u8, A>) -> Result<(A, A), AllocError> {
+    Ok((text.allocator().clone()?, text.allocator().clone()?))
+}
+
+// Reads the next line, through its data block.
+fn next_line<S: Source, A: Allocator + Clone>(
+    bytes: &mut ByteReader<S>,
+    text: &mut Vec<u8, A>,
+) -> Result<Option<Line<A>>, LineFault>
+    ensures ok { IfOk result (λ line. IsNext S.told bytes.old bytes.new (option_map view line)) }
+    ensures err { IfErr result (λ e. IsFault S.told bytes.old bytes.new e) }
+    ensures stays { IsEnded S.told bytes.old → result ≡ Ok None }
+{
+    let raw = match read_text(bytes, text) {
+        Err(e) => return Err(e),
+        Ok(raw) => raw,
+    };
+    if !raw.feed && raw.length == 0 {
+        return Ok(None);
+    }
+    if raw.length > MOST_KEPT {
+        return Ok(Some(Line::Bad {
+            answer: BadAnswer::LineTooLong,
+        }));
+    }
+    let (alloc, other) = match two_handles(text) {
+        Err(_) => return Err(LineFault::Memory),
+        Ok(pair) => pair,
+    };
+    let asked = match asked_line(alloc, body(text.as_slice())) {
+        Err(_) => return Err(LineFault::Memory),
+        Ok(asked) => asked,
+    };
+    match asked {
+        Asked::Done(line) => Ok(Some(line)),
+        Asked::Storage {
+            command,
+            key,
+            flags,
+            exptime,
+            size,
+            noreply,
+        } => {
+            if !raw.feed {
+                return Ok(Some(Line::Bad {
+                    answer: BadAnswer::BadChunk,
+                }));
+            }
+            match storage_line(bytes, other, command, key, flags, exptime, size, noreply) {
+                Err(e) => Err(e),
+                Ok(line) => Ok(Some(line)),
+            }
+        }
+    }
+}
+
+/// The lines of a script, from a source that gives its bytes in pieces of any size.
+#[derive(Drop)]
+pub struct Lines<S, A: Allocator> {
+    bytes: ByteReader<S>,
+    text: Vec<u8, A>,
+    fault: Option<LineFault>,
+}
+
+impl<S: Source, A: Allocator + Clone> Lines<S, A> {
+    ghost use Rattle.rev_script.specs.ByteReader.{ahead, given, in_piece, identity, source_in};
+    ghost use Rattle.rev_script.specs.Lines.{bytes_of, fault_of};
+
+    /// The lines of all that the source will give. No memory is taken.
+    pub fn over(alloc: A, source: S) -> Lines<S, A>
+        ensures ahead { ahead S.told (bytes_of result) ≡ (S.told source).remaining }
+        ensures piece { in_piece (bytes_of result) ≡ [] }
+        ensures same { identity S.told (bytes_of result) ≡ (S.told source).identity }
+        ensures given { given (bytes_of result) ≡ 0 }
+        ensures fault { fault_of result ≡ None }
+    {
+        Lines {
+            bytes: ByteReader::over(source),
+            text: Vec::new(alloc),
+            fault: None,
+        }
+    }
+
+    /// The next line; none only at the end. After a fault each call answers it again.
+    pub fn next(&mut self) -> Result<Option<Line<A>>, LineFault>
+        ensures ok { IfOk result (λ line. IsNext S.told (bytes_of self.old) (bytes_of self.new) (option_map view line)) }
+        ensures err { fault_of self.old ≡ None → IfErr result (λ e. IsFault S.told (bytes_of self.old) (bytes_of self.new) e) }
+        ensures stays { fault_of self.old ≡ None → IsEnded S.told (bytes_of self.old) → result ≡ Ok None }
+        ensures kept { IfErr result (λ e. fault_of self.new ≡ Some e) }
+        ensures good { IfOk result (λ _. fault_of self.new ≡ None) }
+        ensures again { IfSome (fault_of self.old) (λ e. (result ≡ Err e) × (bytes_of self.new ≡ bytes_of self.old)) }
+    {
+        if let Some(e) = self.fault {
+            return Err(e);
+        }
+        match next_line(&mut self.bytes, &mut self.text) {
+            Ok(line) => Ok(line),
+            Err(e) => {
+                self.fault = Some(e);
+                Err(e)
+            }
+        }
+    }
+
+    /// The source, as it is now: a `&mut` is so handed back.
+    pub fn into_source(self) -> S
+        ensures { result ≡ source_in (bytes_of self) }
+    {
+        let Lines { bytes, .. } = self;
+        bytes.into_source()
+    }
+}
