@@ -1,10 +1,10 @@
 -- The steps of the actors, of the clock and of the settings; and any step.
-use Rattle.std.specs.Prelude.{ℕ, ℤ, pos, negsuc, zero, suc, ◌+◌, ◌-◌, ◌*◌, ◌/◌, ◌%◌, ◌^◌, Bool, true, false, cond, not, ◌&&◌, ◌||◌, List, [], ◌∷◌, ◌++◌, Option, None, Some, length, slice_set, nat_eq, nat_lt, nat_le, is_some}
+use Rattle.std.specs.Prelude.{ℕ, ℤ, pos, negsuc, zero, suc, ◌+◌, Bool, false, cond, ◌&&◌, ◌||◌, List, [], ◌∷◌, ◌++◌, Option, None, Some, slice_set, nat_eq, nat_lt, nat_le, is_some}
 use Rattle.std.specs.FinMap as map
 use Rattle.rev_items.specs.Plain.{PlainItem}
 use Rattle.rev_model.specs.Chunk.{same_chunk, same_entry}
 use Rattle.rev_model.specs.Lists.{has, without, before, insert}
-use Rattle.rev_model.specs.State.{State, Fixed, free_of, queue_of, queue_place, owner_of, item_at, per_page, last_class}
+use Rattle.rev_model.specs.State.{State, free_of, queue_of, queue_place, owner_of, item_at, per_page, last_class}
 use Rattle.rev_model.specs.Move.{with_free, with_queue, falling, is_class, names, names_other, marked}
 use Rattle.rev_model.specs.declared.ClassSet.{ClassSet}
 use Rattle.rev_model.specs.Words.{is_dead, queue_with, unlinked, dropped, counted, headed, with_item}

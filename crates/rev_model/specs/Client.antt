@@ -1,10 +1,9 @@
 -- The steps of clients.
-use Rattle.std.specs.Prelude.{ℕ, ℤ, pos, negsuc, ◌+◌, ◌-◌, ◌*◌, ◌%◌, ◌^◌, Bool, true, false, cond, not, ◌&&◌, List, [], ◌∷◌, ◌++◌, Option, None, Some, length, nat_eq, nat_lt, nat_le}
+use Rattle.std.specs.Prelude.{ℕ, ℤ, pos, negsuc, ◌+◌, ◌-◌, ◌*◌, ◌%◌, ◌^◌, Bool, true, cond, ◌&&◌, List, [], ◌∷◌, ◌++◌, Option, None, Some, length, nat_eq, nat_lt, nat_le}
 use Rattle.std.specs.List.{list_all}
 use Rattle.std.specs.Fmt.{decimal}
-use Rattle.std.specs.FinMap as map
 use Rattle.rev_items.specs.Plain.{PlainItem}
-use Rattle.rev_model.specs.State.{State, free_of, queue_of, owner_of, item_at, find}
+use Rattle.rev_model.specs.State.{State, owner_of, item_at, find}
 use Rattle.rev_model.specs.Words.{class_of, is_dead, queue_with, dropped, freed, with_item, new_item, linked}
 use Rattle.rev_items.specs.Rules.{footprint, moment}
 use Rattle.rev_model.specs.Pull.{room}

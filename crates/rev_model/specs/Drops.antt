@@ -1,25 +1,23 @@
 -- The moves by which an item leaves: each is possible, and what they leave together.
-use Rattle.std.specs.Prelude.{ℕ, ◌≡◌, ◌+◌, ◌<◌, ◌≤◌, Bool, true, false, cond, List, [], ◌∷◌, Option, None, Some, is_some, length, slice_index, slice_index_or, slice_set, refl}
-use Rattle.std.specs.Option.{option_map}
-use Rattle.std.proofs.Common.{sym, ◌∙◌, ap, subst, arith, inl, inr}
-use Rattle.std.proofs.lemmas.Bool.{cases_Bool, false≢true, true≢false}
+use Rattle.std.specs.Prelude.{ℕ, ◌≡◌, ◌<◌, cond, List, None, Some, is_some, length, refl}
+use Rattle.std.proofs.Common.{sym, ◌∙◌, ap, subst, inl, inr}
+use Rattle.std.proofs.lemmas.Bool.{cases_Bool}
 use Rattle.std.specs.FinMap as map
-use Rattle.std.specs.Ordering.{eq_by_cmp, nat_cmp}
-use Rattle.std.specs.Cmp.Lexicographic.{slice_cmp, nat_list_cmp_total}
+use Rattle.std.specs.Ordering.{eq_by_cmp}
+use Rattle.std.specs.Cmp.Lexicographic.{nat_list_cmp_total}
 use Rattle.rev_items.specs.Plain.{PlainItem}
-use Rattle.rev_model.specs.Chunk.{same_chunk, same_entry, chunk_cmp, chunk_cmp_exact, chunk_cmp_total}
-use Rattle.rev_model.specs.Lists.{has, without, insert}
-use Rattle.rev_model.specs.State.{State, WellFormed, IsChunkOf, free_of, queue_of, queue_place, owner_of, item_at, find, stands}
-use Rattle.rev_model.specs.Move.{Move, Takes, Puts, Fills, Touches, Binds, Unbinds, Counts, moved, Ready, Possible, put_at, touched}
+use Rattle.rev_model.specs.Chunk.{chunk_cmp, chunk_cmp_exact, chunk_cmp_total}
+use Rattle.rev_model.specs.State.{State, WellFormed, IsChunkOf, item_at, find, stands}
+use Rattle.rev_model.specs.Move.{Takes, Puts, Fills, Touches, Unbinds, moved, Possible, touched}
 use Rattle.rev_model.specs.Undo.{undo, get-put_at_same, get-put_at, tied}
 use Rattle.rev_model.specs.Keeps.{keeps-take_queue, keeps-unbind, keeps-fill, keeps-put_free}
 use Rattle.rev_model.specs.declared.ChunkRef.{ChunkRef}
-use Rattle.rev_model.specs.declared.Entry.TheVariants.{Chunk, Mark}
+use Rattle.rev_model.specs.declared.Entry.TheVariants.{Chunk}
 use Rattle.rev_model.specs.declared.Queue.{Queue}
 use Rattle.rev_model.specs.declared.Touched.{Touched}
-use Rattle.rev_model.specs.declared.Listed.TheVariants.{InFree, InQueue}
-use Rattle.rev_model.specs.declared.Placed.TheVariants.{ToFree, ToQueue}
-use Rattle.rev_model.specs.Words.{unlinked, freed, left, with_item}
+use Rattle.rev_model.specs.declared.Listed.TheVariants.{InQueue}
+use Rattle.rev_model.specs.declared.Placed.TheVariants.{ToFree}
+use Rattle.rev_model.specs.Words.{unlinked, left}
 use Rattle.rev_model.specs.Sound.{Stands}
 
 some_inj : {X : Type 0} (x y : X) → Some x ≡ Some y → x ≡ y
@@ -63,9 +61,9 @@ no_key s well c q x i h k f =
 pub drop_fill : (s : State) → WellFormed s → (c : ℕ) (q : Queue) (x : ChunkRef) (i : PlainItem) → Stands s c q x i → Possible (Fills x None) (moved (Unbinds x) (left c q x s))
 drop_fill s well c q x i h =
     let possible : Possible (Fills x None) (gone_index c q x i s) =
-      keeps-fill (gone_index c q x i s) (index_well s well c q x i h) x None
-      ((well.filled.items x (ap is_some h.item)).0, left_stands s well c q x i h)
-      (λ k f. absurd (no_key s well c q x i h k f)) in
+    keeps-fill (gone_index c q x i s) (index_well s well c q x i h) x None
+    ((well.filled.items x (ap is_some h.item)).0, left_stands s well c q x i h)
+    (λ k f. absurd (no_key s well c q x i h k f)) in
     subst (Possible (Fills x None)) (sym (unbind_is s c q x i h)) possible
 
 pub unlinked_is : (s : State) (c : ℕ) (q : Queue) (x : ChunkRef) (i : PlainItem) → Stands s c q x i → moved (Fills x None) (moved (Unbinds x) (moved (Takes (InQueue c q (Chunk x))) s)) ≡ unlinked c q x i s
@@ -106,13 +104,13 @@ keeps-touch s well x t i e =
       };
       index = record {
         indexed = λ k y h.
-          let v = well.index.indexed k y h in
-          elim (cases_Bool (eq_by_cmp chunk_cmp y x)) [
-            | inl f ↦
-              let is : i ≡ v.0 = some_inj i v.0 (sym e ∙ sym (ap (item_at s) (tied chunk_cmp_total chunk_cmp_exact y x f)) ∙ v.1) in
-              (touched t i, got y ∙ ap (λ b. cond b (Some (touched t i)) (map.get s.content y)) f, ap (λ (z : PlainItem). z.key) is ∙ v.2)
-            | inr f ↦ (v.0, got y ∙ ap (λ b. cond b (Some (touched t i)) (map.get s.content y)) f ∙ v.1, v.2)
-          ];
+            let v = well.index.indexed k y h in
+            elim (cases_Bool (eq_by_cmp chunk_cmp y x)) [
+              | inl f ↦
+                  let is : i ≡ v.0 = some_inj i v.0 (sym e ∙ sym (ap (item_at s) (tied chunk_cmp_total chunk_cmp_exact y x f)) ∙ v.1) in
+                  (touched t i, got y ∙ ap (λ b. cond b (Some (touched t i)) (map.get s.content y)) f, ap (λ (z : PlainItem). z.key) is ∙ v.2)
+              | inr f ↦ (v.0, got y ∙ ap (λ b. cond b (Some (touched t i)) (map.get s.content y)) f ∙ v.1, v.2)
+            ];
       };
       owned = well.owned;
       bump = well.bump;

@@ -1,5 +1,5 @@
 -- When the state after a move is well formed: what a caller shows beside `Ready`.
-use Rattle.std.specs.Prelude.{ℕ, ◌≡◌, ◌+◌, ◌*◌, ◌<◌, ◌≤◌, Bool, true, false, cond, List, [], ◌∷◌, ◌++◌, Option, None, Some, is_some, length, slice_index, slice_index_or, slice_set, zero, suc, refl, ◌⊎◌, drop}
+use Rattle.std.specs.Prelude.{ℕ, ◌≡◌, ◌+◌, ◌<◌, ◌≤◌, Bool, true, false, cond, List, [], ◌∷◌, Option, None, Some, is_some, length, slice_index_or, slice_set, refl, ◌⊎◌}
 use Rattle.std.proofs.Common.{sym, ◌∙◌, ap, inl, inr, arith, subst}
 use Rattle.std.proofs.lemmas.Bool.{cases_Bool, false≢true, true≢false, cases_eq}
 use Rattle.std.proofs.lemmas.List.{get_or-set_same, get_or-set_other, length-set}
@@ -10,9 +10,9 @@ use Rattle.rev_items.specs.Plain.{PlainItem}
 use Rattle.rev_model.specs.Chunk.{same_chunk, same_entry, chunk_cmp, chunk_cmp_exact, chunk_cmp_total}
 use Rattle.rev_model.specs.Lists.{has, count, without, insert, behind}
 use Rattle.rev_model.specs.ListLaws.{Tells}
-use Rattle.rev_model.specs.State.{State, Contents, WellFormed, WellListed, WellFilled, WellIndexed, IsChunkOf, free_of, queue_of, queue_place, counter_of, counter_place, owner_of, item_at, find, stands_in, stands}
-use Rattle.rev_model.specs.Move.{Move, Takes, Puts, Fills, Touches, Binds, Unbinds, Counts, Sets, BumpsIn, BumpsBack, BumpsOut, BumpsFront, put_at, moved, Ready, Possible, MayEnter, front}
-use Rattle.rev_model.specs.Undo.{tells_chunk, tells_entry, count_in_table, free_lacks, has-count, get-put_at, get-put_at_same, tied, undo}
+use Rattle.rev_model.specs.State.{State, WellFormed, IsChunkOf, free_of, queue_of, queue_place, counter_place, owner_of, item_at, find, stands_in, stands}
+use Rattle.rev_model.specs.Move.{Takes, Puts, Fills, Binds, Unbinds, Counts, Sets, put_at, moved, Ready, Possible, MayEnter}
+use Rattle.rev_model.specs.Undo.{tells_chunk, tells_entry, count_in_table, free_lacks, has-count, get-put_at, tied, undo}
 use Rattle.std.specs.Ordering.{eq_by_cmp, nat_cmp}
 use Rattle.std.specs.Cmp.Lexicographic.{slice_cmp, nat_list_cmp_total}
 use Rattle.rev_model.specs.declared.Queue.TheVariants.{Hot, Warm, Cold, Temp}
@@ -69,10 +69,10 @@ module _ {X : Type 0} (same : X → X → Bool) (tells : Tells same) where
   has-insert_inv x y a ys h = elim (cases_Bool (same y x)) [
     | inl e ↦ inl (tells.exact y x e)
     | inr e ↦
-      let n : count same y (insert same x a ys) ≡ count same y ys + cond (same y x) 1 0 = count-insert x y a ys in
-      let m : count same y (insert same x a ys) ≡ count same y ys + cond false 1 0 = rw e at n in
-      let k : 1 ≤ count same y (insert same x a ys) = count_of_has y (insert same x a ys) h in
-      inr (has_of_count y ys (omega (arith, m, k)))
+        let n : count same y (insert same x a ys) ≡ count same y ys + cond (same y x) 1 0 = count-insert x y a ys in
+        let m : count same y (insert same x a ys) ≡ count same y ys + cond false 1 0 = rw e at n in
+        let k : 1 ≤ count same y (insert same x a ys) = count_of_has y (insert same x a ys) h in
+        inr (has_of_count y ys (omega (arith, m, k)))
   ]
 
 -- a table with one list changed
@@ -139,12 +139,12 @@ keeps-take_free s well c x r =
 put_once : (s : State) → WellFormed s → (c : ℕ) (x : ChunkRef) (m : List ChunkRef) (y : ChunkRef) → stands s x ≡ 0 → sum_by (count same_chunk y) (slice_set s.free c m) + count same_chunk y (free_of s c) ≡ sum_by (count same_chunk y) s.free + count same_chunk y m → count same_chunk y m ≡ count same_chunk y (free_of s c) + cond (same_chunk y x) 1 0 → stands_in (slice_set s.free c m) s.queues y ≤ 1
 put_once s well c x m y none sum put = elim (cases_Bool (same_chunk y x)) [
   | inl e ↦
-    let n : stands s y ≡ 0 = ap (stands s) (tells_chunk.exact y x e) ∙ none in
-    let k : count same_chunk y m ≡ count same_chunk y (free_of s c) + 1 = rw e at put in
-    omega (arith, n, sum, k)
+      let n : stands s y ≡ 0 = ap (stands s) (tells_chunk.exact y x e) ∙ none in
+      let k : count same_chunk y m ≡ count same_chunk y (free_of s c) + 1 = rw e at put in
+      omega (arith, n, sum, k)
   | inr e ↦
-    let k : count same_chunk y m ≡ count same_chunk y (free_of s c) + 0 = rw e at put in
-    omega (arith, well.lists.once y, sum, k)
+      let k : count same_chunk y m ≡ count same_chunk y (free_of s c) + 0 = rw e at put in
+      omega (arith, well.lists.once y, sum, k)
 ]
 
 -- a chunk with an item is in no free list after one without is put
@@ -268,12 +268,12 @@ put_items s well c q p e a y lt may h = elim (in_set same_entry s.queues (queue_
 put_few : (s : State) → WellFormed s → (c : ℕ) (q : Queue) (e : Entry) (m : List Entry) (y : ChunkRef) → MayEnter s c q e → sum_by (count same_entry (Chunk y)) (slice_set s.queues (queue_place c q) m) + count same_entry (Chunk y) (queue_of s c q) ≡ sum_by (count same_entry (Chunk y)) s.queues + count same_entry (Chunk y) m → count same_entry (Chunk y) m ≡ count same_entry (Chunk y) (queue_of s c q) + cond (same_entry (Chunk y) e) 1 0 → stands_in s.free (slice_set s.queues (queue_place c q) m) y ≤ 1
 put_few s well c q (Chunk x) m y none sum put = elim (cases_Bool (same_chunk y x)) [
   | inl e ↦
-    let n : stands s y ≡ 0 = ap (stands s) (tells_chunk.exact y x e) ∙ none in
-    let k : count same_entry (Chunk y) m ≡ count same_entry (Chunk y) (queue_of s c q) + 1 = rw e at put in
-    omega (arith, n, sum, k)
+      let n : stands s y ≡ 0 = ap (stands s) (tells_chunk.exact y x e) ∙ none in
+      let k : count same_entry (Chunk y) m ≡ count same_entry (Chunk y) (queue_of s c q) + 1 = rw e at put in
+      omega (arith, n, sum, k)
   | inr e ↦
-    let k : count same_entry (Chunk y) m ≡ count same_entry (Chunk y) (queue_of s c q) + 0 = rw e at put in
-    omega (arith, well.lists.once y, sum, k)
+      let k : count same_entry (Chunk y) m ≡ count same_entry (Chunk y) (queue_of s c q) + 0 = rw e at put in
+      omega (arith, well.lists.once y, sum, k)
 ]
 put_few s well c q Mark m y none sum put = omega (arith, well.lists.once y, sum, put)
 
@@ -329,12 +329,12 @@ keeps-fill s well x o r key =
         index = record {
           indexed = λ k y h. elim (cases_Bool (eq_by_cmp chunk_cmp y x)) [
             | inl e ↦
-              let is = tied chunk_cmp_total chunk_cmp_exact y x e in
-              let w = key k (h ∙ ap Some is) in
-              (w.0, got y ∙ ap (λ b. cond b o (map.get s.content y)) e ∙ w.1, w.2)
+                let is = tied chunk_cmp_total chunk_cmp_exact y x e in
+                let w = key k (h ∙ ap Some is) in
+                (w.0, got y ∙ ap (λ b. cond b o (map.get s.content y)) e ∙ w.1, w.2)
             | inr e ↦
-              let w = well.index.indexed k y h in
-              (w.0, got y ∙ ap (λ b. cond b o (map.get s.content y)) e ∙ w.1, w.2)
+                let w = well.index.indexed k y h in
+                (w.0, got y ∙ ap (λ b. cond b o (map.get s.content y)) e ∙ w.1, w.2)
           ];
         };
         owned = well.owned;
@@ -374,8 +374,8 @@ keeps-bind s well x (i, e, none) =
       index = record {
         indexed = λ k y h. elim (cases_Bool (eq_by_cmp (slice_cmp nat_cmp) k i.key)) [
           | inl f ↦
-            let is : x ≡ y = some_inj x y (sym (got k ∙ ap (λ b. cond b (Some x) (map.get s.index k)) f) ∙ h) in
-            (i, ap (item_at s) (sym is) ∙ e, sym (tied nat_list_cmp_total keys_exact k i.key f))
+              let is : x ≡ y = some_inj x y (sym (got k ∙ ap (λ b. cond b (Some x) (map.get s.index k)) f) ∙ h) in
+              (i, ap (item_at s) (sym is) ∙ e, sym (tied nat_list_cmp_total keys_exact k i.key f))
           | inr f ↦ well.index.indexed k y (sym (got k ∙ ap (λ b. cond b (Some x) (map.get s.index k)) f) ∙ h)
         ];
       };

@@ -1,24 +1,23 @@
 -- A record tells where each key was before its step.
-use Rattle.std.specs.Prelude.{ℕ, ◌≡◌, ◌≢◌, ◌+◌, ◌*◌, ◌/◌, ◌<◌, ◌==◌, eqb, Bool, true, false, cond, List, [], ◌∷◌, ◌++◌, Option, None, Some, is_some, length, slice_index_or, slice_set, refl, ◌⊎◌, zero, suc, map as map_list}
-use Rattle.std.proofs.Common.{sym, ◌∙◌, ap, inl, inr, arith, subst, eq-eqb, ne_eqb, eqb-true}
+use Rattle.std.specs.Prelude.{ℕ, ◌≡◌, ◌/◌, ◌<◌, ◌==◌, Bool, true, false, cond, List, [], ◌∷◌, ◌++◌, Option, None, Some, length, slice_index_or, slice_set, refl, zero, suc}
+use Rattle.std.proofs.Common.{sym, ◌∙◌, ap, inl, inr, arith, subst, eq-eqb, ne_eqb}
 use Rattle.std.proofs.lemmas.Bool.{cases_Bool, false≢true, true≢false, cases_eq}
 use Rattle.std.proofs.lemmas.List.{get_or-set_same, get_or-set_other}
 use Rattle.std.specs.Option.{option_map}
-use Rattle.std.specs.Ordering.{eq_by_cmp, nat_cmp}
-use Rattle.std.specs.Cmp.Lexicographic.{slice_cmp, nat_list_cmp_total}
+use Rattle.std.specs.Ordering.{eq_by_cmp}
+use Rattle.std.specs.Cmp.Lexicographic.{nat_list_cmp_total}
 use Rattle.std.specs.FinMap as map
 use Rattle.rev_items.specs.Plain.{PlainItem}
 use Rattle.rev_model.specs.Chunk.{same_chunk, same_entry, chunk_cmp, chunk_cmp_exact, chunk_cmp_total}
 use Rattle.rev_model.specs.Lists.{has, without, behind, insert}
 use Rattle.rev_model.specs.ListLaws.{Tells, has-insert}
-use Rattle.rev_model.specs.State.{State, Keys, WellFormed, IsChunkOf, item_at, find, owner_of, queue_of, queue_place, stands, per_page}
-use Rattle.rev_model.specs.Move.{Move, MarksIn, MarksOut, names, marked, unmarked, EndMarks, front, Takes, Puts, Fills, Touches, Binds, Unbinds, Lays, Lifts, Counts, Sets, BumpsIn, BumpsBack, BumpsOut, BumpsFront, Shifts, exchanged, carried, rebound, shifted, put_at, moved, reverse, bound, unbound, laid, lifted, touched, Ready, Possible, MayEnter, turned, Fits}
-use Rattle.rev_model.specs.Undo.{tells_chunk, tells_entry, same_chunk-self, has-count, count_in_table, get-put_at, get-put_at_same, tied, tied_self, entered, turned_well, turned-push, undo, at_map, lacks-exchanged}
+use Rattle.rev_model.specs.State.{State, Keys, WellFormed, item_at, find, owner_of, queue_of, queue_place, stands, per_page}
+use Rattle.rev_model.specs.Move.{Move, MarksIn, MarksOut, names, marked, unmarked, EndMarks, front, Takes, Puts, Fills, Touches, Binds, Unbinds, Lays, Lifts, Counts, Sets, BumpsIn, BumpsBack, BumpsOut, BumpsFront, Shifts, exchanged, rebound, shifted, put_at, moved, bound, unbound, laid, lifted, touched, Ready, turned, Fits}
+use Rattle.rev_model.specs.Undo.{tells_chunk, tells_entry, same_chunk-self, has-count, count_in_table, get-put_at, tied, tied_self, entered, turned_well, at_map, lacks-exchanged}
 use Rattle.rev_model.specs.declared.ChunkRef.{ChunkRef}
 use Rattle.rev_model.specs.declared.Entry.{Entry}
 use Rattle.rev_model.specs.declared.Entry.TheVariants.{Chunk, Mark}
 use Rattle.rev_model.specs.declared.Queue.{Queue}
-use Rattle.rev_model.specs.declared.Queue.TheVariants.{Hot, Warm, Cold, Temp}
 use Rattle.rev_model.specs.declared.Touched.{Touched}
 use Rattle.rev_model.specs.declared.Form.{Form}
 use Rattle.rev_model.specs.declared.Form.TheVariants.{Fresh, Pool, Withdrawn}
@@ -26,9 +25,8 @@ use Rattle.rev_model.specs.declared.Listed.TheVariants.{InFree, InQueue}
 use Rattle.rev_model.specs.declared.Placed.TheVariants.{ToFree, ToQueue}
 use Rattle.rev_model.specs.declared.Cause.{Cause}
 use Rattle.rev_model.specs.declared.ClassQueue.{ClassQueue}
-use Rattle.rev_model.specs.declared.KeyPlace.{KeyPlace}
 use Rattle.rev_model.specs.declared.KeyChange.{KeyChange}
-use Rattle.rev_model.specs.Track.{held, sits_in, class_queue_within, class_queue_in, key_place_at, key_place_of, SoundKeys, same_key, has_key, is_chunk, keyed, first_note, more_notes, shift_change, key_change, leads_or, class_queue_before, chunk_of, class_queue_of, key_place_from, key_place_before, Removal, removal, removals, first_removal}
+use Rattle.rev_model.specs.Track.{same_key, has_key, is_chunk, keyed, first_note, more_notes, shift_change, key_change, leads_or, class_queue_before}
 
 -- tests
 

@@ -1,30 +1,25 @@
 -- A page that gets a class: the move is possible, and a sound store stays sound.
-use Rattle.std.specs.Prelude.{ℕ, ◌≡◌, ◌≢◌, ◌+◌, ◌*◌, ◌-◌, ◌<◌, ◌≤◌, ◌==◌, ◌&&◌, ◌||◌, not, Bool, true, false, cond, List, [], ◌∷◌, ◌++◌, Option, None, Some, is_some, length, slice_index, slice_index_or, slice_set, nat_eq, nat_lt, zero, suc, refl, ◌⊎◌}
-use Rattle.std.proofs.Common.{rules, sym, ◌∙◌, ap, inl, inr, arith, subst, eqb-true, eq-eqb}
+use Rattle.std.specs.Prelude.{ℕ, ◌≡◌, ◌+◌, ◌-◌, ◌<◌, ◌≤◌, ◌==◌, ◌||◌, not, Bool, true, false, cond, List, [], ◌∷◌, ◌++◌, Option, None, Some, is_some, length, slice_index, slice_index_or, slice_set, nat_eq, nat_lt, zero, suc, refl, ◌⊎◌}
+use Rattle.std.proofs.Common.{sym, ◌∙◌, ap, inl, inr, arith, subst, eqb-true, eq-eqb}
 use Rattle.std.proofs.lemmas.Bool.{cases_Bool, false≢true, true≢false, cases_eq, cases_lt, lt-ltb, ltb-true, and_parts, and_from}
 use Rattle.std.proofs.lemmas.List.{get_or-set_same, get_or-set_other, length-set}
 use Rattle.std.proofs.lemmas.List.Sums.{sum_by-set}
 use Rattle.std.specs.List.{sum_by, list_any}
-use Rattle.std.specs.FinMap as map
 use Rattle.rev_classes.specs.Laws.{page-div-size}
 use Rattle.rev_items.specs.Plain.{PlainItem}
 use Rattle.rev_items.specs.Rules.{footprint_of}
 use Rattle.rev_model.specs.Chunk.{same_chunk, same_entry}
 use Rattle.rev_model.specs.Lists.{has, count}
-use Rattle.rev_model.specs.ListLaws.{Tells}
-use Rattle.rev_model.specs.State.{State, Fixed, WellFormed, WellListed, WellFilled, IsChunkOf, free_of, queue_of, queue_place, owner_of, item_at, per_page, stands_in, stands}
-use Rattle.rev_model.specs.Move.{Move, Lays, moved, Ready, Possible, falling, laid, HoldsNoItem}
-use Rattle.rev_model.specs.Undo.{tells_chunk, tells_entry, sum_none, count_none}
+use Rattle.rev_model.specs.State.{State, Fixed, WellFormed, IsChunkOf, free_of, owner_of, item_at, per_page, stands_in, stands}
+use Rattle.rev_model.specs.Move.{Lays, Ready, Possible, falling, laid, HoldsNoItem}
+use Rattle.rev_model.specs.Undo.{sum_none, count_none}
 use Rattle.rev_model.specs.Words.{class_of}
 use Rattle.rev_model.specs.Pull.{page_from, lowest_page, owns_page, page_for, page_of}
 use Rattle.rev_model.specs.Actor.{owned_pages}
-use Rattle.rev_model.specs.Sound.{SoundBut, Sound, Placed, Filed, Kept, MoverSound, TableSound, owning, away, is_withdrawn, is_held}
+use Rattle.rev_model.specs.Sound.{Sound, MoverSound, TableSound, owning, away, is_withdrawn}
 use Rattle.rev_model.specs.declared.ChunkRef.{ChunkRef}
-use Rattle.rev_model.specs.declared.Entry.{Entry}
-use Rattle.rev_model.specs.declared.Entry.TheVariants.{Chunk, Mark}
-use Rattle.rev_model.specs.declared.Queue.{Queue}
+use Rattle.rev_model.specs.declared.Entry.TheVariants.{Chunk}
 use Rattle.rev_model.specs.declared.Mover.{Mover}
-use Rattle.rev_model.specs.declared.Settings.{Settings}
 use Rattle.rev_model.specs.declared.Form.{Form}
 use Rattle.rev_model.specs.declared.Form.TheVariants.{Fresh, Pool, Withdrawn}
 
@@ -97,12 +92,12 @@ falling_has : (p n : ℕ) (x : ChunkRef) → has same_chunk x (falling p n) ≡ 
 falling_has p zero x h = absurd (false≢true h)
 falling_has p (suc n) x h = elim (cases_Bool (same_chunk x (record { page = p; slot = n }))) [
   | inl e ↦
-    let parts = and_parts (x.page == p) (x.slot == n) e in
-    let slot : x.slot ≡ n = eqb-true _ _ parts.1 in
-    (eqb-true _ _ parts.0, omega (arith, slot))
+      let parts = and_parts (x.page == p) (x.slot == n) e in
+      let slot : x.slot ≡ n = eqb-true _ _ parts.1 in
+      (eqb-true _ _ parts.0, omega (arith, slot))
   | inr e ↦
-    let more = falling_has p n x (rw e at h) in
-    (more.0, omega (arith, more.1))
+      let more = falling_has p n x (rw e at h) in
+      (more.0, omega (arith, more.1))
 ]
 
 falling_lacks : (p n : ℕ) (x : ChunkRef) → (x.page ≡ p → ⊥) → has same_chunk x (falling p n) ≡ false
@@ -115,14 +110,14 @@ falling_once : (p n : ℕ) (x : ChunkRef) → x.page ≡ p → x.slot < n → co
 falling_once p zero x e lt = absurd (omega (arith, lt))
 falling_once p (suc n) x e lt = elim (cases_Bool (same_chunk x (record { page = p; slot = n }))) [
   | inl f ↦
-    let slot : x.slot ≡ n = eqb-true _ _ (and_parts (x.page == p) (x.slot == n) f).1 in
-    let none : count same_chunk x (falling p n) ≡ 0 = count_none same_chunk x (falling p n) (falling_above p n n x (omega arith) slot) in
-    rw f (omega (arith, none))
+      let slot : x.slot ≡ n = eqb-true _ _ (and_parts (x.page == p) (x.slot == n) f).1 in
+      let none : count same_chunk x (falling p n) ≡ 0 = count_none same_chunk x (falling p n) (falling_above p n n x (omega arith) slot) in
+      rw f (omega (arith, none))
   | inr f ↦
-    let ne : x.slot ≡ n → ⊥ = λ s. false≢true (sym f ∙ and_from (x.page == p) (x.slot == n) (eq-eqb _ _ e) (eq-eqb _ _ s)) in
-    let below : x.slot < n = omega (arith, lt, ne) in
-    let more : count same_chunk x (falling p n) ≡ 1 = falling_once p n x e below in
-    rw f (omega (arith, more))
+      let ne : x.slot ≡ n → ⊥ = λ s. false≢true (sym f ∙ and_from (x.page == p) (x.slot == n) (eq-eqb _ _ e) (eq-eqb _ _ s)) in
+      let below : x.slot < n = omega (arith, lt, ne) in
+      let more : count same_chunk x (falling p n) ≡ 1 = falling_once p n x e below in
+      rw f (omega (arith, more))
 ]
 
 falling_count : (p n : ℕ) (x : ChunkRef) → (x.page ≡ p → ⊥) → count same_chunk x (falling p n) ≡ 0
@@ -159,8 +154,8 @@ nowhere s well x none =
     queue_lacks : (p : ℕ) → has same_entry (Chunk x) (slice_index_or s.queues p []) ≡ false
     queue_lacks p = elim (cases_Bool (has same_entry (Chunk x) (slice_index_or s.queues p []))) [
       | inl h ↦
-        let i = (well.filled.items x (well.filled.queued_items p x h)).0 in
-        absurd (omega (arith, i.class, none))
+          let i = (well.filled.items x (well.filled.queued_items p x h)).0 in
+          absurd (omega (arith, i.class, none))
       | inr h ↦ h
     ]
 
@@ -175,16 +170,16 @@ module _ (s : State) (well : WellFormed s) (next : List ℕ) (p c n : ℕ) (g : 
   carved_class : (k : ℕ) (x : ChunkRef) → has same_chunk x (slice_index_or (slice_set s.free c (falling p n ++ free_of s c)) k []) ≡ true → IsChunkOf s.fixed next k x
   carved_class k x h = elim (cases_eq k c) [
     | inl e ↦
-      let there : has same_chunk x (falling p n ++ free_of s c) ≡ true = ap (has same_chunk x) (sym (ap (λ m. slice_index_or (slice_set s.free c (falling p n ++ free_of s c)) m []) e ∙ get_or-set_same s.free c (falling p n ++ free_of s c) [] lt)) ∙ h in
-      subst (λ m. IsChunkOf s.fixed next m x) (sym e) (elim (has-append same_chunk x (falling p n) (free_of s c) there) [
-        | inl f ↦
-          let new = falling_has p n x f in
-          record { class = pos; page = omega (arith, new.0, g.there); owned = ap (slice_index next) new.0 ∙ g.owned; slot = omega (arith, new.1, size) }
-        | inr f ↦ kept_chunk s.fixed s.owner next p c c x g (well.lists.free_of_class c x f)
-      ])
+        let there : has same_chunk x (falling p n ++ free_of s c) ≡ true = ap (has same_chunk x) (sym (ap (λ m. slice_index_or (slice_set s.free c (falling p n ++ free_of s c)) m []) e ∙ get_or-set_same s.free c (falling p n ++ free_of s c) [] lt)) ∙ h in
+        subst (λ m. IsChunkOf s.fixed next m x) (sym e) (elim (has-append same_chunk x (falling p n) (free_of s c) there) [
+          | inl f ↦
+              let new = falling_has p n x f in
+              record { class = pos; page = omega (arith, new.0, g.there); owned = ap (slice_index next) new.0 ∙ g.owned; slot = omega (arith, new.1, size) }
+          | inr f ↦ kept_chunk s.fixed s.owner next p c c x g (well.lists.free_of_class c x f)
+        ])
     | inr e ↦
-      let there : has same_chunk x (free_of s k) ≡ true = ap (has same_chunk x) (sym (get_or-set_other s.free c k (falling p n ++ free_of s c) [] e)) ∙ h in
-      kept_chunk s.fixed s.owner next p c k x g (well.lists.free_of_class k x there)
+        let there : has same_chunk x (free_of s k) ≡ true = ap (has same_chunk x) (sym (get_or-set_other s.free c k (falling p n ++ free_of s c) [] e)) ∙ h in
+        kept_chunk s.fixed s.owner next p c k x g (well.lists.free_of_class k x there)
   ]
 
   carved_lacks : (x : ChunkRef) → (x.page ≡ p → ⊥) → ((k : ℕ) → has same_chunk x (free_of s k) ≡ false) → (k : ℕ) → has same_chunk x (slice_index_or (slice_set s.free c (falling p n ++ free_of s c)) k []) ≡ false
@@ -330,15 +325,15 @@ owning_first : (n : ℕ) (owner next : List ℕ) (c : ℕ) → GetsOne owner nex
 owning_first zero owner next c g pos le none = absurd (omega (arith, pos, le))
 owning_first (suc n) owner next c g pos le none = elim (cases_eq c (suc n)) [
   | inl e ↦
-    let was : owned_pages (suc n) owner ≡ 0 = ap (λ k. owned_pages k owner) (sym e) ∙ none in
-    let same : nat_eq c (suc n) ≡ true = eq-eqb c (suc n) e in
-    let is : owned_pages (suc n) next ≡ 1 = rw (same, was) at (g.counts (suc n) (omega arith)) in
-    let more : owning n owner ≤ owning n next = owning_le n owner next c g in
-    rw (was, is) (omega (arith, more))
+      let was : owned_pages (suc n) owner ≡ 0 = ap (λ k. owned_pages k owner) (sym e) ∙ none in
+      let same : nat_eq c (suc n) ≡ true = eq-eqb c (suc n) e in
+      let is : owned_pages (suc n) next ≡ 1 = rw (same, was) at (g.counts (suc n) (omega arith)) in
+      let more : owning n owner ≤ owning n next = owning_le n owner next c g in
+      rw (was, is) (omega (arith, more))
   | inr e ↦
-    let more : owning n owner + 1 ≤ owning n next = owning_first n owner next c g pos (omega (arith, le, e)) none in
-    let here : cond (nat_lt 0 (owned_pages (suc n) owner)) 1 0 ≤ cond (nat_lt 0 (owned_pages (suc n) next)) 1 0 = grows (owned_pages (suc n) owner) (owned_pages (suc n) next) (omega (arith, g.counts (suc n) (omega arith))) in
-    omega (arith, more, here)
+      let more : owning n owner + 1 ≤ owning n next = owning_first n owner next c g pos (omega (arith, le, e)) none in
+      let here : cond (nat_lt 0 (owned_pages (suc n) owner)) 1 0 ≤ cond (nat_lt 0 (owned_pages (suc n) next)) 1 0 = grows (owned_pages (suc n) owner) (owned_pages (suc n) next) (omega (arith, g.counts (suc n) (omega arith))) in
+      omega (arith, more, here)
 ]
 
 -- a class that owns no page has none
@@ -361,8 +356,8 @@ not_withdrawn : (f : Fixed) (owner : List ℕ) (p : ℕ) (m : Option Mover) (x :
 not_withdrawn f owner p None x h none e = refl
 not_withdrawn f owner p (Some m) x h none e = elim (cases_Bool (is_withdrawn (Some m) x)) [
   | inl w ↦
-    let same : x.page ≡ m.page = eqb-true _ _ (and_parts (nat_eq x.page m.page) (nat_lt x.slot m.slot) w).0 in
-    absurd (omega (arith, ap (slice_index owner) (sym same ∙ e), none, h.5, h.0))
+      let same : x.page ≡ m.page = eqb-true _ _ (and_parts (nat_eq x.page m.page) (nat_lt x.slot m.slot) w).0 in
+      absurd (omega (arith, ap (slice_index owner) (sym same ∙ e), none, h.5, h.0))
   | inr w ↦ w
 ]
 
@@ -370,15 +365,15 @@ module _ (s : State) (sound : Sound s) (next : List ℕ) (p c n : ℕ) (g : Gets
   carved_once : (x : ChunkRef) → IsChunkOf s.fixed next (slice_index next x.page) x → stands_in (slice_set s.free c (falling p n ++ free_of s c)) s.queues x + away s.globals.mover None x ≡ 1
   carved_once x h = elim (cases_eq x.page p) [
     | inl e ↦
-      let owned : slice_index next x.page ≡ c = ap (slice_index next) e ∙ g.owned in
-      let slot : x.slot < n = omega (arith, ap (per_page s.fixed) owned, h.slot, size) in
-      let one : count same_chunk x (falling p n) ≡ 1 = falling_once p n x e slot in
-      let none : stands s x ≡ 0 = nowhere s sound.well x (ap (slice_index s.owner) e ∙ g.unowned) in
-      let here = not_withdrawn s.fixed s.owner p s.globals.mover x sound.kept.mover g.unowned e in
-      rw here (omega (arith, carved_stands s sound.well next p c n g lt pos size x, one, none))
+        let owned : slice_index next x.page ≡ c = ap (slice_index next) e ∙ g.owned in
+        let slot : x.slot < n = omega (arith, ap (per_page s.fixed) owned, h.slot, size) in
+        let one : count same_chunk x (falling p n) ≡ 1 = falling_once p n x e slot in
+        let none : stands s x ≡ 0 = nowhere s sound.well x (ap (slice_index s.owner) e ∙ g.unowned) in
+        let here = not_withdrawn s.fixed s.owner p s.globals.mover x sound.kept.mover g.unowned e in
+        rw here (omega (arith, carved_stands s sound.well next p c n g lt pos size x, one, none))
     | inr e ↦
-      let was : IsChunkOf s.fixed s.owner (slice_index s.owner x.page) x = old_chunk s.fixed s.owner next p c (slice_index s.owner x.page) x g e (g.others x.page e) (omega (arith, g.others x.page e, h.class)) (omega (arith, ap (per_page s.fixed) (g.others x.page e), h.slot)) in
-      omega (arith, carved_stands s sound.well next p c n g lt pos size x, falling_count p n x e, sound.placed.once x was)
+        let was : IsChunkOf s.fixed s.owner (slice_index s.owner x.page) x = old_chunk s.fixed s.owner next p c (slice_index s.owner x.page) x g e (g.others x.page e) (omega (arith, g.others x.page e, h.class)) (omega (arith, ap (per_page s.fixed) (g.others x.page e), h.slot)) in
+        omega (arith, carved_stands s sound.well next p c n g lt pos size x, falling_count p n x e, sound.placed.once x was)
   ]
 
   kept_class : (x : ChunkRef) (i : PlainItem) → item_at s x ≡ Some i → class_of s.fixed (footprint_of i) ≡ Some (slice_index next x.page)
@@ -412,8 +407,8 @@ no_items : (s : State) → WellFormed s → (p : ℕ) → slice_index s.owner p 
 no_items s well p none x e = elim (item_at s x) as (λ o. item_at s x ≡ o → o ≡ None) [
   | None ↦ λ h. refl
   | Some i ↦ λ h.
-    let k = (well.filled.items x (ap is_some h)).0 in
-    absurd (omega (arith, k.class, ap (slice_index s.owner) e, none))
+      let k = (well.filled.items x (ap is_some h)).0 in
+      absurd (omega (arith, k.class, ap (slice_index s.owner) e, none))
 ] refl
 
 owning_few : (n : ℕ) (owner : List ℕ) → owning n owner ≤ n
@@ -444,7 +439,7 @@ length-falling p (suc n) xs = let more : length (falling p n ++ xs) ≡ n + leng
 some_chunks : (s : State) → Sound s → (c p : ℕ) → 0 < c → c ≤ length s.fixed.sizes → c < length s.free → 1 ≤ length (slice_index_or (slice_set s.free c (falling p (per_page s.fixed c) ++ free_of s c)) c [])
 some_chunks s sound c p pos top lt =
     rw (get_or-set_same s.free c (falling p (per_page s.fixed c) ++ free_of s c) [] lt)
-      (omega (arith, length-falling p (per_page s.fixed c) (free_of s c), (page_chunks s.fixed sound.kept.table c pos top).0))
+    (omega (arith, length-falling p (per_page s.fixed c) (free_of s c), (page_chunks s.fixed sound.kept.table c pos top).0))
 
 pub pool_is : (s : State) → Sound s → (c : ℕ) → 0 < c → c ≤ length s.fixed.sizes → (p : ℕ) → lowest_page s 0 ≡ Some p → IsPageFor s c p Pool
 pool_is s sound c pos top p e =
@@ -495,10 +490,10 @@ page_is s sound c pos top p f e = elim (lowest_page s 0) as (λ o. lowest_page s
     | inr may ↦ absurd (none_some _ (rw may at e))
   ]
   | Some q ↦ λ h e.
-    let was : ℕ × Form = (q, Pool) in
-    let now : ℕ × Form = (p, f) in
-    let is : was ≡ now = some_inj was now e in
-    subst (λ (w : ℕ × Form). IsPageFor s c w.0 w.1) is (pool_is s sound c pos top q h)
+      let was : ℕ × Form = (q, Pool) in
+      let now : ℕ × Form = (p, f) in
+      let is : was ≡ now = some_inj was now e in
+      subst (λ (w : ℕ × Form). IsPageFor s c w.0 w.1) is (pool_is s sound c pos top q h)
 ] refl e
   where
     fresh : nat_lt (length s.owner) s.fixed.limit || not (owns_page s c) ≡ true → ◌≡◌ {A = ℕ × Form} (length s.owner, Fresh) (p, f) → IsPageFor s c p f

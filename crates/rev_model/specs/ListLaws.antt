@@ -1,5 +1,5 @@
 -- What leaves a list goes back behind what stood before it; what enters leaves the list as it was.
-use Rattle.std.specs.Prelude.{ℕ, Bool, true, false, cond, List, [], ◌∷◌, Option, None, Some, ◌≡◌, refl, ◌⊎◌}
+use Rattle.std.specs.Prelude.{Bool, true, false, List, [], ◌∷◌, Option, None, Some, ◌≡◌, refl}
 use Rattle.std.proofs.Common.{sym, ◌∙◌, ap, inl, inr}
 use Rattle.std.proofs.lemmas.Bool.{cases_Bool, false≢true, true≢false}
 use Rattle.rev_model.specs.Lists.{has, distinct, without, before_from, before, behind, insert, has_after}

@@ -1,10 +1,10 @@
 -- The moves of a record on the plain state: what a move leaves, its reverse, and when it is possible.
-use Rattle.std.specs.Prelude.{ℕ, ◌≡◌, ◌+◌, ◌/◌, ◌%◌, ◌^◌, ◌<◌, nat_eq, nat_le, not, ◌&&◌, ◌||◌, Bool, true, false, cond, List, [], ◌∷◌, ◌++◌, Option, None, Some, is_some, length, slice_index, slice_index_or, slice_set, take, drop, zero, suc, map as map_list}
+use Rattle.std.specs.Prelude.{ℕ, ◌≡◌, ◌+◌, ◌/◌, ◌%◌, ◌^◌, ◌<◌, nat_eq, nat_le, not, ◌&&◌, ◌||◌, Bool, true, false, cond, List, [], ◌∷◌, ◌++◌, Option, None, Some, is_some, length, slice_set, take, drop, zero, suc, map as map_list}
 use Rattle.std.specs.Option.{option_map}
 use Rattle.std.specs.FinMap as map
 use Rattle.std.specs.declared.cmp.Ordering.{Ordering}
 use Rattle.rev_items.specs.Plain.{PlainItem}
-use Rattle.rev_model.specs.Chunk.{same_chunk, same_entry, chunk_cmp}
+use Rattle.rev_model.specs.Chunk.{same_chunk, same_entry}
 use Rattle.rev_model.specs.Lists.{has, without, before, insert, has_after}
 use Rattle.rev_model.specs.State.{State, Contents, Keys, WellFormed, IsChunkOf, free_of, queue_of, queue_place, counter_of, counter_place, owner_of, item_at, find, per_page, stands, last_class}
 use Rattle.rev_model.specs.declared.ChunkRef.{ChunkRef}

@@ -1,18 +1,17 @@
 -- The causes that a record tells.
-use Rattle.std.specs.Prelude.{ℕ, ◌≡◌, ◌+◌, Bool, true, false, cond, List, [], ◌∷◌, ◌++◌, Option, None, Some, is_some, length, refl}
-use Rattle.std.proofs.Common.{sym, ◌∙◌, ap, inl, inr, arith, subst}
-use Rattle.std.proofs.lemmas.Bool.{cases_Bool, false≢true, true≢false}
+use Rattle.std.specs.Prelude.{ℕ, ◌≡◌, Bool, false, cond, List, [], ◌∷◌, ◌++◌, Option, None, Some, is_some, length, refl}
+use Rattle.std.proofs.Common.{sym, ◌∙◌, ap, inl, inr, arith}
+use Rattle.std.proofs.lemmas.Bool.{cases_Bool, false≢true}
 use Rattle.std.specs.FinMap as map
 use Rattle.rev_items.specs.Plain.{PlainItem}
 use Rattle.rev_model.specs.State.{State, WellFormed, item_at, find}
-use Rattle.rev_model.specs.Move.{Move, MarksIn, MarksOut, names, marked, unmarked, EndMarks, front, Takes, Puts, Fills, Touches, Binds, Unbinds, Lays, Lifts, Counts, Sets, BumpsIn, BumpsBack, BumpsOut, BumpsFront, Shifts, moved, reverse, out_of, back_of, Ready, turned, Fits}
+use Rattle.rev_model.specs.Move.{Move, MarksIn, MarksOut, Takes, Puts, Fills, Touches, Binds, Unbinds, Lays, Lifts, Counts, Sets, BumpsIn, BumpsBack, BumpsOut, BumpsFront, Shifts, moved, reverse, out_of, back_of, Ready, turned, Fits}
 use Rattle.rev_model.specs.Undo.{turned-push, undo}
 use Rattle.rev_model.specs.declared.ChunkRef.{ChunkRef}
 use Rattle.rev_model.specs.declared.BumpEntry.{BumpEntry}
 use Rattle.rev_model.specs.declared.Listed.TheVariants.{InFree, InQueue}
 use Rattle.rev_model.specs.declared.Placed.TheVariants.{ToFree, ToQueue}
 use Rattle.rev_model.specs.declared.Cause.{Cause}
-use Rattle.rev_model.specs.declared.KeyPlace.{KeyPlace}
 use Rattle.rev_model.specs.declared.KeyChange.{KeyChange}
 use Rattle.rev_model.specs.Track.{has_key, keyed, first_note, more_notes, key_change, leads_or, shift_change, Removal, removal, removals, first_removal}
 use Rattle.rev_model.specs.Laws.{Agrees, keyed-is, home-is, unbound_content}

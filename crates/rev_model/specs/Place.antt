@@ -1,26 +1,24 @@
 -- From where a key is after a step and the step's record: where it was before.
-use Rattle.std.specs.Prelude.{ℕ, ◌≡◌, ◌+◌, ◌*◌, ◌<◌, ◌==◌, Bool, true, false, cond, List, [], ◌∷◌, ◌++◌, Option, None, Some, is_some, length, slice_index_or, slice_set, refl, ◌⊎◌, zero, suc}
+use Rattle.std.specs.Prelude.{ℕ, ◌≡◌, ◌<◌, ◌==◌, Bool, true, false, List, [], ◌∷◌, Option, None, Some, length, slice_index_or, refl, zero, suc}
 use Rattle.std.proofs.Common.{sym, ◌∙◌, ap, inl, inr, arith, subst, eq-eqb, ne_eqb}
-use Rattle.std.proofs.lemmas.Bool.{cases_Bool, false≢true, true≢false, cases_eq}
+use Rattle.std.proofs.lemmas.Bool.{false≢true, cases_eq}
 use Rattle.std.proofs.lemmas.List.{get_or-set_other}
 use Rattle.rev_items.specs.Plain.{PlainItem}
-use Rattle.rev_model.specs.Chunk.{same_chunk, same_entry}
+use Rattle.rev_model.specs.Chunk.{same_entry}
 use Rattle.rev_model.specs.Lists.{has, without}
 use Rattle.rev_model.specs.State.{State, WellFormed, item_at, find, owner_of, queue_of, queue_place}
 use Rattle.rev_model.specs.Move.{Move, Takes, moved, turned, Fits}
 use Rattle.rev_model.specs.Undo.{tells_chunk, same_chunk-self, entered, turned_well}
 use Rattle.rev_model.specs.declared.ChunkRef.{ChunkRef}
 use Rattle.rev_model.specs.declared.Entry.{Entry}
-use Rattle.rev_model.specs.declared.Entry.TheVariants.{Chunk, Mark}
+use Rattle.rev_model.specs.declared.Entry.TheVariants.{Chunk}
 use Rattle.rev_model.specs.declared.Queue.{Queue}
 use Rattle.rev_model.specs.declared.Queue.TheVariants.{Hot, Warm, Cold, Temp}
 use Rattle.rev_model.specs.declared.Listed.TheVariants.{InQueue}
 use Rattle.rev_model.specs.declared.Cause.{Cause}
 use Rattle.rev_model.specs.declared.ClassQueue.{ClassQueue}
-use Rattle.rev_model.specs.declared.KeyPlace.{KeyPlace}
-use Rattle.rev_model.specs.declared.KeyChange.{KeyChange}
-use Rattle.rev_model.specs.Track.{held, sits_in, class_queue_within, class_queue_in, key_place_at, key_place_of, SoundKeys, same_key, has_key, is_chunk, keyed, key_change, leads_or, class_queue_before, chunk_of, class_queue_of, key_place_from, key_place_before}
-use Rattle.rev_model.specs.Laws.{same_key-self, same_key-exact, Agrees, keyed-is, home-is, Sits, sits, nowhere, Starts, lru-is}
+use Rattle.rev_model.specs.Track.{sits_in, class_queue_within, class_queue_in, key_place_at, key_place_of, SoundKeys, same_key, has_key, is_chunk, key_change, leads_or, class_queue_before, chunk_of, class_queue_of, key_place_from, key_place_before}
+use Rattle.rev_model.specs.Laws.{same_key-self, same_key-exact, Agrees, keyed-is, home-is, Sits, nowhere, Starts, lru-is}
 
 -- the queue in which a chunk stands, told by a function of the state
 
@@ -141,7 +139,7 @@ place_before k ms ns t sound fits =
     let a : Agrees k (find t k) t = agrees t sound k (find t k) refl in
     let led : find (turned ms t).0 k ≡ leads_or (find t k) (key_change k (find t k) ms ns) = home-is k (find t k) ms ns t a refl in
     let seats : (x : ChunkRef) → find (turned ms t).0 k ≡ Some x → class_queue_in (turned ms t).0 x ≡ class_queue_before (find t k) (class_queue_of (key_place_at t (find t k))) ms x =
-        λ x e. seat_told u well x (class_queue_before home lru ms x) (lru-is k home lru ms t sound.well fits (starts_at t sound k home refl) x (sym (keyed-is k home ms t a x) ∙ item_of_key u well k x e)) in
+    λ x e. seat_told u well x (class_queue_before home lru ms x) (lru-is k home lru ms t sound.well fits (starts_at t sound k home refl) x (sym (keyed-is k home ms t a x) ∙ item_of_key u well k x e)) in
     spots u home lru ms (find u k) seats
     ∙ ap (key_place_from home lru ms) led
     ∙ ap (λ h. key_place_from h lru ms (leads_or h (key_change k h ms ns))) (sym (chunk_of-spot t home))

@@ -1,15 +1,13 @@
 -- Places of a class in the tables, and what is read of a sound store.
-use Rattle.std.specs.Prelude.{ℕ, ◌≡◌, ◌+◌, ◌*◌, ◌<◌, ◌≤◌, Bool, true, false, cond, List, [], ◌∷◌, Option, None, Some, is_some, length, slice_index_or, refl}
+use Rattle.std.specs.Prelude.{ℕ, ◌≡◌, ◌<◌, ◌≤◌, true, List, [], ◌∷◌, Option, None, Some, is_some, length, refl}
 use Rattle.std.specs.Option.{option_map}
-use Rattle.std.proofs.Common.{sym, ◌∙◌, ap, subst, arith, inl, inr}
-use Rattle.std.proofs.lemmas.Bool.{cases_Bool, false≢true, true≢false}
-use Rattle.std.specs.FinMap as map
+use Rattle.std.proofs.Common.{◌∙◌, arith, inl, inr}
+use Rattle.std.proofs.lemmas.Bool.{cases_Bool}
 use Rattle.rev_items.specs.Plain.{PlainItem}
-use Rattle.rev_model.specs.Chunk.{same_chunk, same_entry}
+use Rattle.rev_model.specs.Chunk.{same_entry}
 use Rattle.rev_model.specs.Lists.{has}
-use Rattle.rev_model.specs.Undo.{tells_chunk, tells_entry}
-use Rattle.rev_model.specs.State.{State, Fixed, WellFormed, free_of, queue_of, queue_place, queue_number, counter_place, counter_number, item_at, find}
-use Rattle.rev_model.specs.Move.{moved}
+use Rattle.rev_model.specs.Undo.{tells_chunk}
+use Rattle.rev_model.specs.State.{State, Fixed, WellFormed, queue_of, queue_place, queue_number, counter_place, counter_number, item_at}
 use Rattle.rev_model.specs.declared.ChunkRef.{ChunkRef}
 use Rattle.rev_model.specs.declared.Entry.{Entry}
 use Rattle.rev_model.specs.declared.Entry.TheVariants.{Chunk, Mark}

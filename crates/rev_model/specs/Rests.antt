@@ -1,9 +1,9 @@
 -- What the layers below keep of a record with notes.
-use Rattle.std.specs.Prelude.{ℕ, ◌≡◌, ◌+◌, ◌-◌, List, [], ◌∷◌, ◌++◌, Option, None, Some, length, reverse, slice_set, refl, zero, suc}
-use Rattle.std.proofs.Common.{sym, ◌∙◌, ap, arith}
+use Rattle.std.specs.Prelude.{◌≡◌, ◌+◌, ◌-◌, List, [], ◌∷◌, ◌++◌, Option, None, Some, length, reverse, slice_set, refl, suc}
+use Rattle.std.proofs.Common.{◌∙◌, ap, arith}
 use Rattle.std.proofs.lemmas.List.{reverse-reverse}
 use Rattle.rev_model.specs.State.{State, WellFormed, item_at}
-use Rattle.rev_model.specs.Move.{Move, Unbinds, Binds, moved, reverse as reverse_of, turned, Ready, Fits}
+use Rattle.rev_model.specs.Move.{Move, Unbinds, Binds, moved, turned, Ready, Fits}
 use Rattle.rev_model.specs.Undo.{turns_back}
 use Rattle.rev_model.specs.declared.ChunkRef.{ChunkRef}
 use Rattle.rev_model.specs.declared.Cause.{Cause}

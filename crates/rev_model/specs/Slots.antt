@@ -1,22 +1,19 @@
 -- What a possible move says of the slots and keys that it touches.
-use Rattle.std.specs.Prelude.{ℕ, ◌≡◌, ◌+◌, ◌-◌, ◌<◌, ◌≤◌, ◌/◌, Bool, true, false, cond, nat_eq, List, [], ◌∷◌, Option, None, Some, is_some, length, slice_index, slice_index_or, slice_set, zero, suc, refl}
-use Rattle.std.specs.Prelude.{map as map_list}
-use Rattle.std.proofs.Common.{sym, ◌∙◌, ap, subst, arith}
+use Rattle.std.specs.Prelude.{ℕ, ◌≡◌, true, false, List, [], ◌∷◌, Option, None, Some, is_some, length, slice_index, slice_index_or, slice_set, zero, suc, refl}
+use Rattle.std.proofs.Common.{sym, ◌∙◌, ap, arith}
 use Rattle.std.proofs.lemmas.List.{get_or-set_same}
-use Rattle.std.specs.FinMap as map
 use Rattle.rev_items.specs.Plain.{PlainItem}
 use Rattle.rev_model.specs.Chunk.{same_chunk, same_entry, chunk_cmp_exact, chunk_cmp_total, HasSlot, EntryHasSlot}
 use Rattle.rev_model.specs.Lists.{has, insert}
 use Rattle.rev_model.specs.ListLaws.{has-insert}
-use Rattle.rev_model.specs.State.{State, Fixed, WellFormed, IsChunkOf, free_of, queue_of, queue_place, owner_of, item_at, find, per_page, page_slots, stands}
-use Rattle.rev_model.specs.Move.{Move, Takes, Puts, Fills, Touches, Binds, Unbinds, Counts, Sets, BumpsIn, BumpsBack, BumpsOut, BumpsFront, moved, Ready, Possible, MayEnter, put_at}
+use Rattle.rev_model.specs.State.{State, Fixed, IsChunkOf, free_of, queue_of, queue_place, item_at, find, per_page, page_slots}
+use Rattle.rev_model.specs.Move.{Puts, Fills, Touches, moved, Possible}
 use Rattle.rev_model.specs.Undo.{tells_chunk, tells_entry, free_lacks, queue_lacks, get-put_at_same}
 use Rattle.rev_model.specs.declared.ChunkRef.{ChunkRef}
 use Rattle.rev_model.specs.declared.Entry.{Entry}
 use Rattle.rev_model.specs.declared.Entry.TheVariants.{Chunk, Mark}
 use Rattle.rev_model.specs.declared.Queue.{Queue}
 use Rattle.rev_model.specs.declared.Touched.{Touched}
-use Rattle.rev_model.specs.declared.Listed.TheVariants.{InFree, InQueue}
 use Rattle.rev_model.specs.declared.Placed.TheVariants.{ToFree, ToQueue}
 
 length_slots : (f : Fixed) (owner : List ℕ) → length (page_slots f owner) ≡ length owner

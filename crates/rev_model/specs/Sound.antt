@@ -1,5 +1,5 @@
 -- Sound stores, also with one chunk held aside by a step.
-use Rattle.std.specs.Prelude.{ℕ, ◌≡◌, ◌+◌, ◌<◌, ◌≤◌, ◌≢◌, Bool, true, false, cond, not, ◌&&◌, List, [], ◌∷◌, Option, None, Some, length, slice_index, nat_eq, nat_lt, zero, suc}
+use Rattle.std.specs.Prelude.{ℕ, ◌≡◌, ◌+◌, ◌<◌, ◌≤◌, ◌≢◌, Bool, true, false, cond, ◌&&◌, List, Option, None, Some, length, slice_index, nat_eq, nat_lt, zero, suc}
 use Rattle.std.specs.List.{sum_by}
 use Rattle.std.specs.FinMap as map
 use Rattle.rev_classes.specs.Table.{AreClassSizes}
@@ -13,7 +13,7 @@ use Rattle.rev_items.specs.Rules.{footprint_of}
 use Rattle.rev_model.specs.Actor.{owned_pages}
 use Rattle.rev_model.specs.declared.ChunkRef.{ChunkRef}
 use Rattle.rev_model.specs.declared.Entry.{Entry}
-use Rattle.rev_model.specs.declared.Entry.TheVariants.{Chunk, Mark}
+use Rattle.rev_model.specs.declared.Entry.TheVariants.{Chunk}
 use Rattle.rev_model.specs.declared.Mover.{Mover}
 use Rattle.rev_model.specs.declared.Settings.{Settings}
 

@@ -1,5 +1,5 @@
 -- The plain state of a store, and when it is well formed.
-use Rattle.std.specs.Prelude.{ℕ, ◌≡◌, ◌+◌, ◌*◌, ◌<◌, ◌≤◌, ◌/◌, Bool, true, false, cond, List, [], ◌∷◌, Option, None, Some, is_some, length, slice_index, slice_index_or, nat_eq, ◌-◌, map as map_list}
+use Rattle.std.specs.Prelude.{ℕ, ◌≡◌, ◌+◌, ◌*◌, ◌<◌, ◌≤◌, ◌/◌, true, false, cond, List, [], Option, Some, is_some, length, slice_index, slice_index_or, nat_eq, ◌-◌, map as map_list}
 use Rattle.std.specs.List.{sum_by}
 use Rattle.std.specs.Ordering.{nat_cmp}
 use Rattle.std.specs.Cmp.Lexicographic.{slice_cmp}

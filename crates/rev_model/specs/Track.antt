@@ -1,19 +1,18 @@
 -- Where a key was before a step, read off the step's record and where it is after the step.
-use Rattle.std.specs.Prelude.{ℕ, ◌≡◌, ◌+◌, ◌*◌, ◌==◌, Bool, true, false, cond, List, [], ◌∷◌, ◌++◌, Option, None, Some, is_some, slice_index_or}
+use Rattle.std.specs.Prelude.{ℕ, ◌≡◌, Bool, true, false, cond, List, [], ◌∷◌, ◌++◌, Option, None, Some, is_some}
 use Rattle.std.specs.Ordering.{eq_by_cmp, nat_cmp}
 use Rattle.std.specs.Cmp.Lexicographic.{slice_cmp}
 use Rattle.rev_items.specs.Plain.{PlainItem}
 use Rattle.rev_model.specs.Chunk.{same_chunk, same_entry}
 use Rattle.rev_model.specs.Lists.{has}
-use Rattle.rev_model.specs.State.{State, WellFormed, item_at, find, owner_of, queue_of, queue_place}
-use Rattle.rev_model.specs.Move.{Move, Takes, Puts, Fills, Touches, Binds, Unbinds, Shifts, turned}
+use Rattle.rev_model.specs.State.{State, WellFormed, item_at, find, owner_of, queue_of}
+use Rattle.rev_model.specs.Move.{Move, Takes, Puts, Fills, Binds, Unbinds, Shifts, turned}
 use Rattle.rev_model.specs.declared.ChunkRef.{ChunkRef}
-use Rattle.rev_model.specs.declared.Entry.{Entry}
-use Rattle.rev_model.specs.declared.Entry.TheVariants.{Chunk, Mark}
+use Rattle.rev_model.specs.declared.Entry.TheVariants.{Chunk}
 use Rattle.rev_model.specs.declared.Queue.{Queue}
 use Rattle.rev_model.specs.declared.Queue.TheVariants.{Hot, Warm, Cold, Temp}
-use Rattle.rev_model.specs.declared.Listed.TheVariants.{InFree, InQueue}
-use Rattle.rev_model.specs.declared.Placed.TheVariants.{ToFree, ToQueue}
+use Rattle.rev_model.specs.declared.Listed.TheVariants.{InQueue}
+use Rattle.rev_model.specs.declared.Placed.TheVariants.{ToQueue}
 use Rattle.rev_model.specs.declared.Cause.{Cause}
 use Rattle.rev_model.specs.declared.ClassQueue.{ClassQueue}
 use Rattle.rev_model.specs.declared.KeyPlace.{KeyPlace}

@@ -1,5 +1,5 @@
 -- A turn in place: from the last move on, each is played and its reverse put where it stood; at the end the record is turned over.
-use Rattle.std.specs.Prelude.{ℕ, ◌≡◌, ◌+◌, ◌-◌, ◌<◌, ◌≤◌, List, [], ◌∷◌, ◌++◌, length, slice_index_or, slice_set, take, drop, reverse, zero, suc, refl}
+use Rattle.std.specs.Prelude.{ℕ, ◌≡◌, ◌-◌, ◌<◌, ◌≤◌, List, [], ◌∷◌, ◌++◌, length, slice_index_or, slice_set, take, drop, reverse, zero, suc, refl}
 use Rattle.std.proofs.Common.{sym, ◌∙◌, ap, subst, arith}
 use Rattle.std.proofs.lemmas.List.{reverse-append, reverse-reverse}
 use Rattle.rev_model.specs.State.{State, WellFormed}
@@ -75,10 +75,10 @@ module _ (ms : List Move) (s : State) (well : WellFormed s) (fits : Fits ms s) (
         within = omega (arith, lt);
         state = ap (moved m) at.state ∙ ap (λ l. (turned l s).0) (sym e);
         moves = ap (λ l. slice_set l p (move.reverse m now)) at.moves
-          ∙ front_set ms (reverse (turned rest s).1) p (move.reverse m now) (omega (arith, lt))
-          ∙ ap (λ (t : State). take p ms ++ move.reverse m t ∷ reverse (turned rest s).1) at.state
-          ∙ ap (λ l. take p ms ++ l) (sym (reverse-append (turned rest s).1 (move.reverse m (turned rest s).0 ∷ [])))
-          ∙ ap (λ l. take p ms ++ reverse (turned l s).1) (sym e);
+            ∙ front_set ms (reverse (turned rest s).1) p (move.reverse m now) (omega (arith, lt))
+            ∙ ap (λ (t : State). take p ms ++ move.reverse m t ∷ reverse (turned rest s).1) at.state
+            ∙ ap (λ l. take p ms ++ l) (sym (reverse-append (turned rest s).1 (move.reverse m (turned rest s).0 ∷ [])))
+            ∙ ap (λ l. take p ms ++ reverse (turned l s).1) (sym e);
       }
 
 pub turned_all : (ms : List Move) (s : State) (now : State) (left : List Move) → IsTurnedFrom ms s 0 now left → (now ≡ (turned ms s).0) × (reverse left ≡ (turned ms s).1)

@@ -1,35 +1,32 @@
 -- Each move is undone by its reverse, and so is a record that is turned.
-use Rattle.std.specs.Prelude.{ℕ, ◌≡◌, ◌+◌, ◌-◌, ◌/◌, ◌<◌, ◌≤◌, Bool, true, false, cond, List, [], ◌∷◌, ◌++◌, Option, None, Some, is_some, length, get_or, slice_index, slice_index_or, slice_set, take, drop, zero, suc, refl, ◌==◌, ◌&&◌, ◌⊎◌, map as map_list}
-use Rattle.std.proofs.Common.{sym, ◌∙◌, ap, inl, inr, arith, eqb, eqb-true, eq-eqb, subst}
+use Rattle.std.specs.Prelude.{ℕ, ◌≡◌, ◌+◌, ◌/◌, ◌<◌, ◌≤◌, Bool, true, false, cond, List, [], ◌∷◌, ◌++◌, Option, None, Some, is_some, length, slice_index, slice_index_or, slice_set, take, drop, zero, suc, refl, ◌==◌, map as map_list}
+use Rattle.std.proofs.Common.{sym, ◌∙◌, ap, inl, inr, arith, eqb-true, eq-eqb, subst}
 use Rattle.std.proofs.Math.ListN.{set}
 use Rattle.std.proofs.lemmas.Bool.{cases_Bool, false≢true, true≢false, and_parts, and_from}
 use Rattle.std.proofs.lemmas.List.{get_or-set_same, set-set, set-get_or, length-set}
 use Rattle.std.proofs.lemmas.List.Sums.{sum_by-set, sum_by-cons}
 use Rattle.std.specs.List.{sum_by}
-use Rattle.std.specs.Ordering.{nat_cmp, eq_by_cmp, is_eq}
-use Rattle.std.specs.Cmp.{IsTotalOrder, nat_cmp_total, eq_by_cmp_equiv}
+use Rattle.std.specs.Ordering.{eq_by_cmp, is_eq}
+use Rattle.std.specs.Cmp.{IsTotalOrder, eq_by_cmp_equiv}
 use Rattle.std.specs.declared.cmp.Ordering.{Ordering}
 use Rattle.std.specs.declared.cmp.Ordering.TheVariants.{Less, Equal, Greater}
 use Rattle.std.specs.FinMap as map
 use Rattle.rev_model.specs.Chunk.{same_chunk, same_entry, chunk_cmp, chunk_cmp_exact, chunk_cmp_total}
-use Rattle.rev_model.specs.Lists.{has, distinct, count, without, before, insert, has_after}
+use Rattle.rev_model.specs.Lists.{has, distinct, count, without, before, insert}
 use Rattle.rev_model.specs.ListLaws.{Tells, put-take, without-insert, before-insert, has-insert, has-without, has_after-before}
-use Rattle.rev_model.specs.State.{State, Contents, WellFormed, free_of, queue_of, queue_place, counter_of, counter_place, owner_of, item_at, find, per_page, stands}
+use Rattle.rev_model.specs.State.{State, Contents, WellFormed, free_of, queue_of, queue_place, counter_of, counter_place, owner_of, item_at, per_page, stands}
 use Rattle.std.specs.Option.{option_map}
-use Rattle.std.specs.Cmp.Lexicographic.{slice_cmp, nat_list_cmp_total}
+use Rattle.std.specs.Cmp.Lexicographic.{nat_list_cmp_total}
 use Rattle.rev_items.specs.Plain.{PlainItem}
-use Rattle.rev_model.specs.Move.{Move, Takes, Puts, Fills, Touches, Binds, Unbinds, Lays, Lifts, Counts, Sets, BumpsIn, BumpsBack, BumpsOut, BumpsFront, Shifts, MarksIn, MarksOut, names, marked, unmarked, NoMarks, EndMarks, exchanged, carried, rebound, shifted, put_at, moved, reverse, out_of, back_of, retouched, Ready, Possible, MayEnter, HoldsNoItem, PageReady, LiftReady, turned, Fits, falling, front, last_or, touched, touched_of, bound, unbound, laid, lifted}
+use Rattle.rev_model.specs.Move.{Move, Takes, Puts, Fills, Touches, Binds, Unbinds, Lays, Lifts, Counts, Sets, BumpsIn, BumpsBack, BumpsOut, BumpsFront, Shifts, MarksIn, MarksOut, names, marked, unmarked, NoMarks, EndMarks, exchanged, carried, rebound, shifted, put_at, moved, reverse, back_of, retouched, Ready, Possible, MayEnter, HoldsNoItem, LiftReady, turned, Fits, falling, front, last_or, touched, laid, lifted}
 use Rattle.rev_model.specs.declared.Queue.{Queue}
 use Rattle.rev_model.specs.declared.ClassSet.{ClassSet}
 use Rattle.rev_model.specs.declared.Counter.{Counter}
 use Rattle.rev_model.specs.declared.BumpEntry.{BumpEntry}
-use Rattle.rev_model.specs.declared.Globals.{Globals}
 use Rattle.rev_model.specs.declared.Touched.{Touched}
 use Rattle.rev_model.specs.declared.Form.{Form}
 use Rattle.rev_model.specs.declared.Form.TheVariants.{Fresh, Pool, Withdrawn}
-use Rattle.rev_model.specs.declared.Listed.{Listed}
 use Rattle.rev_model.specs.declared.Listed.TheVariants.{InFree, InQueue}
-use Rattle.rev_model.specs.declared.Placed.{Placed}
 use Rattle.rev_model.specs.declared.Placed.TheVariants.{ToFree, ToQueue}
 use Rattle.rev_model.specs.declared.ChunkRef.{ChunkRef}
 use Rattle.rev_model.specs.declared.Entry.{Entry}
@@ -503,10 +500,10 @@ undo-shift s well a b (i, e, there, none, out) =
     let total = nat_list_cmp_total in
     let exact = map.slice_cmp-IsAntisymmetric map.nat_cmp-IsAntisymmetric in
     let back_index : rebound a (item_at (shifted a b s) b) (shifted a b s).index ≡ s.index =
-        ap (λ o. rebound a o (shifted a b s).index) got ∙ ap (λ m. map.insert m i.key a) index
-        ∙ ap (put_at (map.insert s.index i.key b) i.key) (sym there) ∙ put_at_back nat_list_cmp_total (map.slice_cmp-IsAntisymmetric map.nat_cmp-IsAntisymmetric) s.index i.key (Some b) in
+    ap (λ o. rebound a o (shifted a b s).index) got ∙ ap (λ m. map.insert m i.key a) index
+    ∙ ap (put_at (map.insert s.index i.key b) i.key) (sym there) ∙ put_at_back nat_list_cmp_total (map.slice_cmp-IsAntisymmetric map.nat_cmp-IsAntisymmetric) s.index i.key (Some b) in
     let away : (p : ℕ) → has same_entry (Chunk a) (slice_index_or (shifted a b s).queues p []) ≡ false =
-        λ p. ap (has same_entry (Chunk a)) (at_map (exchanged (Chunk a) (Chunk b)) refl s.queues p) ∙ lacks-exchanged (Chunk a) (Chunk b) (slice_index_or s.queues p []) (differ a b ne) in
+    λ p. ap (has same_entry (Chunk a)) (at_map (exchanged (Chunk a) (Chunk b)) refl s.queues p) ∙ lacks-exchanged (Chunk a) (Chunk b) (slice_index_or s.queues p []) (differ a b ne) in
     let free : sum_by (count same_chunk a) s.free ≡ 0 = sum_none same_chunk a s.free (λ c. (well.filled.items a (ap is_some e)).1 c) in
     let queues : sum_by (count same_entry (Chunk a)) (shifted a b s).queues ≡ 0 = sum_none same_entry (Chunk a) (shifted a b s).queues away in
     record {
@@ -547,10 +544,10 @@ pub NoMarks-unmarked : (named : ℕ → Bool) (p : ℕ) (ls : List (List Entry))
 NoMarks-unmarked named p [] h one = tt
 NoMarks-unmarked named p (l ∷ ls) h one = (
   λ e. rw e (has-count same_entry tells_entry Mark (front l)
-    (let a : count same_entry Mark (front l ++ Mark ∷ []) ≡ count same_entry Mark l = ap (count same_entry Mark) (h.0 e) in
-    let b : count same_entry Mark l ≤ 1 = one 0 in
-    omega (arith, a, b, count_push (front l)))),
-  NoMarks-unmarked named (suc p) ls h.1 (λ n. one (suc n))
+      (let a : count same_entry Mark (front l ++ Mark ∷ []) ≡ count same_entry Mark l = ap (count same_entry Mark) (h.0 e) in
+      let b : count same_entry Mark l ≤ 1 = one 0 in
+      omega (arith, a, b, count_push (front l)))),
+  NoMarks-unmarked named (suc p) ls h.1 (λ n. one (suc n)),
 )
 
 undo-marks_in : (s : State) (set : ClassSet) → Ready (MarksIn set) s → Undoes (MarksIn set) s
@@ -626,9 +623,9 @@ turns_back (m ∷ ms) s well f =
     record {
       fits = Fits-push rest r t (possible_back m before_it there f.1) (subst (Fits rest) (sym u.back) below.fits);
       back = turned-push rest r t
-        ∙ ap (λ (x : State). ((turned rest x).0, reverse r t ∷ (turned rest x).1)) u.back
-        ∙ ap (λ (y : Move). ((turned rest before_it).0, y ∷ (turned rest before_it).1)) u.same
-        ∙ ap (λ (p : State × List Move). (p.0, m ∷ p.1)) below.back;
+          ∙ ap (λ (x : State). ((turned rest x).0, reverse r t ∷ (turned rest x).1)) u.back
+          ∙ ap (λ (y : Move). ((turned rest before_it).0, y ∷ (turned rest before_it).1)) u.same
+          ∙ ap (λ (p : State × List Move). (p.0, m ∷ p.1)) below.back;
     }
 
 -- The record fits, and turning it leads back to the first state: what each step keeps of its record.

@@ -1,13 +1,13 @@
 -- Rules on values, sums over queues, and the changes that steps are made of.
-use Rattle.std.specs.Prelude.{ℕ, ℤ, pos, negsuc, ◌+◌, ◌-◌, ◌*◌, ◌/◌, ◌%◌, ◌^◌, Bool, true, false, cond, not, ◌&&◌, ◌||◌, List, [], ◌∷◌, ◌++◌, Option, None, Some, length, slice_index, slice_index_or, slice_set, nat_eq, nat_lt, nat_le}
+use Rattle.std.specs.Prelude.{ℕ, ℤ, pos, negsuc, ◌+◌, ◌-◌, ◌*◌, ◌/◌, ◌%◌, ◌^◌, Bool, false, cond, not, ◌&&◌, List, [], ◌∷◌, Option, None, Some, slice_index_or, slice_set, nat_eq, nat_lt}
 use Rattle.std.specs.List.{sum_by}
 use Rattle.std.specs.FinMap as map
 use Rattle.rev_classes.specs.Sizes.{class_from}
 use Rattle.rev_items.specs.Plain.{PlainItem}
 use Rattle.rev_items.specs.Rules.{footprint_of, is_past}
-use Rattle.rev_model.specs.Chunk.{same_chunk, same_entry}
+use Rattle.rev_model.specs.Chunk.{same_entry}
 use Rattle.rev_model.specs.Lists.{has, without}
-use Rattle.rev_model.specs.State.{State, Fixed, Contents, free_of, queue_of, queue_place, counter_of, counter_place, owner_of, item_at, find, per_page}
+use Rattle.rev_model.specs.State.{State, Fixed, Contents, free_of, queue_of, queue_place, counter_of, counter_place, item_at}
 use Rattle.rev_model.specs.declared.ChunkRef.{ChunkRef}
 use Rattle.rev_model.specs.declared.Entry.{Entry}
 use Rattle.rev_model.specs.declared.Entry.TheVariants.{Chunk, Mark}
