@@ -226,6 +226,10 @@ LiftReady p c n Fresh s = (p + 1 ≡ length s.owner) × (take n (free_of s c) �
 LiftReady p c n Pool s = (p < length s.owner) × (take n (free_of s c) ≡ falling p n)
 LiftReady p c n Withdrawn s = p < length s.owner
 
+-- the chunk stands in a queue
+abbrev pub StandsInQueue : State → ChunkRef → Type 0
+StandsInQueue s x = (c : ℕ) × (q : Queue) × (has same_entry (Chunk x) (queue_of s c q) ≡ true)
+
 -- what a move takes or exchanges is there, and what it puts is not
 abbrev pub Ready : Move → State → Type 0
 Ready (Takes (InFree c x)) s = (c < length s.free) × (has same_chunk x (free_of s c) ≡ true)
@@ -244,7 +248,7 @@ Ready (BumpsIn b) s = Unit {0}
 Ready BumpsBack s = 0 < length s.bump
 Ready BumpsOut s = 0 < length s.bump
 Ready (BumpsFront b) s = Unit {0}
-Ready (Shifts a b) s = (i : PlainItem) × (item_at s a ≡ Some i) × (find s i.key ≡ Some a) × (item_at s b ≡ None) × (stands s b ≡ 0)
+Ready (Shifts a b) s = (i : PlainItem) × (item_at s a ≡ Some i) × (find s i.key ≡ Some a) × (item_at s b ≡ None) × (stands s b ≡ 0) × StandsInQueue s a
 Ready (MarksIn set) s = (names_other 64 s set ≡ false) × NoMarks (names s set) 0 s.queues
 Ready (MarksOut set) s = (names_other 64 s set ≡ false) × EndMarks (names s set) 0 s.queues
 

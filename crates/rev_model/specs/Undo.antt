@@ -463,6 +463,13 @@ lacks-exchanged a b (e ∷ es) d = elim (cases_Bool (same_entry a e)) [
   | inr g ↦ rw (g, g) (lacks-exchanged a b es d)
 ]
 
+pub has-exchanged : (a b : Entry) (es : List Entry) → has same_entry a es ≡ true → has same_entry b (exchanged a b es) ≡ true
+has-exchanged a b [] h = absurd (false≢true h)
+has-exchanged a b (e ∷ es) h = elim (cases_Bool (same_entry a e)) [
+  | inl g ↦ rw (g, tells_entry.self b) refl
+  | inr g ↦ rw g (elim (cases_Bool (same_entry b e)) [ inl f ↦ rw f refl | inr f ↦ rw f (has-exchanged a b es (rw g at h)) ])
+]
+
 pub at_map : (f : List Entry → List Entry) → f [] ≡ [] → (ls : List (List Entry)) (p : ℕ) → slice_index_or (map_list f ls) p [] ≡ f (slice_index_or ls p [])
 at_map f e [] p = sym e
 at_map f e (l ∷ ls) zero = refl
@@ -491,7 +498,7 @@ pub differ : (a b : ChunkRef) → (a ≡ b → ⊥) → same_chunk a b ≡ false
 differ a b ne = elim (cases_Bool (same_chunk a b)) [ inl e ↦ absurd (ne (same_chunk-exact a b e)) | inr e ↦ e ]
 
 undo-shift : (s : State) → WellFormed s → (a b : ChunkRef) → Ready (Shifts a b) s → Undoes (Shifts a b) s
-undo-shift s well a b (i, e, there, none, out) =
+undo-shift s well a b (i, e, there, none, out, (c, q, stood)) =
     let ne : a ≡ b → ⊥ = apart_by_item s a b i e none in
     let t = shifted a b s in
     let gone : (p : ℕ) → has same_entry (Chunk b) (slice_index_or s.queues p []) ≡ false = in_no_queue s b out in
@@ -509,7 +516,7 @@ undo-shift s well a b (i, e, there, none, out) =
     record {
       back = λ j. record s { queues = table_back (Chunk a) (Chunk b) s.queues gone j; content = carried-back s.content a b ne none j; index = back_index j };
       same = refl;
-      ready = (i, got, ap (λ m. map.get m i.key) index ∙ get-put_at_same nat_list_cmp_total (map.slice_cmp-IsAntisymmetric map.nat_cmp-IsAntisymmetric) s.index i.key (Some b), carried_from s.content a b ne, omega (arith, free, queues));
+      ready = (i, got, ap (λ m. map.get m i.key) index ∙ get-put_at_same nat_list_cmp_total (map.slice_cmp-IsAntisymmetric map.nat_cmp-IsAntisymmetric) s.index i.key (Some b), carried_from s.content a b ne, omega (arith, free, queues), (c, q, ap (has same_entry (Chunk b)) (at_map (exchanged (Chunk a) (Chunk b)) refl s.queues (queue_place c q)) ∙ has-exchanged (Chunk a) (Chunk b) (queue_of s c q) stood));
     }
 
 -- marks
