@@ -5,3 +5,4 @@ pub mod RawLine
 pub mod DataBlock
 pub mod Line
 pub mod Lines
+pub mod FromRead

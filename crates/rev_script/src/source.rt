@@ -60,8 +60,13 @@ pub struct FromRead<R> {
 }
 
 impl<R: Read> FromRead<R> {
+    ghost use Rattle.rev_script.specs.FromRead.{reader_in, last_read};
+    ghost use Rattle.rev_script.specs.declared.source.LastRead.{LastRead};
+
+    /// A source that has read nothing yet.
     pub fn new(reader: R) -> FromRead<R>
-        ensures { result.reader ≡ reader }
+        ensures reader { reader_in result ≡ reader }
+        ensures last { last_read result ≡ LastRead.Gave }
     {
         FromRead {
             reader,

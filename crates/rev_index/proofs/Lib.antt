@@ -1,0 +1,6 @@
+pub mod ItemTables
+pub mod Steps
+pub mod Maps
+pub mod Kept
+pub mod Moves
+pub mod Fills

@@ -1,0 +1,8 @@
+use Rattle.std.proofs.Common.{◌∙◌, ap, fold, arith}
+use Rattle.std.proofs.lemmas.List.{take_all}
+use Rattle.rev_index.specs.Hash.{hash_of, hash_step}
+use Rattle.rev_index.proofs.hash.hash.Goals as goal
+
+pub returns : goal.returns
+unfolding hash_of
+returns c = c.loop-byte.invariant ∙ ap (fold hash_step 14695981039346656037) (take_all c.loop-byte.byte-index c.args.bytes.now (omega arith))

@@ -1,0 +1,4 @@
+pub mod Made
+pub mod Hash
+pub mod Chains
+pub mod Index

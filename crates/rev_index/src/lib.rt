@@ -1,0 +1,15 @@
+//! The items of chunks and the chunk of each key: hash chains that run through the slots of pages. After `open` only
+//! `slots` takes memory.
+#![tactic(auto)]
+
+mod chains;
+mod hash;
+mod index;
+mod item_table;
+mod making;
+mod parts;
+mod seek;
+
+pub use index::Index;
+pub use making::slots;
+pub use parts::Slots;

@@ -1,0 +1,9 @@
+pub mod Bridges
+pub mod Tables
+pub mod Chains
+pub mod Steps
+pub mod Owners
+pub mod Exchange
+pub mod Carving
+pub mod Lifting
+pub mod Opening

@@ -1,0 +1,4 @@
+pub mod Tables
+pub mod State
+pub mod Opened
+pub mod Lays

@@ -1,0 +1,75 @@
+-- The pages as plain lists, and when links stand for them.
+use Rattle.std.specs.Prelude.{◌≡◌, ℕ, ◌∷◌, ◌++◌, ◌<◌, ◌≤◌, List, [], length, map, take, replicate, slice_index, slice_index_or, slice_set}
+use Rattle.std.specs.List.{range_with_len}
+use Rattle.rev_links.specs.declared.places.Place.TheVariants.{End}
+use Rattle.rev_links.specs.Rings.{walk, Path, In}
+use Rattle.rev_model.specs.declared.ChunkRef.{ChunkRef}
+use Rattle.rev_model.specs.Move.{falling}
+use Rattle.rev_pages.specs.declared.places.FreeList.{FreeList}
+use Rattle.rev_pages.specs.Tables.{FreeLink, next_in, previous_in}
+
+-- what callers see
+pub record PagesState : Type 0 where
+  -- page to class, 0 for the pool
+  pub owner : List ℕ
+  -- class to free chunks, front first
+  pub free : List (List ChunkRef)
+  -- place of the page table to the number of its slots, 0 where no page is
+  pub slots : List ℕ
+
+-- no page made, so many empty free lists, room for so many pages
+abbrev pub no_pages : ℕ → ℕ → PagesState
+no_pages lists places = record { owner = []; free = replicate lists []; slots = replicate places 0 }
+
+abbrev pub free_of : PagesState → ℕ → List ChunkRef
+free_of s c = slice_index_or s.free c []
+
+abbrev pub with_free : PagesState → ℕ → List ChunkRef → PagesState
+with_free s c xs = record s { free = slice_set s.free c xs }
+
+-- x stands in no free list
+abbrev pub IsNowhere : PagesState → ChunkRef → Type 0
+IsNowhere s x = (c : ℕ) → In x (free_of s c) → ⊥
+
+-- more than all chunks that two 16-bit numbers can name
+unfoldable pub all_chunks : ℕ
+all_chunks = 4294967296
+
+-- the members that are met from the end of a class's list on
+unfoldable pub chain : List FreeLink → List (List FreeLink) → FreeList → List ChunkRef
+chain ends links c = walk (next_in ends links) all_chunks (End c)
+
+abbrev pub chains : List FreeLink → List (List FreeLink) → List (List ChunkRef)
+chains ends links = map (λ n. chain ends links (record { class = n })) (range_with_len 0 (length ends))
+
+-- of the owners the first `made` count
+abbrev pub state_of : List ℕ → ℕ → List FreeLink → List (List FreeLink) → PagesState
+state_of owners made ends links = record { owner = take made owners; free = chains ends links; slots = map length links }
+
+-- every free list runs through the links in both directions
+pub record IsLinked (owners : List ℕ) (made : ℕ) (ends : List FreeLink) (links : List (List FreeLink)) : Type 0 where
+  pub ring : (c : FreeList) → c.class < length ends → Path (next_in ends links) (previous_in ends links) (End c) (chain ends links c) (End c)
+  pub owned : length owners ≡ length links
+  pub made_within : made ≤ length owners
+  pub classes : length ends ≤ 65536
+  pub pages : length links < 65536
+  pub slots_below : (p : ℕ) → slice_index (map length links) p ≤ 65535
+
+-- the chunks of a page in front of a list, the highest slot first
+abbrev pub carved : ℕ → ℕ → List ChunkRef → List ChunkRef
+carved page n xs = falling page n ++ xs
+
+-- a page gets n slots and an owner: the page is the next number, or it was there
+abbrev pub with_new_page : PagesState → ℕ → ℕ → ℕ → PagesState
+with_new_page s page c n = record s { owner = s.owner ++ c ∷ []; slots = slice_set s.slots page n }
+
+abbrev pub with_page : PagesState → ℕ → ℕ → ℕ → PagesState
+with_page s page c n = record s { owner = slice_set s.owner page c; slots = slice_set s.slots page n }
+
+-- the last page goes
+abbrev pub without_last_page : PagesState → ℕ → PagesState
+without_last_page s page = record s { owner = take page s.owner; slots = slice_set s.slots page 0 }
+
+-- no chunk of the page stands in a free list
+abbrev pub IsClear : PagesState → ℕ → Type 0
+IsClear s page = (x : ChunkRef) → x.page ≡ page → IsNowhere s x

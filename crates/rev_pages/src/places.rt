@@ -1,0 +1,13 @@
+use rev_links::{Link, Place};
+use rev_model::ChunkRef;
+
+/// The end of a class's free list: it stands before the first chunk and behind the last one.
+#[derive(Clone, Copy, PartialEq, Eq)]
+pub struct FreeList {
+    pub class: u16,
+}
+
+/// A place of a free list, and a place's neighbours in 12 bytes.
+pub type FreePlace = Place<FreeList, ChunkRef>;
+
+pub type FreeLink = Link<FreeList, ChunkRef>;
