@@ -47,7 +47,7 @@ impl<T: Drop, A: Allocator + Drop> Grid<T, A> {
         requires { IsSome (cell_at self.old page slot) }
         ensures { self.new ≡ with_cell self.old page slot value }
     {
-        let _old = self.replace(page, slot, value);
+        let _before = self.replace(page, slot, value);
     }
 }
 

@@ -182,6 +182,3 @@ uncarve_next s s₁ s₂ c page n k j xs m l e h f o w = uncarve_step s s₁ s�
 -- the whole list carved, in front of what stands there
 pub uncarve_start : (s : PagesState) (c page n : ℕ) (xs : List ChunkRef) → free_of s c ≡ carved page n xs → s ≡ with_free s c (carved page (n - 0) xs)
 uncarve_start s c page n xs e = sym (with_free_same s c) ∙ (ap (λ ys. with_free s c ys) e ∙ ap (λ i. with_free s c (carved page i xs)) (let q : n ≡ n - 0 = omega arith in q))
-
-pub uncarve_done : (s s' : PagesState) (c page n k : ℕ) (xs : List ChunkRef) → n ≤ k → s' ≡ with_free s c (carved page (n - k) xs) → s' ≡ with_free s c xs
-uncarve_done s s' c page n k xs l e = e ∙ ap (λ i. with_free s c (carved page i xs)) (let q : n - k ≡ 0 = omega (arith, l) in q)

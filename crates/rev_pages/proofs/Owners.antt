@@ -49,9 +49,6 @@ module _ (owners : List ℕ) (made : ℕ) (ends : List FreeLink) (links : List (
       let a : length (take made owners) ≡ length v.owner = ap (λ (q : PagesState). length q.owner) e in
       let b = length-take-le made owners h.made_within in omega arith
 
-  pub made_few : length v.owner < 65536
-  made_few = let a = made_count in let b = h.made_within in let c = h.owned in let d = h.pages in omega arith
-
   pub owner_within : (page : ℕ) → page < length v.owner → page < length owners
   owner_within page l = let a = made_count in let b = h.made_within in omega arith
 

@@ -1,50 +1,15 @@
 -- Reads and writes of the links of ends and chunks.
-use Rattle.std.proofs.Common.{◌≡◌, ◌≢◌, ℕ, suc, zero, ◌<◌, Option, Some, None, IsSome, List, [], ◌∷◌, length, get_or, set, slice_get, ◌⊎◌, inl, inr, refl, sym, ◌∙◌, ap, subst, arith, get_or-set_same, get_or-set_other, option_map, map}
-use Rattle.std.proofs.lemmas.Bool.{cases_eq, cases_lt}
-use Rattle.std.proofs.lemmas.List.{get_or_default, get_or_past, length-set, map-set, set-get_or}
+use Rattle.std.proofs.Common.{◌≡◌, ◌≢◌, ℕ, Option, Some, None, IsSome, List, length, set, ◌⊎◌, inl, inr, refl, sym, ◌∙◌, ap, subst, option_map, map}
+use Rattle.std.proofs.lemmas.Bool.{cases_eq}
+use Rattle.std.proofs.lemmas.List.{length-set}
 use Rattle.rev_links.specs.declared.places.Place.TheVariants.{End, At}
 use Rattle.rev_pages.specs.declared.places.FreeList.{FreeList}
 use Rattle.rev_model.specs.declared.ChunkRef.{ChunkRef}
 use Rattle.rev_links.proofs.Rings.{opened_by_writes}
 use Rattle.rev_links.specs.Grids.{cell_at, with_cell}
-use Rattle.rev_links.proofs.Grids.{cell_written, cell_other, sizes_written}
+use Rattle.rev_links.proofs.Grids.{cell_written, cell_other, sizes_written, some_within, slice_get-set_same, slice_get-set_other}
 use Rattle.rev_links.specs.Rings.{Joined, SetsNext, SetsPrevious, Between, Gap}
 use Rattle.rev_pages.specs.Tables.{FreePlace, FreeLink, link_at, next_in, previous_in, SameShape, Opens}
-
-pub some_within : {X : Type 0} (xs : List X) (i : ℕ) → IsSome (slice_get xs i) → i < length xs
-some_within [] i h = cc
-some_within (x ∷ xs) zero h = omega arith
-some_within (x ∷ xs) (suc i) h = let r = some_within xs i h in omega arith
-
-pub slice_get-set_same : {X : Type 0} (xs : List X) (i : ℕ) (v : X) → i < length xs → slice_get (set xs i v) i ≡ Some v
-slice_get-set_same [] i v h = absurd (omega arith)
-slice_get-set_same (x ∷ xs) zero v h = refl
-slice_get-set_same (x ∷ xs) (suc i) v h = slice_get-set_same xs i v (omega arith)
-
-pub slice_get-set_other : {X : Type 0} (xs : List X) (i j : ℕ) (v : X) → j ≢ i → slice_get (set xs i v) j ≡ slice_get xs j
-slice_get-set_other [] i j v h = refl
-slice_get-set_other (x ∷ xs) zero zero v h = absurd (h refl)
-slice_get-set_other (x ∷ xs) zero (suc j) v h = refl
-slice_get-set_other (x ∷ xs) (suc i) zero v h = refl
-slice_get-set_other (x ∷ xs) (suc i) (suc j) v h = slice_get-set_other xs i j v (λ e. h (omega arith))
-
--- a chunk that is there lies within its page
-within : (ends : List FreeLink) (links : List (List FreeLink)) (x : ChunkRef) (page : List FreeLink)
-    → page ≡ get_or links x.page page → x.page < length links → IsSome (link_at ends links (At x)) → x.slot < length page
-within ends links x page e l h =
-    some_within page x.slot (subst (λ p. IsSome (slice_get p x.slot)) (get_or_default links x.page [] page l ∙ sym e) h)
-
-page_there : (links : List (List FreeLink)) (x : ChunkRef) → IsSome (slice_get (get_or links x.page []) x.slot) → x.page < length links
-page_there links x h =
-    elim (cases_lt x.page (length links)) [ inl l ↦ l | inr l ↦ (let k : IsSome (slice_get {X = FreeLink} [] x.slot) = subst (λ p. IsSome (slice_get p x.slot)) (get_or_past links x.page [] l) h in cc) ]
-
--- the same at the numbers and the page that the code has
-pub within_page : (ends : List FreeLink) (links : List (List FreeLink)) (place : FreePlace) (x : ChunkRef) (p s : ℕ) (page : List FreeLink)
-    → place ≡ At x → p ≡ x.page → s ≡ x.slot → page ≡ get_or links p page → IsSome (link_at ends links place) → s < length page
-within_page ends links place x p s page u a b e h =
-    let h' : IsSome (link_at ends links (At x)) = subst (λ q. IsSome (link_at ends links q)) u h in
-    let r = within ends links x page (subst (λ n. page ≡ get_or links n page) a e) (page_there links x h') h' in
-    omega arith
 
 -- a write at an end
 end_written : (ends : List FreeLink) (links : List (List FreeLink)) (c : FreeList) (v : FreeLink) → IsSome (link_at ends links (End c))
@@ -56,29 +21,8 @@ end_others : (ends : List FreeLink) (links : List (List FreeLink)) (c : FreeList
 end_others ends links c v (End d) h = slice_get-set_other ends c.class d.class v (λ e. h (ap (λ n. End (record { class = n })) e))
 end_others ends links c v (At x) h = refl
 
--- a write at a chunk
-chunk_written : (ends : List FreeLink) (links : List (List FreeLink)) (x : ChunkRef) (page : List FreeLink) (v : FreeLink)
-    → page ≡ get_or links x.page page → x.page < length links → IsSome (link_at ends links (At x))
-    → link_at ends (set links x.page (set page x.slot v)) (At x) ≡ Some v
-chunk_written ends links x page v e l h =
-    subst (λ p. slice_get p x.slot ≡ Some v) (sym (get_or-set_same links x.page (set page x.slot v) [] l))
-    (slice_get-set_same page x.slot v (within ends links x page e l h))
-
 pub same_chunk_parts : (x y : ChunkRef) → x.page ≡ y.page → x.slot ≡ y.slot → x ≡ y
 same_chunk_parts x y a b = ap (λ n. record { page = n; slot = x.slot }) a ∙ ap (λ m. record { page = y.page; slot = m }) b
-
-chunk_others : (ends : List FreeLink) (links : List (List FreeLink)) (x : ChunkRef) (page : List FreeLink) (v : FreeLink)
-    → page ≡ get_or links x.page page → x.page < length links → (other : FreePlace) → other ≢ At x
-    → link_at ends (set links x.page (set page x.slot v)) other ≡ link_at ends links other
-chunk_others ends links x page v e l (End d) h = refl
-chunk_others ends links x page v e l (At y) h =
-    elim (cases_eq y.page x.page) [
-      | inl a ↦
-          let s : y.slot ≢ x.slot = λ b. h (ap At (same_chunk_parts y x a b)) in
-          subst (λ n. slice_get (get_or (set links x.page (set page x.slot v)) n []) y.slot ≡ slice_get (get_or links n []) y.slot) (sym a)
-          (rw get_or-set_same (slice_get-set_other page x.slot y.slot v s ∙ ap (λ p. slice_get p y.slot) (e ∙ get_or_default links x.page page [] l)))
-      | inr a ↦ ap (λ p. slice_get p y.slot) (get_or-set_other links x.page y.page (set page x.slot v) [] a)
-    ]
 
 -- what a write leaves, at the numbers and the page that the code has
 pub end_write : (ends ends' : List FreeLink) (links : List (List FreeLink)) (place : FreePlace) (c : FreeList) (n : ℕ) (v : FreeLink)
@@ -89,19 +33,6 @@ end_write ends ends' links place c n v u a e h =
     subst (λ q. (link_at ends' links q ≡ Some v) × ((other : FreePlace) → other ≢ q → link_at ends' links other ≡ link_at ends links other)) (sym u)
     (subst (λ es. (link_at es links (End c) ≡ Some v) × ((other : FreePlace) → other ≢ End c → link_at es links other ≡ link_at ends links other)) e'
     (end_written ends links c v (subst (λ q. IsSome (link_at ends links q)) u h), λ other k. end_others ends links c v other k))
-
-pub chunk_write : (ends : List FreeLink) (links : List (List FreeLink)) (place : FreePlace) (x : ChunkRef) (p s : ℕ) (page page' : List FreeLink) (v : FreeLink)
-    → place ≡ At x → p ≡ x.page → s ≡ x.slot → page ≡ get_or links p page → page' ≡ set page s v → IsSome (link_at ends links place)
-    → (link_at ends (set links p page') place ≡ Some v) × ((other : FreePlace) → other ≢ place → link_at ends (set links p page') other ≡ link_at ends links other)
-chunk_write ends links place x p s page page' v u a b e w h =
-    let h' : IsSome (link_at ends links (At x)) = subst (λ q. IsSome (link_at ends links q)) u h in
-    let l = page_there links x h' in
-    let e' : page ≡ get_or links x.page page = subst (λ n. page ≡ get_or links n page) a e in
-    let w' : set page x.slot v ≡ page' = subst (λ n. set page n v ≡ page') b (sym w) in
-    let w2 : set links x.page (set page x.slot v) ≡ set links p page' = subst (λ n. set links x.page (set page x.slot v) ≡ set links n page') (sym a) (ap (set links x.page) w') in
-    subst (λ q. (link_at ends (set links p page') q ≡ Some v) × ((other : FreePlace) → other ≢ q → link_at ends (set links p page') other ≡ link_at ends links other)) (sym u)
-    (subst (λ ss. (link_at ends ss (At x) ≡ Some v) × ((other : FreePlace) → other ≢ At x → link_at ends ss other ≡ link_at ends links other)) w2
-    (chunk_written ends links x page v e' l h', λ other k. chunk_others ends links x page v e' l other k))
 
 -- the same, by a write of a cell
 pub link_written : (ends : List FreeLink) (links links' : List (List FreeLink)) (place : FreePlace) (x : ChunkRef) (v : FreeLink) → place ≡ At x → links' ≡ with_cell links x.page x.slot v
@@ -120,25 +51,8 @@ link_others ends links links' place x v u e (At y) n =
 pub link_shape : (ends : List FreeLink) (links links' : List (List FreeLink)) (x : ChunkRef) (v : FreeLink) → links' ≡ with_cell links x.page x.slot v → SameShape ends links ends links'
 link_shape ends links links' x v e = record { same_ends = refl; same_sizes = ap (map length) e ∙ sizes_written links x.page x.slot v }
 
--- ---- shapes
-map_read : (links : List (List FreeLink)) (p : ℕ) (page : List FreeLink) → get_or (map length links) p (length page) ≡ length (get_or links p page)
-map_read [] p page = refl
-map_read (x ∷ xs) zero page = refl
-map_read (x ∷ xs) (suc p) page = map_read xs p page
-
 pub end_shape : (ends ends' : List FreeLink) (links : List (List FreeLink)) (n : ℕ) (v : FreeLink) → ends' ≡ set ends n v → SameShape ends links ends' links
 end_shape ends ends' links n v e = record { same_ends = ap length e ∙ length-set ends n v; same_sizes = refl }
-
-pub chunk_shape : (ends : List FreeLink) (links : List (List FreeLink)) (p s : ℕ) (page page' : List FreeLink) (v : FreeLink)
-    → page ≡ get_or links p page → page' ≡ set page s v → SameShape ends links ends (set links p page')
-chunk_shape ends links p s page page' v e w =
-    record {
-      same_ends = refl;
-      same_sizes =
-          map-set length links p page'
-          ∙ ap (set (map length links) p) (ap length w ∙ length-set page s v ∙ ap length e ∙ sym (map_read links p page))
-          ∙ set-get_or (map length links) p (length page);
-    }
 
 pub shape_trans : (e₀ e₁ e₂ : List FreeLink) (s₀ s₁ s₂ : List (List FreeLink)) → SameShape e₀ s₀ e₁ s₁ → SameShape e₁ s₁ e₂ s₂ → SameShape e₀ s₀ e₂ s₂
 shape_trans e₀ e₁ e₂ s₀ s₁ s₂ h k = record { same_ends = k.same_ends ∙ h.same_ends; same_sizes = k.same_sizes ∙ h.same_sizes }
@@ -148,13 +62,6 @@ pub some_at_next : (ends : List FreeLink) (links : List (List FreeLink)) (p q : 
 some_at_next ends links p q h = go (link_at ends links p) h
   where
     go : (o : Option FreeLink) → option_map (λ (l : FreeLink). l.next) o ≡ Some q → IsSome o
-    go None k = cc
-    go (Some l) k = refl
-
-pub some_at_previous : (ends : List FreeLink) (links : List (List FreeLink)) (p q : FreePlace) → previous_in ends links p ≡ Some q → IsSome (link_at ends links p)
-some_at_previous ends links p q h = go (link_at ends links p) h
-  where
-    go : (o : Option FreeLink) → option_map (λ (l : FreeLink). l.previous) o ≡ Some q → IsSome o
     go None k = cc
     go (Some l) k = refl
 

@@ -60,7 +60,7 @@ impl<A: Allocator> Model for Pages<A> {
 }
 
 impl<A: Allocator> Pages<A> {
-    /// How many pages are made. They are numbered from 0.
+    /// How many pages are made, below 65536. They are numbered from 0 in the order in which they were made.
     pub fn made(&self) -> usize
         ensures made { result ≡ length self.now.owner }
         ensures within { result < 65536 }
@@ -68,7 +68,7 @@ impl<A: Allocator> Pages<A> {
         usize::from(self.made)
     }
 
-    /// The class that a page belongs to, 0 where it is in the page pool.
+    /// The slab class that a page belongs to, 0 where it is in the page pool.
     pub fn owner(&self, page: usize) -> usize
         requires { page < length self.now.owner }
         ensures { result ≡ slice_index self.now.owner page }
@@ -76,7 +76,7 @@ impl<A: Allocator> Pages<A> {
         usize::from(self.owners[page])
     }
 
-    /// The lowest page that belongs to a class; 0 is the page pool.
+    /// The lowest page that belongs to a class, where class 0 is the page pool.
     pub fn lowest_page(&self, class: usize) -> Option<u16>
         ensures { result ≡ page_from 0 class self.now.owner }
     {
@@ -88,7 +88,7 @@ impl<A: Allocator> Pages<A> {
         None
     }
 
-    /// Whether a class owns a page.
+    /// Whether a page belongs to a class.
     pub fn owns_page(&self, class: usize) -> bool
         ensures { result ≡ list_any (λ owner. nat_eq owner class) self.now.owner }
     {
@@ -121,7 +121,7 @@ impl<A: Allocator> Pages<A> {
         chunk_at(self.table.link(Place::At(chunk), ticks).next)
     }
 
-    /// Takes a chunk out of a class's free list, and tells the one that stood before it.
+    /// Takes a chunk out of a class's free list, and tells the one that stood before it, none where it was in front.
     pub fn take<L: Ledger>(
         &mut self,
         class: usize,

@@ -1,0 +1,9 @@
+-- The tables of a store without pages.
+use Rattle.std.specs.Prelude.{◌≡◌, ◌<◌, Some, List, length, slice_get}
+use Rattle.rev_links.specs.declared.places.Place.TheVariants.{End}
+use Rattle.rev_queues.specs.declared.members.QueueId.{QueueId}
+use Rattle.rev_queues.specs.Positions.{PositionLink}
+
+-- each end stands before and behind itself
+abbrev pub AreEnds : List PositionLink → Type 0
+AreEnds ends = (q : QueueId) → q.number < length ends → slice_get ends q.number ≡ Some (record { previous = End q; next = End q })

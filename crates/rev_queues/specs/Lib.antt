@@ -1,0 +1,4 @@
+pub mod Entries
+pub mod Positions
+pub mod QueueState
+pub mod Empty
