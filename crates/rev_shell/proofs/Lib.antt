@@ -1,0 +1,4 @@
+pub mod Plays
+pub mod Walk
+pub mod Shows
+pub mod Runs

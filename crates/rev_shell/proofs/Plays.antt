@@ -1,0 +1,46 @@
+-- How a play ends, by the limits of the tree.
+use Rattle.std.proofs.Common.{◌≡◌, ℕ, ◌<◌, ◌&&◌, Bool, true, false, length, nat_eq, nat_lt, refl, arith}
+use Rattle.std.proofs.lemmas.Bool.Decides.{nat_tests}
+use Rattle.rev_model.specs.Actor.{Step}
+use Rattle.rev_undotree.specs.Steps.{outcome_of}
+use Rattle.rev_undotree.specs.Machine.{nesting_below}
+use Rattle.rev_undotree.specs.Positions.{SessionState}
+use Rattle.rev_shell.specs.Answers.{state_of, is_full, is_too_deep, reply}
+use Rattle.rev_shell.specs.declared.play.Reply.TheVariants.{Played, TooManyNodes, TooDeep}
+
+not_true : (b : Bool) → (b ≡ true → ⊥) → b ≡ false
+not_true true h = absurd (h refl)
+not_true false h = refl
+
+both_true : (a b : Bool) → (a && b) ≡ true → (a ≡ true) × (b ≡ true)
+both_true true b e = (refl, e)
+both_true false b e = absurd (cc)
+
+lt_true : (a b : ℕ) → nat_lt a b ≡ true → a < b
+lt_true a b e = grind (arith, nat_tests)
+
+eq_true : (a b : ℕ) → nat_eq a b ≡ true → a ≡ b
+eq_true a b e = grind (arith, nat_tests)
+
+pub reply-many : (m : SessionState) (e : Step) → length m.rows ≡ 1048576 → TooManyNodes ≡ reply m e
+unfolding reply
+reply-many m e h =
+    let t : is_full m ≡ true = grind (arith, nat_tests) in
+    rw t refl
+
+pub reply-deep : (m : SessionState) (e : Step) → length m.rows < 1048576 → 64 < nesting_below m.rows m.current → TooDeep ≡ reply m e
+unfolding reply
+reply-deep m e h d =
+    let t : is_full m ≡ false = grind (arith, nat_tests) in
+    let a : nat_lt (length m.rows) 1048576 ≡ true = grind (arith, nat_tests) in
+    let b : nat_lt 64 (nesting_below m.rows m.current) ≡ true = grind (arith, nat_tests) in
+    rw (t, a, b) refl
+
+pub reply-played : (m : SessionState) (e : Step) → (length m.rows ≡ 1048576 → ⊥) → ((length m.rows < 1048576) × (64 < nesting_below m.rows m.current) → ⊥) → Played (outcome_of (state_of m) e) ≡ reply m e
+unfolding reply
+reply-played m e full deep =
+    let t : is_full m ≡ false = not_true (is_full m) (λ h. full (eq_true (length m.rows) 1048576 h)) in
+    let d : is_too_deep m ≡ false = not_true (is_too_deep m) (λ h.
+    let w = both_true (nat_lt (length m.rows) 1048576) (nat_lt 64 (nesting_below m.rows m.current)) h in
+    deep (lt_true (length m.rows) 1048576 w.0, lt_true 64 (nesting_below m.rows m.current) w.1)) in
+    rw (t, d) refl

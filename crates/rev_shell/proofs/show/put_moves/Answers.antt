@@ -1,0 +1,18 @@
+use Rattle.std.proofs.Common.{◌++◌, codes, ◌∙◌, ap}
+use Rattle.std.proofs.lemmas.Result.{IfOk-equal}
+use Rattle.rev_model.specs.State.{counter_of}
+use Rattle.rev_model.specs.declared.Counter.TheVariants.{MovesToCold, MovesToWarm, MovesWithinLru}
+use Rattle.rev_shell.specs.Texts.{counter_text}
+use Rattle.rev_shell.proofs.Shows.{three}
+use Rattle.rev_shell.proofs.show.put_moves.Goals as goal
+
+pub returns : goal.returns
+returns g c =
+    let s = c.args.store.now in
+    let k = c.args.class in
+    let cold = counter_text (codes "moves_to_cold") (counter_of s k MovesToCold) in
+    let warm = counter_text (codes "moves_to_warm") (counter_of s k MovesToWarm) in
+    let lru = counter_text (codes "moves_within_lru") (counter_of s k MovesWithinLru) in
+    IfOk-equal _ _ _ _ c.put_counter-3.ensures
+    (ap (λ t. t ++ lru) (c.in_ok-put_counter-2.ensures ∙ ap (λ t. t ++ warm) c.in_ok-put_counter.ensures)
+    ∙ three c.args.answer.now.items cold warm lru)

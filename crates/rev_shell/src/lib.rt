@@ -1,0 +1,8 @@
+//! Scripts run against a session: what is written is a function of what is read.
+#![tactic(auto)]
+
+pub mod answer;
+pub mod play;
+pub mod run;
+pub mod show;
+pub mod text;

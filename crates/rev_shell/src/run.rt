@@ -1,0 +1,161 @@
+//! A script from a reader, its answers to a writer.
+ghost use Rattle.std.specs.Prelude.{[], ◌≡◌, ◌≤◌, ◌<◌, ◌+◌, ◌^◌, ℕ, List, length, Some, None, IfOk, IfErr, IfSome, OnOk, Option};
+ghost use Rattle.rev_classes.specs.Limits.{IsWithinLimits};
+ghost use Rattle.rev_script.specs.ByteReader.{given, in_piece, identity};
+ghost use Rattle.rev_script.specs.Lines.{bytes_of, fault_of as line_fault};
+ghost use Rattle.rev_script.specs.Line.{view};
+ghost use Rattle.rev_shell.specs.Run.{IsDone, IsStopped, run_fault, initial};
+ghost use Rattle.rev_shell.specs.Answers.{answer, after};
+
+use crate::answer::put_answer;
+use rev_classes::Config;
+use rev_inverse::Store;
+use rev_output::{Sink, write_all};
+use rev_script::byte_reader::LineFault;
+use rev_script::line::Line;
+use rev_script::lines::Lines;
+use rev_script::source::Source;
+use rev_undotree::session::Session;
+use std::alloc::{AllocError, Allocator};
+use thiserror::Error;
+
+/// What a run did that read all of its input.
+#[derive(Clone, Copy, Debug, PartialEq, Eq)]
+pub struct Summary {
+    /// Command lines, malformed ones too.
+    pub lines: u64,
+    /// Steps that were played and not refused.
+    pub plays: u64,
+}
+
+/// Why a run ended before its input.
+#[derive(Clone, Copy, Debug, PartialEq, Eq, Drop, Error)]
+pub enum RunFault {
+    /// There was no memory for this line, counted from 1, or for the session, which is line 0.
+    #[error("out of memory")]
+    Memory { line: u64 },
+    #[error("cannot read")]
+    Read,
+    #[error("cannot write")]
+    Write,
+    /// The script has more than 4294967296 bytes.
+    #[error("input too long")]
+    TooLong,
+}
+
+fn fault_at(fault: LineFault, line: u64) -> RunFault
+    ensures { result ≡ run_fault fault line }
+{
+    match fault {
+        LineFault::Memory => RunFault::Memory { line },
+        LineFault::Read => RunFault::Read,
+        LineFault::TooLong => RunFault::TooLong,
+    }
+}
+
+// Does what a line asks for; the answer is then in `text` and nothing else.
+fn answer_line<A: Allocator + Clone>(
+    session: &mut Session<A>,
+    line: Line<A>,
+    text: &mut Vec<u8, A>,
+) -> Result<(), AllocError>
+    ensures text { OnOk result (text.new.items ≡ answer session.old (view line)) }
+    ensures session { OnOk result (session.new ≡ after session.old (view line)) }
+{
+    text.clear();
+    put_answer(session, line, text)
+}
+
+/// Plays the lines, and writes each answer once the line is done. `text` holds one answer at a time.
+pub fn run_lines<S: Source, K: Sink, A: Allocator + Clone>(
+    lines: &mut Lines<S, A>,
+    session: &mut Session<A>,
+    text: &mut Vec<u8, A>,
+    sink: &mut K,
+) -> Result<Summary, RunFault>
+    requires no_fault { line_fault lines.old ≡ None }
+    requires fresh { in_piece (bytes_of lines.old) ≡ [] }
+    requires none_given { given (bytes_of lines.old) ≡ 0 }
+    ensures ok { IfOk result (λ sum. IsDone (S.told (bytes_of lines.old).source).remaining (S.told (bytes_of lines.new).source).remaining (S.told (bytes_of lines.new).source).last
+        (K.contents sink.old) (K.contents sink.new) session.old sum) }
+    ensures err { IfErr result (λ e. IsStopped (S.told (bytes_of lines.old).source).remaining (S.told (bytes_of lines.new).source).remaining (S.told (bytes_of lines.new).source).last (K.has_failed sink.new)
+        (K.contents sink.old) (K.contents sink.new) session.old e) }
+    ensures same { identity S.told (bytes_of lines.new) ≡ identity S.told (bytes_of lines.old) }
+{
+    let mut count: u64 = 0;
+    'lines: loop {
+        let next = match lines.next() {
+            Err(fault) => return Err(fault_at(fault, count + 1)),
+            Ok(next) => next,
+        };
+        let line = match next {
+            None => {
+                return Ok(Summary {
+                    lines: count,
+                    plays: session.issued() as u64,
+                });
+            }
+            Some(line) => line,
+        };
+        match answer_line(session, line, text) {
+            Err(_) => return Err(RunFault::Memory { line: count + 1 }),
+            Ok(()) => {}
+        }
+        match write_all(sink, text.as_slice()) {
+            Err(_) => return Err(RunFault::Write),
+            Ok(()) => {}
+        }
+        count += 1;
+    }
+}
+
+fn two_handles<A: Allocator + Clone>(alloc: &A) -> Result<(A, A), AllocError> {
+    Ok((alloc.clone()?, alloc.clone()?))
+}
+
+// The session that a run begins with; no answer where there is no memory.
+fn open_session<A: Allocator + Clone>(alloc: &A, config: &Config) -> Option<Session<A>>
+    requires { IsWithinLimits config.now }
+    ensures { IfSome result (λ session. session ≡ initial config.entry.now) }
+{
+    let Ok((alloc, other)) = two_handles(alloc) else {
+        return None;
+    };
+    let Ok(store) = Store::open(alloc, *config) else {
+        return None;
+    };
+    let Ok(session) = Session::open(other, store) else {
+        return None;
+    };
+    Some(session)
+}
+
+/// Runs the script that the reader gives on an empty store, and writes its answers. The answer of a
+/// line is written once all its steps are done.
+pub fn run<S: Source, K: Sink, A: Allocator + Clone>(
+    alloc: &A,
+    config: &Config,
+    reader: &mut S,
+    sink: &mut K,
+) -> Result<Summary, RunFault>
+    requires { IsWithinLimits config.now }
+    ensures ok { IfOk result (λ sum. IsDone (S.told reader.old).remaining (S.told reader.new).remaining (S.told reader.new).last
+        (K.contents sink.old) (K.contents sink.new) (initial config.entry.now) sum) }
+    ensures err { IfErr result (λ e. IsStopped (S.told reader.old).remaining (S.told reader.new).remaining (S.told reader.new).last (K.has_failed sink.new)
+        (K.contents sink.old) (K.contents sink.new) (initial config.entry.now) e) }
+{
+    let Some(mut session) = open_session(alloc, config) else {
+        return Err(RunFault::Memory { line: 0 });
+    };
+    let Ok((handle, other)) = two_handles(alloc) else {
+        return Err(RunFault::Memory { line: 0 });
+    };
+    let mut lines = Lines::over(handle, reader);
+    let mut text = Vec::new(other);
+    let ended = run_lines(&mut lines, &mut session, &mut text, sink);
+    let _reader = lines.into_source();
+    match ended {
+        Err(e) => Err(e),
+        Ok(sum) => Ok(sum),
+    }
+}
