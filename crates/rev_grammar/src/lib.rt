@@ -4,10 +4,10 @@
 //! [`line::asked`], which says what a line asks for, or how it is answered where it is malformed.
 #![tactic(auto)]
 
-pub mod actor;
-pub mod client;
+mod actor;
+mod client;
 pub mod command;
-pub mod debug;
+mod debug;
 pub mod line;
-pub mod number;
+mod number;
 pub mod words;

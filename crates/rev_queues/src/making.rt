@@ -6,24 +6,21 @@ use crate::parts::Slots;
 use rev_links::{Link, Place};
 use std::alloc::{AllocError, Allocator};
 
-// A link that leads nowhere yet.
-fn no_link() -> PositionLink {
-    let place = Place::End(QueueId { number: 0 });
-    Link {
-        previous: place,
-        next: place,
-    }
-}
-
 /// So many slots of a page. This and `Queues::open` are all that takes memory; the only error is that there is none.
 pub fn slots<A: Allocator>(alloc: A, n: u16) -> Result<Slots<A>, AllocError>
     ensures { IfOk result (λ s. s ≡ n) }
 {
+    // of a chunk in no queue these say nothing
+    let queue = QueueId { number: 0 };
+    let place = Place::End(queue);
+    let link = Link {
+        previous: place,
+        next: place,
+    };
     let standing = Standing {
-        queue: QueueId { number: 0 },
+        queue,
         footprint: 0,
     };
-    let link = no_link();
     let cells = vec![in alloc; QueueSlot { link, standing }; usize::from(n)]?;
     Ok(Slots { cells })
 }
@@ -42,11 +39,4 @@ pub fn empty_ends<A: Allocator>(alloc: A, n: u16) -> Result<Vec<PositionLink, A>
         })?;
     }
     Ok(ends)
-}
-
-/// So many links of marks, each leading nowhere.
-pub fn no_marks<A: Allocator>(alloc: A, n: u16) -> Result<Vec<PositionLink, A>, AllocError>
-    ensures { IfOk result (λ v. length v.items ≡ n) }
-{
-    vec![in alloc; no_link(); usize::from(n)]
 }

@@ -10,7 +10,7 @@ ghost use Rattle.rev_queues.specs.Entries.{entries, footprints, queued_with, wit
 ghost use Rattle.rev_queues.specs.QueueState.{QueuesState, id_of, line, empty_queues, IsGone, StandsIn, IsClear};
 
 use crate::links::Links;
-use crate::making::{empty_ends, no_marks};
+use crate::making::empty_ends;
 use crate::members::{
     Member, QueueId, Standing, Tally, bytes_told, chunk_at, entry_at, member_in, position_in,
 };
@@ -247,10 +247,10 @@ impl<A: Allocator> Queues<A> {
         ensures queues { self.new.queues ≡ self.old.queues }
         ensures slots { self.new.slots ≡ slice_set self.old.slots page slots }
     {
-        let _links = &self.links;
         let Slots { cells } = slots;
         self.links.slots.lay(page, cells);
     }
+
     /// Takes the slots of a page out, of which none stands in a queue. It takes no memory.
     pub fn lift(&mut self, page: u16) -> Slots<A>
         requires there { 0 < slice_index self.old.slots page }
@@ -259,7 +259,6 @@ impl<A: Allocator> Queues<A> {
         ensures queues { self.new.queues ≡ self.old.queues }
         ensures slots { self.new.slots ≡ slice_set self.old.slots page 0 }
     {
-        let _links = &self.links;
         let cells = self.links.slots.lift(page);
         Slots { cells }
     }
@@ -269,6 +268,7 @@ impl<A: Allocator> Queues<A> {
         requires { queue_place class queue < length self.now.queues }
         ensures { result ≡ id_of class queue }
     {
+        // the tables bound the number
         let _links = &self.links;
         id_of(class, queue)
     }
@@ -296,7 +296,8 @@ impl<A: Allocator + Clone> Queues<A> {
     {
         let n = (4 * (table.last() + 1)) as u16;
         let ends = Cells::over(empty_ends(alloc.clone()?, n)?);
-        let marks = Cells::over(no_marks(alloc.clone()?, n)?);
+        // the link of a mark that is in no queue says nothing
+        let marks = Cells::over(empty_ends(alloc.clone()?, n)?);
         let tally = Tally {
             bytes: 0,
             count: 0,

@@ -7,8 +7,8 @@
 #![tactic(auto)]
 
 pub mod byte_reader;
-pub mod data_block;
+mod data_block;
 pub mod line;
 pub mod lines;
-pub mod raw_line;
+mod raw_line;
 pub mod source;

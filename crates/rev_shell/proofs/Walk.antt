@@ -1,8 +1,8 @@
 -- A list read entry by entry, each behind the one before.
-use Rattle.std.proofs.Common.{◌≡◌, ℕ, ◌+◌, ◌≤◌, Bool, true, false, cond, List, [], ◌∷◌, Option, None, Some, refl, ◌∙◌, ap, arith, inl, inr}
+use Rattle.std.proofs.Common.{slice_get, ◌≡◌, ℕ, ◌+◌, ◌≤◌, Bool, true, false, cond, List, [], ◌∷◌, Option, None, Some, refl, ◌∙◌, ap, arith, inl, inr}
 use Rattle.std.proofs.lemmas.Bool.{cases_Bool}
 use Rattle.rev_model.specs.Lists.{has, count}
-use Rattle.rev_inverse.specs.Reading.{next_after, head_of}
+use Rattle.rev_inverse.specs.Reading.{next_after}
 
 -- what stands behind an entry, or all where there is none
 abbrev pub rest_after : {X : Type 0} → (X → X → Bool) → Option X → List X → List X
@@ -10,7 +10,7 @@ rest_after same None xs = xs
 rest_after same (Some y) [] = []
 rest_after same (Some y) (x ∷ xs) = cond (same y x) xs (rest_after same (Some y) xs)
 
-pub next_after-rest : {X : Type 0} (same : X → X → Bool) (b : Option X) (xs : List X) → next_after same b xs ≡ head_of (rest_after same b xs)
+pub next_after-rest : {X : Type 0} (same : X → X → Bool) (b : Option X) (xs : List X) → next_after same b xs ≡ slice_get (rest_after same b xs) 0
 next_after-rest same None xs = refl
 next_after-rest same (Some y) [] = refl
 next_after-rest same (Some y) (x ∷ xs) = elim (cases_Bool (same y x)) [
@@ -19,11 +19,11 @@ next_after-rest same (Some y) (x ∷ xs) = elim (cases_Bool (same y x)) [
 ]
 
 -- the entry that is read next, with what is left behind it
-pub head-rest : {X : Type 0} (xs : List X) (e : X) → head_of xs ≡ Some e → (r : List X) × (xs ≡ e ∷ r)
+pub head-rest : {X : Type 0} (xs : List X) (e : X) → slice_get xs 0 ≡ Some e → (r : List X) × (xs ≡ e ∷ r)
 head-rest [] e h = absurd (cc)
 head-rest (x ∷ xs) e h = (xs, let p : x ≡ e = cc in ap (λ z. z ∷ xs) p)
 
-pub head-none : {X : Type 0} (xs : List X) → head_of xs ≡ None → xs ≡ []
+pub head-none : {X : Type 0} (xs : List X) → slice_get xs 0 ≡ None → xs ≡ []
 head-none [] h = refl
 head-none (x ∷ xs) h = absurd (cc)
 

@@ -15,7 +15,7 @@ use rev_grammar::command::{ActorCommand, DebugCommand, KeyQuery};
 use rev_inverse::Store;
 use rev_items::Key;
 use rev_script::line::{ClientLine, DebugLine, Line};
-use rev_undotree::session::Session;
+use rev_undotree::Session;
 use std::alloc::{AllocError, Allocator};
 
 // A client's line.

@@ -2,7 +2,7 @@
 #![tactic(auto)]
 
 pub mod answer;
-pub mod play;
+mod play;
 pub mod run;
-pub mod show;
-pub mod text;
+mod show;
+mod text;

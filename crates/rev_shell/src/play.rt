@@ -14,7 +14,7 @@ use rev_items::Key;
 use rev_model::Outcome;
 use rev_script::line::Payload;
 use rev_steps::{ClientStep, Step};
-use rev_undotree::session::{PlayFault, Played, Session};
+use rev_undotree::{PlayFault, Played, Session};
 use std::alloc::{AllocError, Allocator};
 
 /// How a play ended: with its step's outcome, or refused by a limit of the tree.

@@ -15,7 +15,7 @@ use rev_script::byte_reader::LineFault;
 use rev_script::line::Line;
 use rev_script::lines::Lines;
 use rev_script::source::Source;
-use rev_undotree::session::Session;
+use rev_undotree::Session;
 use std::alloc::{AllocError, Allocator};
 use thiserror::Error;
 

@@ -8,7 +8,7 @@ invariant_of-result g c =
     open_linked c.over-ends.result c.over-marks.result c.in_ok-slots.slots c.over-tallies.result (4 * (c.last.result + 1)) (c.args.config.now.pages + 62)
     (let w = c.last.ensures.within in omega arith) (let r = c.requires in omega arith)
     (ap length c.over-ends.ensures ∙ c.in_ok-empty_ends.ensures.count) (subst AreEnds (sym c.over-ends.ensures) c.in_ok-empty_ends.ensures.empty)
-    (ap length c.over-marks.ensures ∙ c.in_ok-no_marks.ensures)
+    (ap length c.over-marks.ensures ∙ c.in_ok-empty_ends-2.ensures.count)
     (c.over-tallies.ensures ∙ (c.in_ok-vec.ensures.items_if_clones_equal (λ y u. u) ∙ ap (λ n. replicate n no_tally) c.from.ensures)) c.in_ok-slots.ensures
 
 pub returns : goal.returns
@@ -16,6 +16,6 @@ returns g c =
     open_value c.over-ends.result c.over-marks.result c.in_ok-slots.slots c.over-tallies.result (4 * (c.last.result + 1)) (c.args.config.now.pages + 62)
     (let w = c.last.ensures.within in omega arith) (let r = c.requires in omega arith)
     (ap length c.over-ends.ensures ∙ c.in_ok-empty_ends.ensures.count) (subst AreEnds (sym c.over-ends.ensures) c.in_ok-empty_ends.ensures.empty)
-    (ap length c.over-marks.ensures ∙ c.in_ok-no_marks.ensures)
+    (ap length c.over-marks.ensures ∙ c.in_ok-empty_ends-2.ensures.count)
     (c.over-tallies.ensures ∙ (c.in_ok-vec.ensures.items_if_clones_equal (λ y u. u) ∙ ap (λ n. replicate n no_tally) c.from.ensures)) c.in_ok-slots.ensures
     (length c.args.table.now.sizes) c.args.config.now.pages (ap (λ n. 4 * (n + 1)) c.last.ensures.last) refl

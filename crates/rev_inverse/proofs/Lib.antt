@@ -1,0 +1,4 @@
+pub mod Fits
+pub mod Paging
+pub mod Marking
+pub mod Shifting

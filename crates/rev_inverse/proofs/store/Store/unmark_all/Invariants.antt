@@ -1,0 +1,7 @@
+use Rattle.std.proofs.Common.{◌≡◌}
+use Rattle.rev_model.specs.Move.{names, front}
+use Rattle.rev_inverse.proofs.Marking.{IsChangedBelow}
+use Rattle.rev_inverse.proofs.store.Store.unmark_all.Given as goal
+
+abbrev pub invariant-loop-place : goal.invariant-loop-place
+invariant-loop-place g l = (l.self ≡ record l.fn.self { queues = l.self.queues }) × IsChangedBelow front (names l.fn.self l.set) l.place l.fn.self.queues l.self.queues

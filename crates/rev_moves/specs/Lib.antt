@@ -1,0 +1,3 @@
+pub mod Record
+pub mod Seen
+pub mod Leads

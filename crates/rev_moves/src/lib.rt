@@ -1,0 +1,10 @@
+//! Moves of a store, each undone by a move, and the record of those that undo a step.
+#![tactic(auto)]
+
+mod moves;
+mod parts;
+mod record;
+
+pub use moves::Move;
+pub use parts::Parts;
+pub use record::Record;
