@@ -2,3 +2,4 @@ pub mod Fits
 pub mod Paging
 pub mod Marking
 pub mod Shifting
+pub mod Opened

@@ -1,2 +1,3 @@
 pub mod Fitted
 pub mod Reading
+pub mod Empty

@@ -1,15 +1,106 @@
-ghost use Rattle.std.specs.Prelude.{◌≡◌, IfOk};
+ghost use Rattle.std.specs.Prelude.{◌≡◌, ◌⊎◌, ◌≤◌, ℕ, ◌+◌, ◌*◌, IfOk, IfErr, None, Some, length};
+ghost use Rattle.rev_classes.specs.Limits.{class_sizes, fault_of};
+ghost use Rattle.rev_classes.specs.declared.ConfigFault.TheVariants.{Memory};
 ghost use Rattle.rev_model.specs.State.{per_page};
 ghost use Rattle.rev_model.specs.Places.{IsClass};
+ghost use Rattle.rev_model.specs.Sound.{Sound};
+ghost use Rattle.rev_pages.specs.State.{no_pages};
+ghost use Rattle.rev_queues.specs.QueueState.{empty_queues};
+ghost use Rattle.rev_index.specs.Index.{empty_index};
+ghost use Rattle.rev_inverse.specs.Empty.{empty_globals, empty_state};
 
 use crate::store::Store;
+use rev_classes::{ClassTable, Config, ConfigFault};
+use rev_index::Index;
+use rev_model::{Globals, Settings};
 use rev_moves::Parts;
+use rev_pages::Pages;
+use rev_queues::Queues;
 use std::alloc::{AllocError, Allocator};
+use std::collections::VecDeque;
+
+// How many counters each class has.
+const COUNTERS: usize = 7;
+
+// Clock, cas number, flush, mover and settings of a store that is opened (the shares and factors are memcached's own).
+fn first_globals(config: &Config) -> Globals
+    ensures { result ≡ empty_globals config.entry.now }
+{
+    let settings = Settings {
+        hot_share: 20,
+        warm_share: 40,
+        hot_factor: 200,
+        warm_factor: 2000,
+        temp_ttl: config.temp_ttl,
+    };
+    Globals {
+        clock: config.now,
+        last_cas: 0,
+        mark: 0,
+        flush: None,
+        mover: None,
+        settings,
+    }
+}
+
+// The three parts without pages.
+fn open_parts<A: Allocator + Clone>(
+    alloc: &A,
+    config: &Config,
+    table: &ClassTable,
+) -> Result<(Pages<A>, Queues<A>, Index<A>), AllocError>
+    requires pages { config.now.pages ≤ 4096 }
+    requires power { config.now.hash_power ≤ 20 }
+    ensures pages { IfOk result (λ p. p.0 ≡ no_pages (length table.entry.now.sizes + 1) (config.entry.now.pages + 62)) }
+    ensures queues { IfOk result (λ p. p.1 ≡ empty_queues (length table.entry.now.sizes) config.entry.now.pages) }
+    ensures index { IfOk result (λ p. p.2 ≡ empty_index (config.entry.now.pages + 62)) }
+{
+    let pages = Pages::open(alloc.clone()?, config, table)?;
+    let queues = Queues::open(alloc.clone()?, config, table)?;
+    let index = Index::open(alloc.clone()?, config, table)?;
+    Ok((pages, queues, index))
+}
 
 impl<A: Allocator + Clone> Store<A> {
-    /// The allocator of the store, once more.
-    pub fn alloc(&self) -> Result<A, AllocError> {
-        self.alloc.clone()
+    /// A store without pages and items. All that it will ever need is reserved here, but for the slots of pages, which
+    /// `parts` takes.
+    ///
+    /// The fault is the first limit that the configuration breaks, or `Memory` where there is no memory.
+    pub fn open(alloc: A, config: Config) -> Result<Store<A>, ConfigFault>
+        ensures ok { IfOk result (λ store. store ≡ empty_state config) }
+        ensures sound { IfOk result (λ store. Sound store) }
+        ensures limits { IfOk result (λ store. fault_of config ≡ None) }
+        ensures err { IfErr result (λ fault. (fault ≡ Memory) ⊎ (fault_of config ≡ Some fault)) }
+    {
+        let table = ClassTable::build(&config)?;
+        match Store::over(alloc, &config, table) {
+            Ok(store) => Ok(store),
+            Err(_) => Err(ConfigFault::Memory),
+        }
+    }
+
+    // The store over the table of its configuration.
+    fn over(alloc: A, config: &Config, table: ClassTable) -> Result<Store<A>, AllocError>
+        requires limits { fault_of config.now ≡ None }
+        requires table { table ≡ record { page_size = config.now.page_size; sizes = class_sizes config.now } }
+        ensures { IfOk result (λ store. store ≡ empty_state config.entry.now) }
+    {
+        let bump_room = config.bump as usize;
+        let bump = VecDeque::with_capacity(alloc.clone()?, bump_room)?;
+        let counters = vec![in alloc.clone()?; 0; COUNTERS * (table.last() + 1)]?;
+        let (pages, queues, index) = open_parts(&alloc, config, &table)?;
+        Ok(Store {
+            pages,
+            queues,
+            index,
+            bump,
+            counters,
+            globals: first_globals(config),
+            table,
+            page_limit: config.pages as usize,
+            bump_room,
+            alloc,
+        })
     }
 
     /// The slots for a page of a class, which `Move::Lay` takes. This and `open` are all that takes memory.
@@ -22,5 +113,10 @@ impl<A: Allocator + Clone> Store<A> {
         let queues = rev_queues::slots(self.alloc.clone()?, count)?;
         let index = rev_index::slots(self.alloc.clone()?, count)?;
         Ok(Parts::new(pages, queues, index))
+    }
+
+    /// The allocator of the store, once more.
+    pub fn alloc(&self) -> Result<A, AllocError> {
+        self.alloc.clone()
     }
 }

@@ -1,7 +1,7 @@
 //! The whole program.
-ghost use Rattle.std.specs.Prelude.{◌≡◌, Err, None, IfSome, MatchResult};
+ghost use Rattle.std.specs.Prelude.{◌≡◌, Err, IfSome, MatchResult};
 ghost use Rattle.std.specs.Io.KnownBytes.{Keeps};
-ghost use Rattle.rev_classes.specs.Limits.{fault_of};
+ghost use Rattle.rev_classes.specs.Limits.{IsWithinLimits, fault_of};
 ghost use Rattle.rev_program.specs.Program.{IsStatus};
 ghost use Rattle.rev_program.specs.Stop.{status, stop_of_config};
 
@@ -35,13 +35,13 @@ fn ended<E: Write>(done: Result<(), Stop>, errors: &mut E) -> u8
 // Runs the script of the reader, with all that the run keeps in `alloc`.
 fn run_in<A: Allocator + Clone, I: Read, O: Write + Drop>(
     alloc: &A,
-    config: Config,
+    config: &Config,
     reader: I,
     exchange: &Exchange<O>,
 ) -> Result<(), Stop>
 where
     I: Drop,
-    requires { fault_of config ≡ None }
+    requires { IsWithinLimits config.now }
 {
     let mut source = FromRead::new(reader);
     let mut sink = ToWrite::new(Outgoing::new(exchange));
@@ -75,7 +75,7 @@ pub fn run_script<I: Read + Drop, O: Write + Drop>(
     let Ok(incoming) = Incoming::new(alloc, reader, &exchange) else {
         return Err(Stop::Memory);
     };
-    run_in(&alloc, config, incoming, &exchange)
+    run_in(&alloc, &config, incoming, &exchange)
 }
 
 /// The whole program: does what the words behind its name ask for, and answers its exit status, 0, 2, 3 or 4.

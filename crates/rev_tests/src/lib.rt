@@ -1,0 +1,15 @@
+//! The tests that cross crates: worked scripts, cut input, failing readers and writers, the class table, the program's words.
+#![tactic(auto)]
+
+#[cfg(test)]
+mod classes;
+#[cfg(test)]
+mod programs;
+#[cfg(test)]
+mod rows;
+#[cfg(test)]
+mod scripts;
+#[cfg(test)]
+mod short_scripts;
+#[cfg(test)]
+mod streams;

@@ -1,0 +1,234 @@
+//! What the program writes where, and its status, for words and streams.
+use crate::streams::{Narrow, Stutter};
+use rev_program::program::program;
+use std::test::Fail;
+
+struct Case {
+    words: &'static [&'static str],
+    input: &'static [u8],
+    output: &'static str,
+    // The whole text on the standard error, or how it begins where the parser wrote it.
+    errors: &'static str,
+    status: u8,
+}
+
+static CASES: [Case; 14] = [
+    Case {
+        words: &["run"],
+        input: b"",
+        output: "",
+        errors: "",
+        status: 0,
+    },
+    Case {
+        words: &["run", "--pages", "+7", "--page-size=1024"],
+        input: b"set a 0 0 1\r\nx\r\n:pages\r\n",
+        output: "STORED\r\nPAGE 0 1\r\nEND\r\n",
+        errors: "",
+        status: 0,
+    },
+    Case {
+        words: &["run", "--now=7", "--temp-ttl=0"],
+        input: b":globals\n",
+        output: "GLOBALS now 7 cas 0 mark 0 flush - mover - bump 0\r\n",
+        errors: "",
+        status: 0,
+    },
+    Case {
+        words: &["run", "--page-size", "1001"],
+        input: b":at\r\n",
+        output: "",
+        errors: "lrudb: bad configuration: page\n",
+        status: 2,
+    },
+    Case {
+        words: &["run", "--num=1", "--den=1", "--now=0"],
+        input: b":at\r\n",
+        output: "",
+        errors: "lrudb: bad configuration: factor\n",
+        status: 2,
+    },
+    Case {
+        words: &["run", "--num=21", "--den=20"],
+        input: b":at\r\n",
+        output: "",
+        errors: "lrudb: bad configuration: classes\n",
+        status: 2,
+    },
+    Case {
+        words: &["run", "--now", "0"],
+        input: b":at\r\n",
+        output: "",
+        errors: "lrudb: bad configuration: limit\n",
+        status: 2,
+    },
+    Case {
+        words: &["run", "--pages", "1", "--pages", "2"],
+        input: b":at\r\n",
+        output: "",
+        errors: "error: the argument '--pages <COUNT>' cannot be used multiple times\n",
+        status: 2,
+    },
+    Case {
+        words: &["rum"],
+        input: b":at\r\n",
+        output: "",
+        errors: "error: unrecognized subcommand 'rum'\n",
+        status: 2,
+    },
+    Case {
+        words: &["run", "--page", "5"],
+        input: b":at\r\n",
+        output: "",
+        errors: "error: unexpected argument '--page' found\n",
+        status: 2,
+    },
+    Case {
+        words: &["run", "--pages", "x"],
+        input: b":at\r\n",
+        output: "",
+        errors: "error: invalid value 'x' for '--pages <COUNT>': ",
+        status: 2,
+    },
+    Case {
+        words: &["--help"],
+        input: b":at\r\n",
+        output: "",
+        errors: "Replays memcached's storage commands",
+        status: 2,
+    },
+    Case {
+        words: &["run", "--help"],
+        input: b":at\r\n",
+        output: "",
+        errors: "Runs a script from the standard input",
+        status: 2,
+    },
+    Case {
+        words: &[],
+        input: b":at\r\n",
+        output: "",
+        errors: "Replays memcached's storage commands",
+        status: 2,
+    },
+];
+
+#[test]
+fn words(rt: HostRuntime) -> Result<(), Fail> {
+    for case in &CASES {
+        let words = case.words;
+        let mut output: Vec<u8> = Vec::new(rt.alloc());
+        let mut errors: Vec<u8> = Vec::new(rt.alloc());
+        let status = program(rt.alloc(), words, case.input, &mut output, &mut errors);
+        let told = std::str::from_utf8(errors.as_slice()).unwrap_or("");
+        assert_eq!(rt; status, case.status, "{words:?}");
+        assert!(rt; output.as_slice() == case.output.as_bytes(), "{words:?}");
+        assert!(rt; told.starts_with(case.errors), "{words:?}: {told}");
+        if status == 2 && !case.errors.starts_with("lrudb") {
+            assert!(rt; told.ends_with('\n'), "{words:?}: {told}");
+        } else {
+            assert_eq!(rt; told, case.errors, "{words:?}");
+        }
+    }
+    Ok(())
+}
+
+// What each option is called, in the help of `run`.
+static OPTIONS: [&str; 8] = [
+    "--page-size <BYTES>",
+    "--pages <COUNT>",
+    "--num <NUMBER>",
+    "--den <NUMBER>",
+    "--bump <COUNT>",
+    "--hash-power <POWER>",
+    "--now <SECONDS>",
+    "--temp-ttl <SECONDS>",
+];
+
+#[test]
+fn help(rt: HostRuntime) -> Result<(), Fail> {
+    let mut output: Vec<u8> = Vec::new(rt.alloc());
+    let mut errors: Vec<u8> = Vec::new(rt.alloc());
+    let status = program(
+        rt.alloc(),
+        &["run", "-h"],
+        b"".as_slice(),
+        &mut output,
+        &mut errors,
+    );
+    let told = std::str::from_utf8(errors.as_slice()).unwrap_or("");
+    assert_eq!(rt; status, 2);
+    for option in &OPTIONS {
+        assert!(rt; told.contains(*option), "{option}: {told}");
+    }
+    Ok(())
+}
+
+struct Faulty {
+    fails: bool,
+    most: usize,
+    output: &'static str,
+    errors: &'static str,
+    status: u8,
+}
+
+static FAULTS: [Faulty; 4] = [
+    Faulty {
+        fails: false,
+        most: 100,
+        output: "NODE 0\r\nERROR\r\n",
+        errors: "",
+        status: 0,
+    },
+    Faulty {
+        fails: true,
+        most: 100,
+        output: "NODE 0\r\nERROR\r\n",
+        errors: "lrudb: cannot read\n",
+        status: 4,
+    },
+    Faulty {
+        fails: false,
+        most: 3,
+        output: "NOD",
+        errors: "lrudb: cannot write\n",
+        status: 4,
+    },
+    // The answers are due when a read fails: what could not be done first was the write.
+    Faulty {
+        fails: true,
+        most: 9,
+        output: "NODE 0\r\nE",
+        errors: "lrudb: cannot write\n",
+        status: 4,
+    },
+];
+
+#[test]
+fn faulty_streams(rt: HostRuntime) -> Result<(), Fail> {
+    for case in &FAULTS {
+        let (fails, most) = (case.fails, case.most);
+        let reader = Stutter {
+            rest: b":at\r\nfrob\r\n",
+            is_interrupted: false,
+            fails,
+        };
+        let mut writer = Narrow {
+            bytes: Vec::new(rt.alloc()),
+            most,
+            fails: true,
+        };
+        let mut errors: Vec<u8> = Vec::new(rt.alloc());
+        let status = program(rt.alloc(), &["run"], reader, &mut writer, &mut errors);
+        assert_eq!(rt; status, case.status, "{fails} {most}");
+        assert!(rt;
+            writer.bytes.as_slice() == case.output.as_bytes(),
+            "{fails} {most}"
+        );
+        assert!(rt;
+            errors.as_slice() == case.errors.as_bytes(),
+            "{fails} {most}"
+        );
+    }
+    Ok(())
+}
