@@ -1,15 +1,15 @@
 -- What the parts keep stays so after each change of one of them.
-use Rattle.std.specs.Prelude.{ℕ, ◌≡◌, ◌+◌, ◌<◌, ◌≤◌, Bool, true, false, cond, List, [], ◌∷◌, Option, None, Some, length, slice_index, slice_index_or, slice_set, zero, suc, refl, ◌⊎◌, map as map_list}
+use Rattle.std.specs.Prelude.{ℕ, ◌≡◌, ◌+◌, ◌≤◌, true, false, cond, List, [], ◌∷◌, Option, None, Some, length, slice_index, slice_index_or, slice_set, zero, suc, refl, map as map_list}
 use Rattle.std.proofs.Common.{sym, ◌∙◌, ap, subst, arith, inl, inr}
-use Rattle.std.proofs.lemmas.Bool.{cases_Bool, false≢true, true≢false}
+use Rattle.std.proofs.lemmas.Bool.{cases_Bool, true≢false}
 use Rattle.std.specs.Option.{option_map}
 use Rattle.std.specs.FinMap as map
 use Rattle.std.specs.Ordering.{eq_by_cmp}
 use Rattle.rev_items.specs.Plain.{PlainItem}
 use Rattle.rev_links.specs.Rings.{In}
-use Rattle.rev_model.specs.Chunk.{same_chunk, same_entry, chunk_cmp, chunk_cmp_exact, chunk_cmp_total, HasSlot, EntryHasSlot}
+use Rattle.rev_model.specs.Chunk.{same_entry, chunk_cmp, chunk_cmp_exact, chunk_cmp_total, HasSlot, EntryHasSlot}
 use Rattle.rev_model.specs.Lists.{has}
-use Rattle.rev_model.specs.State.{State, Fixed, Contents, WellFormed, IsChunkOf, per_page, page_slots, queue_place}
+use Rattle.rev_model.specs.State.{State, Fixed, Contents, per_page, page_slots, queue_place}
 use Rattle.rev_model.specs.Move.{Possible, Fills, Puts, put_at, touched}
 use Rattle.rev_model.specs.Undo.{tells_entry, tied, get-put_at, in_no_queue}
 use Rattle.rev_model.specs.Words.{weight, size_of}

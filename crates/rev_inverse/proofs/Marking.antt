@@ -1,19 +1,17 @@
 -- The queues of some classes change at their ends, one queue after another.
-use Rattle.std.specs.Prelude.{ℕ, ◌≡◌, ◌+◌, ◌*◌, ◌/◌, ◌%◌, ◌<◌, ◌≤◌, Bool, true, false, cond, not, ◌&&◌, ◌||◌, List, [], ◌∷◌, ◌++◌, Option, None, Some, length, slice_index_or, slice_set, zero, suc, refl, ◌⊎◌, nat_eq, nat_le}
+use Rattle.std.specs.Prelude.{ℕ, ◌≡◌, ◌+◌, ◌/◌, ◌%◌, ◌<◌, ◌≤◌, Bool, true, false, cond, not, ◌&&◌, ◌||◌, List, [], ◌∷◌, ◌++◌, Option, length, slice_index_or, slice_set, zero, suc, refl}
 use Rattle.std.proofs.Common.{sym, ◌∙◌, ap, subst, arith, inl, inr}
-use Rattle.std.proofs.lemmas.Bool.{cases_Bool, cases_eq, false≢true, true≢false, and_parts, and_from, le-leb}
+use Rattle.std.proofs.lemmas.Bool.{cases_Bool, cases_eq, false≢true, true≢false}
 use Rattle.std.proofs.lemmas.List.{get_or-set_same, get_or-set_other, length-set}
 use Rattle.rev_model.specs.Chunk.{same_entry}
 use Rattle.rev_model.specs.Lists.{has, distinct, without, behind, insert, has_after}
-use Rattle.rev_model.specs.ListLaws.{Tells}
-use Rattle.rev_model.specs.State.{State, WellFormed, queue_of, queue_place, queue_number, last_class}
+use Rattle.rev_model.specs.State.{State, WellFormed, queue_of, queue_place, queue_number}
 use Rattle.rev_model.specs.declared.Queue.{Queue}
 use Rattle.rev_model.specs.Move.{with_queue, front, last_or, marked, unmarked, NoMarks, EndMarks, names, names_other, is_class}
 use Rattle.rev_model.specs.Undo.{tells_entry, few, distinct_from_counts}
-use Rattle.rev_model.specs.Places.{IsClass}
 use Rattle.rev_model.specs.declared.ClassSet.{ClassSet}
 use Rattle.rev_model.specs.declared.Entry.{Entry}
-use Rattle.rev_model.specs.declared.Entry.TheVariants.{Chunk, Mark}
+use Rattle.rev_model.specs.declared.Entry.TheVariants.{Mark}
 use Rattle.rev_queues.specs.Entries.{last_of}
 
 -- ---- one queue

@@ -1,17 +1,16 @@
 -- What the parts keep stays so when a page is laid or lifted in all three.
-use Rattle.std.specs.Prelude.{ℕ, ◌≡◌, ◌+◌, ◌-◌, ◌<◌, ◌≤◌, ◌/◌, Bool, true, false, cond, List, [], ◌∷◌, ◌++◌, Option, None, Some, length, slice_index, slice_index_or, slice_set, zero, suc, refl, ◌⊎◌}
+use Rattle.std.specs.Prelude.{ℕ, ◌≡◌, ◌+◌, ◌-◌, ◌<◌, ◌≤◌, ◌/◌, false, List, [], ◌∷◌, ◌++◌, length, slice_index, slice_index_or, slice_set, zero, suc, refl}
 use Rattle.std.proofs.Common.{sym, ◌∙◌, ap, subst, arith, inl, inr, eqb-true}
 use Rattle.std.specs.Prelude.{nat_eq}
-use Rattle.std.proofs.lemmas.Bool.{cases_eq, cases_Bool, true≢false, false≢true}
+use Rattle.std.proofs.lemmas.Bool.{cases_eq, cases_Bool, false≢true}
 use Rattle.std.proofs.lemmas.List.{get_or-set_same, get_or-set_other, length-set}
 use Rattle.rev_model.specs.Chunk.{same_chunk, same_entry}
 use Rattle.rev_model.specs.Lists.{has}
-use Rattle.std.specs.Prelude.{is_some, take, drop, map as map_list}
-use Rattle.rev_model.specs.State.{State, Fixed, WellFormed, IsChunkOf, per_page, owner_of, item_at, free_of}
+use Rattle.std.specs.Prelude.{is_some, take}
+use Rattle.rev_model.specs.State.{State, Fixed, WellFormed, per_page, owner_of, free_of}
 use Rattle.rev_model.specs.Move.{Possible, Lays, Lifts, moved, front, falling, HoldsNoItem}
 use Rattle.rev_model.specs.Move as model
 use Rattle.rev_model.specs.declared.Entry.TheVariants.{Chunk}
-use Rattle.rev_queues.specs.Entries.{Queued, entries, entries-at}
 use Rattle.rev_model.specs.declared.ChunkRef.{ChunkRef}
 use Rattle.rev_model.specs.declared.Form.{Form}
 use Rattle.rev_model.specs.declared.Form.TheVariants.{Fresh, Pool, Withdrawn}

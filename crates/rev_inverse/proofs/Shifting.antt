@@ -1,8 +1,8 @@
 -- An item goes to another chunk: its entry is exchanged in place, and its key leads to the other chunk.
-use Rattle.std.specs.Prelude.{ℕ, ◌≡◌, ◌+◌, ◌<◌, ◌≤◌, Bool, true, false, cond, List, [], ◌∷◌, Option, None, Some, is_some, length, slice_index_or, slice_set, zero, suc, refl, ◌⊎◌, map as map_list}
+use Rattle.std.specs.Prelude.{ℕ, ◌≡◌, ◌+◌, ◌<◌, ◌≤◌, true, false, cond, List, [], ◌∷◌, Option, None, Some, length, slice_index_or, slice_set, zero, suc, refl, map as map_list}
 use Rattle.std.proofs.Common.{sym, ◌∙◌, ap, subst, arith, inl, inr}
 use Rattle.std.proofs.lemmas.Bool.{cases_Bool, cases_eq, false≢true, true≢false}
-use Rattle.std.proofs.lemmas.List.{get_or-set_same, get_or-set_other, set-set, length-set}
+use Rattle.std.proofs.lemmas.List.{get_or-set_same, get_or-set_other, set-set}
 use Rattle.std.proofs.lemmas.List.Sums.{sum_by-cons}
 use Rattle.std.specs.List.{sum_by}
 use Rattle.std.specs.FinMap as map
@@ -12,14 +12,12 @@ use Rattle.std.specs.Cmp.Lexicographic.{slice_cmp, nat_list_cmp_total}
 use Rattle.std.specs.declared.cmp.Ordering.{Ordering}
 use Rattle.rev_items.specs.Plain.{PlainItem}
 use Rattle.rev_links.specs.Rings.{In}
-use Rattle.rev_model.specs.Chunk.{same_chunk, same_entry, chunk_cmp, chunk_cmp_exact, chunk_cmp_total, HasSlot, EntryHasSlot}
-use Rattle.rev_model.specs.Lists.{has, distinct, count, without, before_from, before, behind, insert, has_after}
-use Rattle.rev_model.specs.ListLaws.{Tells, has_after-before, has-without}
-use Rattle.rev_model.specs.State.{State, Contents, Keys, Fixed, WellFormed, WellIndexed, IsChunkOf, queue_of, queue_place, owner_of, item_at, find, stands, per_page, page_slots}
-use Rattle.rev_model.specs.Move.{Move, Takes, Shifts, moved, Ready, Possible, put_at, exchanged, carried, rebound, shifted}
-use Rattle.rev_model.specs.Undo.{tells_entry, count-has, count_in_table, queue_distinct, in_no_queue, get-put_at, get-put_at_same, tied, tied_self, undo, apart_by_item, at_map, has-exchanged}
-use Rattle.rev_model.specs.Slots.{chunk_has_slot}
-use Rattle.rev_model.specs.Keeps.{keeps-take_queue}
+use Rattle.rev_model.specs.Chunk.{same_entry, chunk_cmp_exact, chunk_cmp_total}
+use Rattle.rev_model.specs.Lists.{has, distinct, count, without, before_from, before, insert, has_after}
+use Rattle.rev_model.specs.ListLaws.{has_after-before, has-without}
+use Rattle.rev_model.specs.State.{State, Contents, Keys, Fixed, WellFormed, WellIndexed, IsChunkOf, queue_of, queue_place, owner_of}
+use Rattle.rev_model.specs.Move.{Shifts, Possible, put_at, exchanged, carried, rebound, shifted}
+use Rattle.rev_model.specs.Undo.{tells_entry, count-has, count_in_table, queue_distinct, in_no_queue, get-put_at, get-put_at_same, tied_self, at_map, has-exchanged}
 use Rattle.rev_model.specs.Words.{weight, size_of, queue_among}
 use Rattle.std.specs.Prelude.{slice_index}
 use Rattle.rev_pages.specs.State.{PagesState}
@@ -29,11 +27,10 @@ use Rattle.rev_index.specs.Index.{PlainIndex, bound, unbound}
 use Rattle.rev_inverse.specs.Fitted.{Fitted}
 use Rattle.rev_inverse.proofs.Fits.{In-has, weight_other, fitted_taken, fitted_put}
 use Rattle.rev_model.specs.declared.Queue.TheVariants.{Hot, Warm, Cold, Temp}
-use Rattle.rev_model.specs.declared.Listed.TheVariants.{InQueue}
 use Rattle.rev_model.specs.declared.ChunkRef.{ChunkRef}
 use Rattle.rev_model.specs.declared.Queue.{Queue}
 use Rattle.rev_model.specs.declared.Entry.{Entry}
-use Rattle.rev_model.specs.declared.Entry.TheVariants.{Chunk, Mark}
+use Rattle.rev_model.specs.declared.Entry.TheVariants.{Chunk}
 
 -- ---- one queue
 differs : (x y : Entry) → same_entry x y ≡ false → same_entry y x ≡ false

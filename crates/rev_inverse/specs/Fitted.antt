@@ -1,5 +1,5 @@
 -- What a store's parts keep beside the plain state.
-use Rattle.std.specs.Prelude.{ℕ, ◌≡◌, ◌≤◌, ◌+◌, List, [], length, slice_index, slice_index_or}
+use Rattle.std.specs.Prelude.{ℕ, ◌≡◌, ◌≤◌, ◌+◌, [], length, slice_index, slice_index_or}
 use Rattle.rev_links.specs.Rings.{In}
 use Rattle.rev_model.specs.State.{Fixed, per_page}
 use Rattle.rev_model.specs.Words.{weight}

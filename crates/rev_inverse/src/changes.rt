@@ -13,6 +13,10 @@ use std::marker::Brand;
 use std::mem;
 use std::sync::ledger::Blank;
 
+/// How many counters each class has.
+pub(crate) const COUNTERS: usize = 7;
+
+// The place of a counter among those of its class.
 pub(crate) fn number(counter: Counter) -> usize
     ensures { result ≡ counter_number counter }
 {
@@ -133,7 +137,7 @@ impl<A: Allocator> Store<A> {
         ensures before { result ≡ counter_of self.old class counter }
     {
         let _count = self.counters.len();
-        let place = 7 * class + number(counter);
+        let place = COUNTERS * class + number(counter);
         mem::replace(&mut self.counters[place], value)
     }
 

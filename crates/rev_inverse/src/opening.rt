@@ -9,6 +9,7 @@ ghost use Rattle.rev_queues.specs.QueueState.{empty_queues};
 ghost use Rattle.rev_index.specs.Index.{empty_index};
 ghost use Rattle.rev_inverse.specs.Empty.{empty_globals, empty_state};
 
+use crate::changes::COUNTERS;
 use crate::store::Store;
 use rev_classes::{ClassTable, Config, ConfigFault};
 use rev_index::Index;
@@ -18,9 +19,6 @@ use rev_pages::Pages;
 use rev_queues::Queues;
 use std::alloc::{AllocError, Allocator};
 use std::collections::VecDeque;
-
-// How many counters each class has.
-const COUNTERS: usize = 7;
 
 // Clock, cas number, flush, mover and settings of a store that is opened (the shares and factors are memcached's own).
 fn first_globals(config: &Config) -> Globals

@@ -9,7 +9,7 @@ ghost use Rattle.rev_model.specs.Places.{IsClass};
 ghost use Rattle.rev_model.specs.declared.Queue.{Queue as QueueOf};
 ghost use Rattle.rev_inverse.specs.Reading.{next_after};
 
-use crate::changes::number;
+use crate::changes::{COUNTERS, number};
 use crate::store::Store;
 use crate::uncounted::{
     before_entry, behind_entry, behind_free, front_free, head_entry, queue_bytes, tail_chunk,
@@ -199,7 +199,7 @@ impl<A: Allocator> Store<A> {
         ensures { result ≡ counter_of self.now class counter }
     {
         let _count = self.counters.len();
-        self.counters[7 * class + number(counter)]
+        self.counters[COUNTERS * class + number(counter)]
     }
 
     /// How many entries the bump queue has.

@@ -1,4 +1,3 @@
-use Rattle.std.proofs.Common.{◌∙◌, sym}
 use Rattle.rev_inverse.proofs.Shifting.{carried_index, carried_bind, unbound_from, unbound_to}
 use Rattle.rev_inverse.proofs.shift.carry.Goals as goal
 

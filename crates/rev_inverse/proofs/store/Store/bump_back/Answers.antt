@@ -1,5 +1,4 @@
-use Rattle.std.proofs.Common.{sym, ap, ◌∙◌, List, [], ◌∷◌, ◌++◌, ◌≡◌}
-use Rattle.rev_model.specs.State.{State}
+use Rattle.std.proofs.Common.{sym, ap, ◌∙◌, ◌≡◌}
 use Rattle.rev_model.specs.Move as plain
 use Rattle.rev_model.specs.Undo.{front-push, back_of-push}
 use Rattle.rev_inverse.proofs.store.Store.bump_back.Goals as goal

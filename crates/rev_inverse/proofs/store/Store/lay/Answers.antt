@@ -1,4 +1,4 @@
-use Rattle.std.proofs.Common.{ℕ, map, sym, subst, refl, ◌∙◌, ap, ◌≡◌}
+use Rattle.std.proofs.Common.{ℕ, map, sym, subst, ◌∙◌, ap, ◌≡◌}
 use Rattle.rev_model.specs.Move.{Possible, Lays}
 use Rattle.rev_model.specs.Move as model
 use Rattle.rev_model.specs.State.{WellFormed}

@@ -1,4 +1,4 @@
-use Rattle.std.proofs.Common.{ℕ, map, sym, subst, refl, ◌∙◌, ap, ◌≡◌, ◌≤◌, ◌/◌, ◌-◌, length}
+use Rattle.std.proofs.Common.{map, sym, subst, ◌∙◌, ap}
 use Rattle.std.specs.List.{slice_index}
 use Rattle.rev_model.specs.Chunk.{same_entry}
 use Rattle.rev_model.specs.Lists.{has}

@@ -1,9 +1,9 @@
-use Rattle.std.proofs.Common.{sym, ◌∙◌, ap, subst, refl, true, ◌≡◌, map, slice_index_or, [], ◌++◌, ◌∷◌}
+use Rattle.std.proofs.Common.{sym, ◌∙◌, ap, subst, refl, true, ◌≡◌}
 use Rattle.rev_model.specs.Chunk.{same_entry}
 use Rattle.rev_model.specs.Lists.{distinct, insert}
 use Rattle.rev_model.specs.State.{State, queue_of, queue_place}
 use Rattle.rev_model.specs.declared.Entry.TheVariants.{Mark}
-use Rattle.rev_queues.specs.Entries.{entries, entries-put, entries-at, last_of}
+use Rattle.rev_queues.specs.Entries.{entries-put, entries-at, last_of}
 use Rattle.rev_inverse.proofs.Fits.{fitted_put}
 use Rattle.rev_inverse.proofs.Marking.{after_last, insert_last}
 use Rattle.rev_inverse.proofs.store.Store.mark.Goals as goal

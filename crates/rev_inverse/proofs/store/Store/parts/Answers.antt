@@ -1,4 +1,4 @@
-use Rattle.std.proofs.Common.{sym, ◌∙◌, ap, refl}
+use Rattle.std.proofs.Common.{◌∙◌, ap}
 use Rattle.rev_model.specs.State.{State, per_page}
 use Rattle.rev_inverse.proofs.Paging.{per_page_is, state_of}
 use Rattle.rev_inverse.proofs.store.Store.parts.Goals as goal

@@ -1,4 +1,4 @@
-use Rattle.std.proofs.Common.{ℕ, ◌≡◌, List, map, slice_set, slice_index_or, [], sym, subst, refl, ◌∙◌, ap}
+use Rattle.std.proofs.Common.{sym, subst, refl, ◌∙◌, ap}
 use Rattle.std.specs.List.{slice_index}
 use Rattle.rev_model.specs.Chunk.{HasSlot}
 use Rattle.rev_model.specs.Move.{Possible, Shifts, moved}
@@ -7,10 +7,9 @@ use Rattle.rev_model.specs.Words.{weight}
 use Rattle.rev_model.specs.Slots.{chunk_has_slot}
 use Rattle.rev_model.specs.declared.Entry.TheVariants.{Chunk}
 use Rattle.rev_queues.specs.QueueState.{QueuesState}
-use Rattle.rev_queues.specs.Entries.{entries}
 use Rattle.rev_inverse.proofs.Fits.{fitted_slot}
 use Rattle.rev_inverse.proofs.Paging.{state_of}
-use Rattle.rev_inverse.proofs.Shifting.{shift_stands, shift_fits_at, entries_there, to_gone, from_gone, before_stays, queues_shifted, fitted_shifted}
+use Rattle.rev_inverse.proofs.Shifting.{shift_fits_at, entries_there, to_gone, from_gone, before_stays, queues_shifted, fitted_shifted}
 use Rattle.rev_inverse.proofs.store.Store.shift.Goals as goal
 
 pub take_entry-before-requires-clause-there : goal.take_entry-before-requires-clause-there

@@ -1,5 +1,5 @@
 use Rattle.rev_model.specs.State.{queue_place}
-use Rattle.rev_queues.specs.Entries.{entries-taken, entries-at}
+use Rattle.rev_queues.specs.Entries.{entries-taken}
 use Rattle.rev_inverse.proofs.Fits.{fitted_taken}
 use Rattle.rev_inverse.proofs.store.Store.take.Goals as goal
 

@@ -1,4 +1,4 @@
-use Rattle.std.proofs.Common.{sym, ap, ◌∙◌, ◌≡◌, ◌<◌, ◌-◌, arith, slice_set}
+use Rattle.std.proofs.Common.{ap, ◌∙◌, ◌≡◌, ◌-◌, slice_set}
 use Rattle.std.proofs.lemmas.List.{set-set}
 use Rattle.rev_model.specs.Move as plain
 use mathlib.Core.List as list

@@ -1,4 +1,4 @@
-use Rattle.std.proofs.Common.{ℕ, ◌≡◌, ◌+◌, ◌*◌, ◌<◌, ◌≤◌, length, sym, ◌∙◌, ap, refl, arith}
+use Rattle.std.proofs.Common.{◌≡◌, ◌<◌, ◌≤◌, length, sym, ◌∙◌, ap, refl, arith}
 use Rattle.rev_model.specs.State.{State}
 use Rattle.rev_model.specs.Move.{names, front}
 use Rattle.rev_inverse.proofs.Marking.{none_changed, end_changed, unmarked_is, pool_not_named, step_end, step_apart, step_changed, step_not}

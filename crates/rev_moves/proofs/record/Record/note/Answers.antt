@@ -1,8 +1,8 @@
-use Rattle.std.proofs.Common.{rules, map, ◌≡◌, ℕ, ◌+◌, ◌-◌, length, slice_set, slice_index_or, Some, None, sym, ◌∙◌, ap}
+use Rattle.std.proofs.Common.{map, ◌-◌, slice_set, Some, sym, ◌∙◌, ap}
 use Rattle.std.proofs.lemmas.List.{map-set, length-map}
 use Rattle.std.proofs.Math.Seq.{map-set_same}
 use Rattle.rev_moves.specs.declared.record.Noted.{Noted}
-use Rattle.rev_moves.specs.Seen.{plain_move, noted_move, noted_cause}
+use Rattle.rev_moves.specs.Seen.{noted_move, noted_cause}
 use Rattle.rev_moves.proofs.record.Record.note.Goals as goal
 
 pub returns : goal.returns

@@ -2,8 +2,7 @@ use Rattle.std.proofs.Common.{ap}
 use Rattle.std.proofs.lemmas.List.{map-set}
 use Rattle.std.proofs.Math.Seq.{map-set_same}
 use Rattle.rev_moves.specs.declared.record.Noted.{Noted}
-use Rattle.rev_moves.specs.Record.{PlainRecord}
-use Rattle.rev_moves.specs.Seen.{plain_move, noted_move, noted_cause}
+use Rattle.rev_moves.specs.Seen.{noted_move, noted_cause}
 use Rattle.rev_moves.proofs.record.Record.replace.Goals as goal
 
 pub returns-clause-after : goal.returns-clause-after

@@ -1,6 +1,5 @@
 use Rattle.std.proofs.Common.{ap, map, ◌∙◌}
 use Rattle.rev_moves.proofs.Lists.{map-reverse}
-use Rattle.rev_moves.specs.Record.{PlainRecord}
 use Rattle.rev_moves.specs.Seen.{noted_move, noted_cause}
 use Rattle.rev_moves.proofs.record.Record.turn_over.Goals as goal
 

@@ -1,0 +1,7 @@
+pub mod Seats
+pub mod Rest
+pub mod Notes
+pub mod Telling
+pub mod Taking
+pub mod Linking
+pub mod Paging

@@ -1,0 +1,4 @@
+pub mod Ages
+pub mod Pulling
+pub mod Rooming
+pub mod Causes

@@ -1,0 +1,159 @@
+-- How a numbered node is found.
+use Rattle.std.proofs.Common.{◌≡◌, ℕ, suc, zero, ◌+◌, ◌-◌, ◌/◌, ◌<◌, ◌≤◌, Bool, true, false, cond, eqb, List, [], ◌∷◌, ◌++◌, length, get_or, refl, ap, sym, ◌∙◌, subst, arith, append_assoc, take, Option, Some, None, ◌⊎◌, inl, inr, ⊎_elim, map}
+use Rattle.std.proofs.lemmas.List.{append-nil, length_push, take-append-le, take_all}
+use Rattle.rev_undotree.specs.Tree.{forks_of}
+use Rattle.rev_undotree.proofs.Walk.{fork_at-map, count-map}
+use Rattle.std.proofs.lemmas.Bool.Decides.{nat_tests}
+use Rattle.rev_undotree.specs.Tree.{PlainNode, PlainBranch, Forks, bare, fork, fork_at, count}
+use Rattle.rev_undotree.specs.Ways.{reach, no_node}
+use Rattle.rev_undotree.specs.Rows.{number_after, start_at, or_else, find_run, find_forks, row}
+use Rattle.rev_undotree.specs.Paths.{IsPath}
+use Rattle.rev_undotree.specs.Finds.{RisesFrom, RisesRun, RisesForks, Rises, head_number, bar, IsFirst, Fitted, Found, IsMissing}
+use Rattle.rev_undotree.specs.declared.junction.Junction.{Junction}
+
+abbrev pub number_of : List PlainNode → ℕ → ℕ
+number_of run k = (get_or run k no_node).number
+
+pub rises_from : (p : ℕ) (run : List PlainNode) (i : ℕ) → RisesFrom p run → i < length run → p < number_of run i
+rises_from p [] i h l = absurd (omega arith)
+rises_from p (e ∷ es) zero h l = h.0
+rises_from p (e ∷ es) (suc i) h l = let k = rises_from e.number es i h.1 (omega arith) in let a = h.0 in omega (arith, k, a)
+
+pub rises_tail : (p : ℕ) (run : List PlainNode) → RisesFrom p run → RisesRun run
+rises_tail p [] h = tt
+rises_tail p (e ∷ es) h = h.1
+
+pub rises_run : (run : List PlainNode) (i j : ℕ) → RisesRun run → i < j → j < length run → number_of run i < number_of run j
+rises_run [] i j h l m = absurd (omega arith)
+rises_run (e ∷ es) i zero h l m = absurd (omega arith)
+rises_run (e ∷ es) zero (suc j) h l m = rises_from e.number es j h (omega arith)
+rises_run (e ∷ es) (suc i) (suc j) h l m = rises_run es i j (rises_tail e.number es h) (omega arith) (omega arith)
+
+pub less_or_same : (i m : ℕ) → i ≤ m → (i < m) ⊎ (i ≡ m)
+less_or_same zero zero h = inr refl
+less_or_same zero (suc m) h = inl (omega arith)
+less_or_same (suc i) zero h = absurd (omega arith)
+less_or_same (suc i) (suc m) h = ⊎_elim (λ l. inl (omega (arith, l))) (λ e. inr (ap suc e)) (less_or_same i m (omega arith))
+
+-- the search narrows
+pub seek_low : (run : List PlainNode) (m n : ℕ) → RisesRun run → m < length run → number_of run m < n → (i : ℕ) → i < m + 1 → number_of run i < n
+seek_low run m n h l k i a =
+    ⊎_elim (λ b. let r = rises_run run i m h b l in omega (arith, r, k)) (λ e. let r = ap (λ z. number_of run z) e in omega (arith, r, k)) (less_or_same i m (omega arith))
+
+pub seek_high : (run : List PlainNode) (m n : ℕ) → RisesRun run → n < number_of run m → (i : ℕ) → m ≤ i → i < length run → n < number_of run i
+seek_high run m n h k i a l =
+    ⊎_elim (λ b. let r = rises_run run m i h b l in omega (arith, r, k)) (λ e. let r = ap (λ z. number_of run z) e in omega (arith, r, k)) (less_or_same m i a)
+
+eqb-apart : (n m : ℕ) → (m ≡ n → ⊥) → eqb n m ≡ false
+eqb-apart n m h = grind (arith, nat_tests)
+
+pub none_in_run : (n p : ℕ) (c : Bool) (run : List PlainNode) → ((i : ℕ) → i < length run → number_of run i ≡ n → ⊥) → find_run n p c run ≡ None
+none_in_run n p c [] h = refl
+none_in_run n p c (e ∷ es) h =
+    ap (λ z. cond z (Some (row p e.step c)) (find_run n e.number true es)) (eqb-apart n e.number (h 0 (omega arith))) ∙ none_in_run n e.number true es (λ i l. h (suc i) (omega (arith, l)))
+
+pub split_at : (i m : ℕ) → (i < m) ⊎ (m ≤ i)
+split_at zero zero = inr (omega arith)
+split_at zero (suc m) = inl (omega arith)
+split_at (suc i) zero = inr (omega arith)
+split_at (suc i) (suc m) = ⊎_elim (λ l. inl (omega (arith, l))) (λ l. inr (omega (arith, l))) (split_at i m)
+
+pub sought : (run : List PlainNode) (n low high : ℕ) → high ≤ low → ((i : ℕ) → i < low → number_of run i < n) → ((i : ℕ) → high ≤ i → i < length run → n < number_of run i) → (p : ℕ) (c : Bool) → find_run n p c run ≡ None
+sought run n low high m a b p c = none_in_run n p c run (λ i l e. ⊎_elim (λ z. let r = a i (omega (arith, z)) in omega (arith, r, e)) (λ z. let r = b i (omega (arith, m, z)) l in omega (arith, r, e)) (split_at i low))
+
+-- forks by their number
+pub fitted_child : (f : Forks) (run : List PlainNode) (k l z i : ℕ) → Fitted f run k l z → i < count f → (0 < k) × ((fork_at f i).from ≤ length run) × Fitted (fork_at f i).forks (fork_at f i).run (k - 1) 0 1
+fitted_child bare run k l z i h m = absurd (omega arith)
+fitted_child (fork f r j n) run k l z zero h m = (h.0, h.1, h.3)
+fitted_child (fork f r j n) run k l z (suc i) h m = fitted_child n run k (bar l (head_number r)) z i h.4 (omega arith)
+
+first_weaker : (z y l j f : ℕ) (o : Option ℕ) → y ≤ z → j ≤ l → IsFirst z l f o → IsFirst y j f o
+first_weaker z y l j f None a b h = tt
+first_weaker z y l j f (Some n) a b h = let c = h.0 in let d = h.1 in (omega (arith, a, c), omega (arith, b, d))
+
+bar_weaker : (l j : ℕ) (o : Option ℕ) → j ≤ l → bar j o ≤ bar l o
+bar_weaker l j None h = h
+bar_weaker l j (Some n) h = omega arith
+
+pub fitted_weaker : (f : Forks) (run : List PlainNode) (k l j z y : ℕ) → y ≤ z → j ≤ l → Fitted f run k l z → Fitted f run k j y
+fitted_weaker bare run k l j z y a b h = tt
+fitted_weaker (fork f r i m) run k l j z y a b h =
+    (h.0, h.1, first_weaker z y l j f (head_number r) a b h.2, h.3, fitted_weaker m run k (bar l (head_number r)) (bar j (head_number r)) z y a (bar_weaker l j (head_number r) b) h.4)
+
+pub rises_child : (f : Forks) (i : ℕ) → RisesForks f → i < count f → Rises (fork_at f i)
+rises_child bare i h l = absurd (omega arith)
+rises_child (fork f r j m) zero h l = (h.0, h.1)
+rises_child (fork f r j m) (suc i) h l = rises_child m i h.2 (omega arith)
+
+pub number_after-get : (p k : ℕ) (run : List PlainNode) → k < length run → number_after p (suc k) run ≡ number_of run k
+number_after-get p k [] l = absurd (omega arith)
+number_after-get p zero (e ∷ es) l = refl
+number_after-get p (suc k) (e ∷ es) l = number_after-get e.number k es (omega arith)
+
+-- found in the run
+pub found_here : (n : ℕ) (b : PlainBranch) (w v : List Junction) (k j : ℕ) → j ≡ suc k → k < length b.run → number_of b.run k ≡ n → v ≡ w → Found n b w v j
+found_here n b w v k j ej l e ev = record {
+  more = [];
+  way = ev ∙ sym (append-nil w);
+  path = omega (arith, ej, l);
+  inside = omega (arith, ej);
+  numbered = λ p. ap (λ z. number_after p z b.run) ej ∙ number_after-get p k b.run l ∙ e;
+}
+
+-- found in a fork
+pub found_below : (n : ℕ) (b c : PlainBranch) (w x v : List Junction) (p : Junction) (at : ℕ) → p.fork < count b.forks → p.taken ≤ length b.run → c ≡ fork_at b.forks p.fork → c.from ≡ p.taken → x ≡ w ++ p ∷ [] → Found n c x v at → Found n b w v at
+found_below n b c w x v p at l m e ef ex h = record {
+  more = p ∷ h.more;
+  way = h.way ∙ ap (λ z. z ++ h.more) ex ∙ append_assoc w (p ∷ []) h.more;
+  path = (m, l, ap (λ z. z.from) (sym e) ∙ ef, subst (λ z. IsPath z h.more at) e h.path);
+  inside = h.inside;
+  numbered = λ q. ap (λ z. number_after (start_at (number_after q p.taken b.run) z h.more) at (reach z h.more).run) (sym e) ∙ h.numbered (number_after q p.taken b.run);
+}
+
+-- found nowhere
+missing_forks : (n p : ℕ) (run : List PlainNode) (f : Forks) → ((i : ℕ) → i < count f → IsMissing n (fork_at f i)) → find_forks n p run f ≡ None
+missing_forks n p run bare h = refl
+missing_forks n p run (fork f r i m) h =
+    ap (λ z. or_else z (find_forks n p run m)) (h 0 (omega arith) (number_after p f run) false) ∙ missing_forks n p run m (λ j l. h (suc j) (omega (arith, l)))
+
+pub missing : (n : ℕ) (b : PlainBranch) → ((p : ℕ) (c : Bool) → find_run n p c b.run ≡ None) → ((i : ℕ) → i < count b.forks → IsMissing n (fork_at b.forks i)) → IsMissing n b
+missing n b h k p c = ap (λ z. or_else z (find_forks n p b.run b.forks)) (h p c) ∙ missing_forks n p b.run b.forks k
+
+pub missing_more : (n i : ℕ) (f : Forks) (c : PlainBranch) → c ≡ fork_at f i → IsMissing n c → ((j : ℕ) → j < i → IsMissing n (fork_at f j)) → (j : ℕ) → j < i + 1 → IsMissing n (fork_at f j)
+missing_more n i f c e h k j l = ⊎_elim (λ z. k j z) (λ z. subst (λ y. IsMissing n y) (e ∙ ap (λ y. fork_at f y) (sym z)) h) (less_or_same j i (omega arith))
+
+pub middle_low : (low high : ℕ) → low < high → low + (high - low) / 2 < high
+middle_low low high h = omega (arith, h)
+
+-- the child that the code reads
+pub child_at : {X : Type 0} (v : X → PlainBranch) (bs : List X) (b : PlainBranch) (i : ℕ) (x : X) (c : PlainBranch) → b.forks ≡ forks_of (map v bs) → i < count b.forks → x ≡ get_or bs i x → c ≡ v x → c ≡ fork_at b.forks i
+child_at v bs b i x c e h r s =
+    let n : count b.forks ≡ length bs = ap count e ∙ count-map v bs in
+    s ∙ ap v r ∙ sym (ap (λ z. fork_at z i) e ∙ fork_at-map v bs i x (omega (arith, h, n)))
+
+pub fork_within : {X : Type 0} (v : X → PlainBranch) (bs : List X) (b : PlainBranch) (i : ℕ) → b.forks ≡ forks_of (map v bs) → i < count b.forks → i < length bs
+fork_within v bs b i e h = let n : count b.forks ≡ length bs = ap count e ∙ count-map v bs in omega (arith, h, n)
+
+-- there is room for one more place, where there is a fork
+pub locate_room : (b : PlainBranch) (w : List Junction) (i : ℕ) → length w ≤ 64 → i < count b.forks → Fitted b.forks b.run (64 - length w) 0 0 → length w < 64
+locate_room b w i l h f = let k = (fitted_child b.forks b.run (64 - length w) 0 0 i f h).0 in omega (arith, k, l)
+
+pub locate_down : (b c : PlainBranch) (w v : List Junction) (p : Junction) (i : ℕ) → length w ≤ 64 → i < count b.forks → Rises b → Fitted b.forks b.run (64 - length w) 0 0 → c ≡ fork_at b.forks i → v ≡ w ++ p ∷ [] →
+    (length v ≤ 64) × Rises c × Fitted c.forks c.run (64 - length v) 0 0 × (64 - length v < 64 - length w) × (c.from ≤ length b.run)
+locate_down b c w v p i l h r f e ev =
+    let k = fitted_child b.forks b.run (64 - length w) 0 0 i f h in
+    let n : length v ≡ length w + 1 = ap length ev ∙ length_push w p in
+    let k0 = k.0 in
+    let m : 64 - length w - 1 ≡ 64 - length v = omega (arith, n) in (
+      omega (arith, n, k0, l),
+      subst (λ z. Rises z) (sym e) (rises_child b.forks i r.1 h),
+      subst (λ z. Fitted z.forks z.run (64 - length v) 0 0) (sym e) (subst (λ z. Fitted (fork_at b.forks i).forks (fork_at b.forks i).run z 0 0) m (fitted_weaker (fork_at b.forks i).forks (fork_at b.forks i).run (64 - length w - 1) 0 0 1 0 (omega arith) (omega arith) k.2)),
+      omega (arith, n, k0, l),
+      subst (λ z. z.from ≤ length b.run) (sym e) k.1,
+    )
+
+pub pop_back : (u v w : List Junction) (p : Junction) → v ≡ w ++ p ∷ [] → u ≡ take (length v - 1) v → u ≡ w
+pop_back u v w p e h =
+    let n : length v ≡ length w + 1 = ap length e ∙ length_push w p in
+    let m : length v - 1 ≡ length w = omega (arith, n) in
+    h ∙ ap (λ z. take z v) m ∙ ap (λ z. take (length w) z) e ∙ take-append-le (length w) w (p ∷ []) (omega arith) ∙ take_all (length w) w (omega arith)

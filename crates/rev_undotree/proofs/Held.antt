@@ -1,0 +1,93 @@
+-- Which nodes are held: those that stand in the tree.
+use Rattle.std.proofs.Common.{◌≡◌, ℕ, suc, zero, ◌<◌, ◌≤◌, Bool, true, false, is_some, List, [], ◌∷◌, ◌++◌, length, get_or, refl, ap, sym, ◌∙◌, subst, arith, Option, Some, None, ◌⊎◌, inl, inr, ⊎_elim, IfSome}
+use Rattle.rev_undotree.specs.Steps.{State}
+use Rattle.rev_undotree.specs.Tree.{PlainNode, PlainBranch, fork_at}
+use Rattle.rev_undotree.specs.Ways.{reach, no_node}
+use Rattle.rev_undotree.specs.States.{rewind}
+use Rattle.rev_undotree.specs.Rows.{Row, row_of, row, number_after, start_at, first_continues, number_at, find_in, rows_of, Known, KnownRun}
+use Rattle.rev_undotree.specs.Positions.{SessionState, Kept, Moved, Proper}
+use Rattle.rev_undotree.specs.Paths.{IsPath}
+use Rattle.rev_undotree.specs.Finds.{is_held, Rises, Placed, IsMissing}
+use Rattle.rev_undotree.proofs.Rows.{Known-fork}
+use Rattle.rev_undotree.proofs.Positions.{Proper-zero, moved_state, number_at-same}
+use Rattle.rev_undotree.proofs.Growth.{row_of-last, row_of-older, rows_of-suc, length_rows}
+use Rattle.rev_undotree.proofs.Finds.{less_or_same}
+use Rattle.rev_undotree.proofs.Fits.{row_of-within, rises_known}
+use Rattle.rev_undotree.specs.declared.junction.Junction.{Junction}
+
+pub if_some_weaker : {T : Type 0} (o : Option T) (P Q : T → Type 0) → ((x : T) → P x → Q x) → IfSome o P → IfSome o Q
+if_some_weaker None P Q f h = tt
+if_some_weaker (Some x) P Q f h = f x h
+
+-- the row of a number is what the tree has
+pub row_find : (k : ℕ) (b : PlainBranch) (n : ℕ) → n < k → row_of (rows_of k b) (suc n) ≡ find_in (suc n) 0 true b
+row_find zero b n h = absurd (omega arith)
+row_find (suc k) b n h =
+    let l = length_rows k b in
+    let o = find_in (suc k) 0 true b in
+    let e : row_of (rows_of (suc k) b) (suc n) ≡ row_of (rows_of k b ++ o ∷ []) (suc n) = ap (λ z. row_of z (suc n)) (rows_of-suc k b) in
+    ⊎_elim (λ m. e ∙ row_of-older (rows_of k b) o (suc n) (omega (arith, l, m)) ∙ row_find k b n m)
+    (λ m. e ∙ ap (λ z. row_of (rows_of k b ++ o ∷ []) (suc z)) (m ∙ sym l) ∙ row_of-last (rows_of k b) o ∙ ap (λ z. find_in (suc z) 0 true b) (sym m)) (less_or_same n k (omega arith))
+
+pub row_found : (k : ℕ) (b : PlainBranch) (n : ℕ) (r : Row) → row_of (rows_of k b) n ≡ Some r → find_in n 0 true b ≡ Some r
+row_found k b zero r h = cc
+row_found k b (suc n) r h =
+    let w = row_of-within (rows_of k b) (suc n) r h in
+    let l = length_rows k b in
+    sym (row_find k b n (omega (arith, w, l))) ∙ h
+
+pub option_case : (o : Option Row) → (o ≡ None) ⊎ ((r : Row) × o ≡ Some r)
+option_case None = inl refl
+option_case (Some r) = inr (r, refl)
+
+-- what is known at a position
+pub known_path : (rows : List (Option Row)) (p : ℕ) (c : Bool) (b : PlainBranch) (w : List Junction) (h : ℕ) → IsPath b w h → Known rows p c b → Known rows (start_at p b w) (first_continues c w) (reach b w) × (h ≤ length (reach b w).run)
+known_path rows p c b [] h q k = (k, q)
+known_path rows p c b (x ∷ xs) h q k =
+    known_path rows (number_after p x.taken b.run) false (fork_at b.forks x.fork) xs h q.3 (subst (λ z. Known rows (number_after p z b.run) false (fork_at b.forks x.fork)) q.2 (Known-fork rows p b.run b.forks x.fork q.1 k.1))
+
+-- whether the node behind the first k of a run continues
+abbrev pub goes : ℕ → Bool → Bool
+goes zero c = c
+goes (suc k) c = true
+
+pub run_known : (rows : List (Option Row)) (p k : ℕ) (c : Bool) (run : List PlainNode) → k < length run → KnownRun rows p c run → row_of rows (number_after p (suc k) run) ≡ Some (row (number_after p k run) (get_or run k no_node).step (goes k c))
+run_known rows p k c [] l h = absurd (omega arith)
+run_known rows p zero c (e ∷ es) l h = h.0
+run_known rows p (suc zero) c (e ∷ []) l h = absurd (omega arith)
+run_known rows p (suc zero) c (e ∷ (d ∷ ds)) l h = h.1.0
+run_known rows p (suc (suc k)) c (e ∷ es) l h = run_known rows e.number (suc k) true es (omega arith) h.1
+
+pub path_row : (rows : List (Option Row)) (b : PlainBranch) (w : List Junction) (h : ℕ) → IsPath b w (suc h) → Known rows 0 true b →
+    row_of rows (number_at b w (suc h)) ≡ Some (row (number_at b w h) (get_or (reach b w).run h no_node).step (goes h (first_continues true w)))
+path_row rows b w h q k =
+    let m = known_path rows 0 true b w (suc h) q k in
+    let l = m.1 in
+    run_known rows (start_at 0 b w) h (first_continues true w) (reach b w).run (omega (arith, l)) m.0.0
+
+pub held_row : (rows : List (Option Row)) (n : ℕ) (r : Row) → row_of rows n ≡ Some r → is_held rows n ≡ true
+held_row rows zero r h = refl
+held_row rows (suc n) r h = ap (λ z. is_some z) h
+
+pub path_held : (rows : List (Option Row)) (b : PlainBranch) (w : List Junction) (h n : ℕ) → IsPath b w h → Proper w h → Known rows 0 true b → number_at b w h ≡ n → is_held rows n ≡ true
+path_held rows b w zero n q o k e = ap (λ z. is_held rows z) (sym e ∙ ap (λ z. number_at b z 0) (Proper-zero w o))
+path_held rows b w (suc h) n q o k e = ap (λ z. is_held rows z) (sym e) ∙ held_row rows (number_at b w (suc h)) _ (path_row rows b w h q k)
+
+pub placed_held : (root t : State) (b : PlainBranch) (w v : List Junction) (k at issued n : ℕ) → Kept root t b w k issued → Placed n b v at → is_held (rows_of issued b) n ≡ true
+placed_held root t b w v k at issued n h q = path_held (rows_of issued b) b v at n q.path q.proper h.known q.numbered
+
+pub missing_held : (b : PlainBranch) (issued n : ℕ) → 0 < n → IsMissing n b → is_held (rows_of issued b) n ≡ true → ⊥
+missing_held b issued zero l h e = omega (arith, l)
+missing_held b issued (suc n) l h e =
+    ⊎_elim (λ (z : row_of (rows_of issued b) (suc n) ≡ None). let f = ap (λ o. is_some o) z in cc)
+    (λ (z : (r : Row) × row_of (rows_of issued b) (suc n) ≡ Some r). let f = row_found issued b (suc n) z.0 z.1 in let m = h 0 true in cc) (option_case (row_of (rows_of issued b) (suc n)))
+
+-- what a search needs
+pub kept_rises : (root t : State) (b : PlainBranch) (w : List Junction) (k issued : ℕ) → Kept root t b w k issued → Rises b
+kept_rises root t b w k issued h = rises_known (rows_of issued b) 0 true b h.falls h.known
+
+-- a session that went to a node
+pub went_state : (root t u : State) (b c : PlainBranch) (w v x y : List Junction) (j k at issued n : ℕ) → Moved root b u c v k → Placed n b y at → x ≡ y → v ≡ x → k ≡ at →
+    ◌≡◌ {A = SessionState} (record { root = rewind c v k u; rows = rows_of issued c; current = number_at c v k }) (record { root = root; rows = rows_of issued b; current = n })
+went_state root t u b c w v x y j k at issued n m q ex ev ek =
+    moved_state root t u b c w v j k issued n m (sym (number_at-same b c v k m.same ∙ ap (λ z. number_at b z k) (ev ∙ ex) ∙ ap (λ z. number_at b y z) ek ∙ q.numbered))

@@ -1,0 +1,66 @@
+-- What the contracts of `apply` and `turn` say of a record.
+use Rattle.std.proofs.Common.{◌≡◌, ap, ◌∙◌, subst}
+use Rattle.std.specs.Prelude.{reverse}
+use Rattle.std.proofs.lemmas.List.{reverse-reverse}
+use Rattle.rev_model.specs.State.{WellFormed}
+use Rattle.rev_model.specs.Move as moves
+use Rattle.rev_model.specs.Actor as actor
+use Rattle.rev_model.specs.Undo.{LeadsBack, turns_back}
+use Rattle.rev_undotree.specs.Steps.{State, Step, Outcome, PlainRecord, Sound, next, outcome_of, Fits, turned, Leads}
+
+-- what a turn needs
+pub fits_moves : (r : PlainRecord) (s : State) → Fits r s → moves.Fits r.moves s
+unfolding Fits
+fits_moves r s h = h.1
+
+pub fits_well : (r : PlainRecord) (s : State) → Fits r s → WellFormed s
+unfolding Fits
+fits_well r s h = h.0.well
+
+-- what it gives
+pub turned_state : (r : PlainRecord) (s t : State) → t ≡ (moves.turned r.moves s).0 → t ≡ (turned r s).0
+unfolding turned
+turned_state r s t e = e
+
+pub turned_record : (r x : PlainRecord) (s : State) → x.moves ≡ (moves.turned r.moves s).1 → x.notes ≡ reverse r.notes → x.room ≡ r.room → x ≡ (turned r s).1
+unfolding turned
+turned_record r x s em en er =
+    ap (λ z. let y : PlainRecord = record { moves = z; notes = x.notes; room = x.room } in y) em
+    ∙ ap (λ z. let y : PlainRecord = record { moves = (moves.turned r.moves s).1; notes = z; room = x.room } in y) en
+    ∙ ap (λ z. let y : PlainRecord = record { moves = (moves.turned r.moves s).1; notes = reverse r.notes; room = z } in y) er
+
+-- what a step gives
+pub step_next : (s u : State) (e : Step) (o : Outcome) → (u, o) ≡ actor.step s e → u ≡ next s e
+unfolding next
+step_next s u e o h = ap (λ p. p.0) h
+
+pub step_outcome : (s u : State) (e : Step) (o : Outcome) → (u, o) ≡ actor.step s e → o ≡ outcome_of s e
+unfolding outcome_of
+step_outcome s u e o h = ap (λ p. p.1) h
+
+-- a record that leads back from a sound state to a sound state leads both ways
+back_pair : (r : PlainRecord) (t : State) → moves.turned (moves.turned r.moves t).1 (moves.turned r.moves t).0 ≡ (t, r.moves) → turned (turned r t).1 (turned r t).0 ≡ (t, r)
+unfolding turned
+back_pair r t h =
+    ap (λ z. let p : State × PlainRecord = (z.0, record { moves = z.1; notes = reverse (reverse r.notes); room = r.room }) in p) h
+    ∙ ap (λ z. let p : State × PlainRecord = (t, record { moves = r.moves; notes = z; room = r.room }) in p) (reverse-reverse r.notes)
+
+pub leads_applied : (r : PlainRecord) (t s : State) → Sound t → Sound s → LeadsBack r.moves t s → Leads r t s
+unfolding Fits turned
+leads_applied r t s ht hs l =
+    let b = turns_back r.moves t ht.well l.fits in
+    record {
+      fits = (ht, l.fits);
+      there = l.there;
+      fits_back = (hs, subst (λ z. moves.Fits (moves.turned r.moves t).1 z) l.there b.fits);
+      back = subst (λ z. turned (turned r t).1 z ≡ (t, r)) l.there (back_pair r t b.back);
+    }
+
+-- the states at both ends of a record are sound
+pub leads_sound : {r : PlainRecord} {t s : State} → Leads r t s → Sound t × Sound s
+unfolding Fits
+leads_sound h = (h.fits.0, h.fits_back.0)
+
+pub leads_moves : {r : PlainRecord} {t s : State} → Leads r t s → LeadsBack r.moves t s
+unfolding Fits turned
+leads_moves h = record { fits = h.fits.1; there = h.there }

@@ -1,0 +1,7 @@
+use Rattle.std.proofs.Common.{ap, sym, ◌∙◌}
+use Rattle.rev_undotree.specs.Tree.{count}
+use Rattle.rev_undotree.proofs.Walk.{count-map}
+use Rattle.rev_undotree.proofs.branch.Branch.fork_count.Goals as goal
+
+pub returns : goal.returns
+returns g c = c.len.ensures ∙ c.self.inside.forks.ok.0 ∙ sym (count-map (λ b. b.value) c.self.inside.forks.items) ∙ ap (λ z. count z.forks) c.self.view_is

@@ -1,0 +1,38 @@
+use Rattle.std.proofs.Common.{sym, refl, subst}
+use Rattle.rev_undotree.specs.Paths.{IsPath}
+use Rattle.rev_undotree.specs.Positions.{Proper}
+use Rattle.rev_undotree.proofs.Positions.{moved_kept}
+use Rattle.rev_undotree.proofs.Held.{placed_held, missing_held, kept_rises, went_state}
+use Rattle.rev_undotree.proofs.Trips.{depth_few, go_distance}
+use Rattle.rev_undotree.proofs.session.Session.go.Goals as goal
+
+pub find-requires-clause-rises : goal.find-requires-clause-rises
+find-requires-clause-rises g c = kept_rises _ _ _ _ _ _ c.self.invariant
+
+pub go-requires-clause-path : goal.go-requires-clause-path
+go-requires-clause-path g c = subst (λ z. IsPath c.self.inside.position.base z c.in-Some.at) (sym c.as_slice.ensures.value) c.in-Some.ensures.some.path
+
+pub go-requires-clause-goal : goal.go-requires-clause-goal
+go-requires-clause-goal g c = subst (λ z. Proper z c.in-Some.at) (sym c.as_slice.ensures.value) c.in-Some.ensures.some.proper
+
+pub invariant_of-self : goal.invariant_of-self
+invariant_of-self g c = moved_kept _ _ _ _ _ _ _ _ _ _ c.self.invariant c.go.ensures.moved
+
+pub returns-in-Some-clause-held : goal.returns-in-Some-clause-held
+returns-in-Some-clause-held g c = (λ _. rw (← c.self.view_is) (placed_held _ _ _ _ _ _ _ _ _ c.self.invariant c.in-Some.ensures.some), λ _. refl)
+
+pub returns-in-Some-clause-ok : goal.returns-in-Some-clause-ok
+returns-in-Some-clause-ok g c =
+    let i = c.self.inside.position in
+    let n = c.go.new.self in
+    rw (← c.self.view_is) (went_state _ i.store n.store i.base n.base i.way.items n.way.items c.as_slice.result.now c.find.new.way.items i.here n.here c.in-Some.at c.self.inside.issued c.args.node.0 c.go.ensures.moved c.in-Some.ensures.some c.as_slice.ensures.value c.go.ensures.way c.go.ensures.here)
+
+pub returns-in-None-clause-held : goal.returns-in-None-clause-held
+returns-in-None-clause-held g c = (λ e. cc, λ e. absurd (missing_held c.self.inside.position.base c.self.inside.issued c.args.node.0 c.in-None.ensures.none c.in-None.ensures.missing (rw (← c.self.view_is) at e)))
+
+pub go-requires-clause-few : goal.go-requires-clause-few
+go-requires-clause-few g c = rw c.as_slice.ensures.value (depth_few _ _ c.self.inside.position.base c.self.inside.position.way.items c.find.new.way.items c.self.inside.position.here c.in-Some.at c.self.inside.issued c.args.node.0 c.self.invariant c.in-Some.ensures.some)
+
+pub returns-in-Some-clause-turns : goal.returns-in-Some-clause-turns
+returns-in-Some-clause-turns g c =
+    rw (← c.self.view_is) (go_distance _ _ c.self.inside.position.base c.self.inside.position.way.items c.find.new.way.items c.as_slice.result.now c.self.inside.position.here c.in-Some.at c.self.inside.issued c.args.node.0 c.go.result c.self.invariant c.in-Some.ensures.some c.as_slice.ensures.value c.go.ensures.trip)

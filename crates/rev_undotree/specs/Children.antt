@@ -1,0 +1,33 @@
+-- The children of the node at a position of a branch, by rising number.
+use Rattle.std.specs.Prelude.{ℕ, cond, eqb, ltb, List, [], ◌∷◌, Option, Some, None}
+use Rattle.std.proofs.Common.{suc, zero}
+use Rattle.rev_undotree.specs.Tree.{PlainNode, PlainBranch, Forks, bare, fork}
+use Rattle.rev_undotree.specs.Order.{head_number}
+
+abbrev pub before_rest : Option ℕ → List ℕ → List ℕ
+before_rest None l = l
+before_rest (Some n) l = n ∷ l
+
+-- the first numbers of the forks that leave the run at k
+abbrev pub firsts : ℕ → Forks → List ℕ
+firsts k bare = []
+firsts k (fork f r i m) = cond (eqb f k) (before_rest (head_number r) (firsts k m)) (firsts k m)
+
+-- a number put where it belongs in a rising list
+abbrev pub put_in : Option ℕ → List ℕ → List ℕ
+put_in None l = l
+put_in (Some a) [] = a ∷ []
+put_in (Some a) (n ∷ l) = cond (ltb a n) (a ∷ n ∷ l) (n ∷ put_in (Some a) l)
+
+abbrev pub next_number : ℕ → List PlainNode → Option ℕ
+next_number k [] = None
+next_number zero (e ∷ es) = Some e.number
+next_number (suc k) (e ∷ es) = next_number k es
+
+abbrev pub children_at : PlainBranch → ℕ → List ℕ
+children_at b k = put_in (next_number k b.run) (firsts k b.forks)
+
+abbrev pub forks_from : Forks → ℕ → Forks
+forks_from f zero = f
+forks_from bare (suc j) = bare
+forks_from (fork f r i m) (suc j) = forks_from m j

@@ -1,0 +1,15 @@
+pub mod Steps
+pub mod Tree
+pub mod Ways
+pub mod States
+pub mod Rows
+pub mod Positions
+pub mod Paths
+pub mod Order
+pub mod Finds
+pub mod Machine
+pub mod Faults
+pub mod Trips
+pub mod Children
+pub mod Trails
+pub mod Prunes

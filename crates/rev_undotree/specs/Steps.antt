@@ -1,0 +1,31 @@
+-- What is known here of a step and of a record: nothing but their contracts.
+use Rattle.std.specs.Prelude.{◌≡◌, reverse}
+pub use Rattle.rev_model.specs.State.{State}
+pub use Rattle.rev_model.specs.Sound.{Sound}
+pub use Rattle.rev_model.specs.Actor.{Step}
+pub use Rattle.rev_moves.specs.Record.{PlainRecord}
+pub use Rattle.rev_model.specs.declared.Outcome.{Outcome}
+use Rattle.rev_model.specs.Actor as actor
+use Rattle.rev_model.specs.Move as moves
+
+-- the state that a step leaves, and its outcome
+unfoldable pub next : State → Step → State
+next s e = (actor.step s e).0
+
+unfoldable pub outcome_of : State → Step → Outcome
+outcome_of s e = (actor.step s e).1
+
+-- a record may be turned at s: s is sound, and each move is possible in its turn
+unfoldable pub Fits : PlainRecord → State → Type 0
+Fits r s = Sound s × moves.Fits r.moves s
+
+-- the state and the record that turning leaves
+unfoldable pub turned : PlainRecord → State → State × PlainRecord
+turned r s = ((moves.turned r.moves s).0, record { moves = (moves.turned r.moves s).1; notes = reverse r.notes; room = r.room })
+
+-- r turns t into s, and what it becomes turns s into t and gives r back
+pub record Leads (r : PlainRecord) (t s : State) : Type 0 where
+  pub fits : Fits r t
+  pub there : (turned r t).0 ≡ s
+  pub fits_back : Fits (turned r t).1 s
+  pub back : turned (turned r t).1 s ≡ (t, r)

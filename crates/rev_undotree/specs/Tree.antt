@@ -1,0 +1,117 @@
+-- What a branch is seen as: where it leaves its parent's run, its run, and the branches that fork from it.
+use Rattle.std.specs.Prelude.{◌≡◌, ℕ, ◌+◌, ◌≤◌, List, [], ◌∷◌, ◌++◌, length, get_or, set, map, refl, Option, Some, None}
+use Rattle.std.proofs.Common.{arith, ap, ◌∙◌, suc, zero}
+use Rattle.std.specs.Coded.{Coded, code_by, coded×, coded_ℕ, coded_list, coded_option}
+use Rattle.rev_undotree.specs.Steps.{Step, Outcome, PlainRecord}
+use denote.Param.Weighed.{most}
+
+-- one node of a run
+pub record PlainNode : Type 0 where
+  pub number : ℕ
+  pub step : Step
+  pub outcome : Outcome
+  pub undo : PlainRecord
+
+-- some branches, in the order in which they were made
+pub data Forks : Type 0 where
+  bare : Forks
+  fork : (from : ℕ) (run : List PlainNode) (inner : Forks) (more : Forks) → Forks
+
+-- a branch
+pub record PlainBranch : Type 0 where
+  pub from : ℕ
+  pub run : List PlainNode
+  pub forks : Forks
+
+abbrev pub count : Forks → ℕ
+count bare = 0
+count (fork f r i m) = suc (count m)
+
+abbrev pub size_of : Forks → ℕ
+size_of bare = 0
+size_of (fork f r i m) = 1 + size_of i + size_of m
+
+abbrev pub branch_size : PlainBranch → ℕ
+branch_size b = size_of b.forks
+
+abbrev pub forks_of : List PlainBranch → Forks
+forks_of [] = bare
+forks_of (b ∷ bs) = fork b.from b.run b.forks (forks_of bs)
+
+abbrev pub no_branch : PlainBranch
+no_branch = record { from = 0; run = []; forks = bare }
+
+abbrev pub fork_at : Forks → ℕ → PlainBranch
+fork_at bare i = no_branch
+fork_at (fork f r i m) zero = record { from = f; run = r; forks = i }
+fork_at (fork f r i m) (suc k) = fork_at m k
+
+abbrev pub put_fork : Forks → ℕ → PlainBranch → Forks
+put_fork bare k b = bare
+put_fork (fork f r i m) zero b = fork b.from b.run b.forks m
+put_fork (fork f r i m) (suc k) b = fork f r i (put_fork m k b)
+
+abbrev pub add_fork : Forks → PlainBranch → Forks
+add_fork bare b = fork b.from b.run b.forks bare
+add_fork (fork f r i m) b = fork f r i (add_fork m b)
+
+-- a code for branches: a list of runs and ends, from which a stack rebuilds them
+abbrev Part : Type 0
+Part = Option (ℕ × List PlainNode)
+
+abbrev part_code : Coded PlainNode → Coded Part
+part_code node = coded_option (coded× coded_ℕ (coded_list node))
+
+abbrev parts : Forks → List Part → List Part
+parts bare ps = None ∷ ps
+parts (fork f r i m) ps = Some (f, r) ∷ parts i (parts m ps)
+
+abbrev joined : Part → List Forks → List Forks
+joined None st = bare ∷ st
+joined (Some p) [] = []
+joined (Some p) (i ∷ []) = []
+joined (Some p) (i ∷ (m ∷ st)) = fork p.0 p.1 i m ∷ st
+
+abbrev rebuilt : List Part → List Forks
+rebuilt [] = []
+rebuilt (p ∷ ps) = joined p (rebuilt ps)
+
+abbrev first_of_list : List Forks → Forks
+first_of_list [] = bare
+first_of_list (f ∷ fs) = f
+
+pub rebuilt-parts : (f : Forks) (ps : List Part) → rebuilt (parts f ps) ≡ f ∷ rebuilt ps
+rebuilt-parts bare ps = refl
+rebuilt-parts (fork f r i m) ps =
+    ap (joined (Some (f, r))) (rebuilt-parts i (parts m ps) ∙ ap (λ st. i ∷ st) (rebuilt-parts m ps))
+
+abbrev pub forks_code : Coded PlainNode → Coded Forks
+forks_code node = code_by (List Part) (coded_list (part_code node)) (λ f. parts f []) (λ ps. first_of_list (rebuilt ps)) (λ f. ap first_of_list (rebuilt-parts f []))
+
+abbrev pub branch_code : Coded PlainNode → Coded PlainBranch
+branch_code node =
+    code_by (ℕ × (List PlainNode × Forks)) (coded× coded_ℕ (coded× (coded_list node) (forks_code node)))
+    (λ b. (b.from, (b.run, b.forks))) (λ p. record { from = p.0; run = p.1.0; forks = p.1.1 }) (λ _. refl)
+
+-- no branch is deeper than all of them together
+pub most_le-size : {X : Type 0} (v : X → PlainBranch) (bs : List X) → most (λ b. size_of (v b).forks + 1) bs ≤ size_of (forks_of (map v bs))
+most_le-size v [] = omega arith
+most_le-size v (b ∷ bs) = omega (arith, most_le-size v bs)
+
+pub count-forks_of : (bs : List PlainBranch) → count (forks_of bs) ≡ length bs
+count-forks_of [] = refl
+count-forks_of (b ∷ bs) = ap suc (count-forks_of bs)
+
+pub fork_at-forks_of : (bs : List PlainBranch) (i : ℕ) → fork_at (forks_of bs) i ≡ get_or bs i no_branch
+fork_at-forks_of [] i = refl
+fork_at-forks_of (b ∷ bs) zero = refl
+fork_at-forks_of (b ∷ bs) (suc i) = fork_at-forks_of bs i
+
+pub put_fork-forks_of : (bs : List PlainBranch) (i : ℕ) (b : PlainBranch) → put_fork (forks_of bs) i b ≡ forks_of (set bs i b)
+put_fork-forks_of [] i b = refl
+put_fork-forks_of (c ∷ bs) zero b = refl
+put_fork-forks_of (c ∷ bs) (suc i) b = ap (λ m. fork c.from c.run c.forks m) (put_fork-forks_of bs i b)
+
+pub add_fork-forks_of : (bs : List PlainBranch) (b : PlainBranch) → add_fork (forks_of bs) b ≡ forks_of (bs ++ b ∷ [])
+add_fork-forks_of [] b = refl
+add_fork-forks_of (c ∷ bs) b = ap (λ m. fork c.from c.run c.forks m) (add_fork-forks_of bs b)

@@ -1,0 +1,424 @@
+//! A branch: a run of nodes, and the branches that fork from it.
+ghost use Rattle.std.specs.Prelude.{◌≡◌, ◌∷◌, ◌^◌, ◌<◌, ◌-◌, ◌≤◌, ℕ, Bool, IfOk, IfErr, OnOk, OnErr, IfSome, IfNone, Some, None, [], length, get_or, slice_get, cond, eqb, List, map};
+ghost use Rattle.rev_steps.specs.Plain.{plain_step};
+ghost use Rattle.rev_undotree.specs.Steps.{Fits, turned};
+ghost use Rattle.rev_undotree.specs.Ways.{IsWay, reach, undo_of, at_end, with_undo, with_node, with_fork, no_node};
+ghost use Rattle.rev_undotree.specs.Tree.{count, bare, fork_at};
+ghost use Rattle.rev_undotree.specs.Rows.{find_run};
+ghost use Rattle.rev_undotree.specs.Order.{head_number};
+ghost use Rattle.rev_undotree.specs.Prunes.{trimmed, cropped};
+ghost use Rattle.rev_undotree.specs.Children.{children_at, put_in, next_number};
+ghost use Rattle.rev_undotree.specs.Finds.{RisesRun, Rises, Fitted, Found, IsMissing};
+
+use crate::junction::Junction;
+use arrayvec::ArrayVec;
+use rev_inverse::Store;
+use rev_model::Outcome;
+use rev_moves::Record;
+use rev_steps::Step;
+use std::alloc::{AllocError, AllocFailed, Allocator};
+use std::marker::Model;
+
+/// One node of a run.
+#[derive(Drop)]
+pub struct Node<A: Allocator> {
+    pub number: u32,
+    pub step: Step<A>,
+    pub outcome: Outcome,
+    pub undo: Record<A>,
+}
+
+impl<A: Allocator> Model for Node<A> {
+    ghost use Rattle.rev_steps.specs.Plain.{plain_step};
+    ghost use Rattle.rev_undotree.specs.Tree.{PlainNode};
+
+    ghost Value = { PlainNode };
+
+    ghost view = { λ a. record { number = a.number; step = plain_step a.step; outcome = a.outcome; undo = a.undo } };
+}
+
+impl<A: Allocator> Node<A> {
+    /// Turns the record of the node.
+    fn turn(&mut self, store: &mut Store<A>)
+        requires { Fits self.old.undo store.old }
+        ensures state { store.new ≡ (turned self.old.undo store.old).0 }
+        ensures node { self.new ≡ record self.old { undo = (turned self.old.undo store.old).1 } }
+    {
+        store.turn(&mut self.undo);
+    }
+}
+
+/// A run of nodes, where it leaves its parent's run, and the branches that fork from it.
+#[derive(Drop)]
+pub struct Branch<A: Allocator> {
+    from: usize,
+    run: Vec<Node<A>, A>,
+    forks: Vec<Box<Branch<A>, A>, A>,
+}
+
+impl<A: Allocator> Model for Branch<A> {
+    ghost use Rattle.std.specs.Prelude.{map};
+    ghost use Rattle.std.proofs.Common.{arith};
+    ghost use Rattle.std.specs.Coded.{codes};
+    ghost use Rattle.rev_undotree.specs.Tree.{PlainBranch, branch_code, forks_of, branch_size, most_le-size};
+
+    ghost Value = { PlainBranch };
+
+    ghost coded = { branch_code (Prim.hlevel codes) };
+
+    ghost view = { λ a. record { from = a.from; run = a.run.items; forks = forks_of (map (λ b. b.value) a.forks.items) } };
+
+    ghost size = { branch_size };
+
+    ghost size_decreases = { λ a h. omega (arith, most_le-size (λ b. b.value) a.forks.items) };
+}
+
+impl<A: Allocator> Branch<A> {
+    /// Turns the record of the node at `at` of the branch at the end of `way`.
+    pub fn turn(&mut self, way: &[Junction], at: usize, store: &mut Store<A>)
+        requires way { IsWay self.old way.now }
+        requires within { at < length (reach self.old way.now).run }
+        requires fits { Fits (undo_of (reach self.old way.now).run at) store.old }
+        ensures state { store.new ≡ (turned (undo_of (reach self.old way.now).run at) store.old).0 }
+        ensures tree { self.new ≡ at_end (with_undo at (turned (undo_of (reach self.old way.now).run at) store.old).1) self.old way.now }
+    {
+        match way {
+            [] => {
+                let node = &mut self.run[at];
+                node.turn(store);
+            }
+            [junction, rest @ ..] => {
+                let child = &mut self.forks[junction.fork];
+                child.turn(rest, at, store);
+            }
+        }
+    }
+
+    /// The branch at the end of `way`.
+    pub fn reach<'a>(&'a self, way: &[Junction]) -> &'a Branch<A>
+        requires { IsWay self.now way.now }
+        ensures { result.now ≡ reach self.now way.now }
+    {
+        match way {
+            [] => self,
+            [junction, rest @ ..] => self.forks[junction.fork].reach(rest),
+        }
+    }
+
+    /// How many nodes the run has.
+    pub fn len(&self) -> usize
+        ensures value { result ≡ length self.now.run }
+        ensures small { length self.now.run < 2 ^ 63 }
+    {
+        self.run.len()
+    }
+
+    /// The number of the node at `at` of the run.
+    pub fn number(&self, at: usize) -> u32
+        requires { at < length self.now.run }
+        ensures { result ≡ (get_or self.now.run at no_node).number }
+    {
+        let node = &self.run[at];
+        node.number
+    }
+
+    /// The node at `at` of the run.
+    pub fn node(&self, at: usize) -> &Node<A>
+        requires { at < length self.now.run }
+        ensures { result.now ≡ get_or self.now.run at no_node }
+    {
+        &self.run[at]
+    }
+
+    /// The step of the node at `at` of the run, and its outcome.
+    pub fn step_at<'a>(&'a self, at: usize) -> (&'a Step<A>, Outcome)
+        requires { at < length self.now.run }
+        ensures step { plain_step result.0.now ≡ (get_or self.now.run at no_node).step }
+        ensures outcome { result.1 ≡ (get_or self.now.run at no_node).outcome }
+    {
+        let node = &self.run[at];
+        (&node.step, node.outcome)
+    }
+
+    /// How many branches fork from the run.
+    pub fn fork_count(&self) -> usize
+        ensures { result ≡ count self.now.forks }
+    {
+        self.forks.len()
+    }
+
+    /// Where the node `number` stands in the run.
+    fn seek(&self, number: u32) -> Option<usize>
+        requires { RisesRun self.now.run }
+        ensures some { IfSome result (λ k. (k < length self.now.run) × ((get_or self.now.run k no_node).number ≡ number)) }
+        ensures none { IfNone result ((p : ℕ) (c : Bool) → find_run number p c self.now.run ≡ None) }
+        ensures small { length self.now.run < 2 ^ 63 }
+    {
+        let mut low = 0;
+        let mut high = self.len();
+        'narrow: while low < high {
+            let middle = low + (high - low) / 2;
+            let found = self.number(middle);
+            if found == number {
+                return Some(middle);
+            }
+            if found < number {
+                low = middle + 1;
+            } else {
+                high = middle;
+            }
+        }
+        None
+    }
+
+    /// Where the node `number` stands below the end of `way`, which then leads there.
+    pub fn locate(&self, number: u32, way: &mut ArrayVec<Junction, 64>) -> Option<usize>
+        requires room { length way.old.items ≤ 64 }
+        requires rises { Rises self.now }
+        requires fitted { Fitted self.now.forks self.now.run (64 - length way.old.items) 0 0 }
+        ensures some { IfSome result (λ at. Found number self.now way.old.items way.new.items at) }
+        ensures none { IfNone result (IsMissing number self.now) }
+        ensures way { IfNone result (way.new.items ≡ way.old.items) }
+    {
+        match self.seek(number) {
+            Some(at) => return Some(at + 1),
+            None => {}
+        }
+        let mut fork = 0;
+        'each: while fork < self.fork_count() {
+            let child = &self.forks[fork];
+            way.push(Junction {
+                taken: child.from,
+                fork,
+            });
+            match child.locate(number, way) {
+                Some(at) => return Some(at),
+                None => {}
+            }
+            way.pop();
+            fork += 1;
+        }
+        None
+    }
+
+    /// The number of the next node of the run.
+    fn next_at(&self, here: usize) -> Option<u32>
+        ensures { result ≡ next_number here self.now.run }
+    {
+        if here >= self.len() {
+            return None;
+        }
+        Some(self.number(here))
+    }
+
+    /// The first number of a fork that leaves the run at `here`.
+    fn first_at(&self, fork: usize, here: usize) -> Option<u32>
+        requires { fork < count self.now.forks }
+        ensures { result ≡ cond (eqb (fork_at self.now.forks fork).from here) (head_number (fork_at self.now.forks fork).run) None }
+    {
+        let child = &self.forks[fork];
+        if child.from != here {
+            return None;
+        }
+        child.next_at(0)
+    }
+
+    /// The child by number `index` of the node behind the first `here` of the run, by rising number.
+    pub fn child(&self, here: usize, index: usize) -> Option<u32>
+        ensures { result ≡ slice_get (children_at self.now here) index }
+    {
+        let mut next = self.next_at(here);
+        let mut left = index;
+        let mut fork = 0;
+        'each: while fork < self.fork_count() {
+            match self.first_at(fork, here) {
+                Some(number) => match pass(next, left, number) {
+                    Ok(found) => return Some(found),
+                    Err((rest, count)) => {
+                        next = rest;
+                        left = count;
+                    }
+                },
+                None => {}
+            }
+            fork += 1;
+        }
+        if left == 0 { next } else { None }
+    }
+
+    /// Adds a node to the run of the branch at the end of `way`, or hands it back.
+    pub fn extend(&mut self, way: &[Junction], node: Node<A>) -> Result<(), AllocFailed<Node<A>>>
+        requires { IsWay self.old way.now }
+        ensures ok { OnOk result (self.new ≡ at_end (with_node node) self.old way.now) }
+        ensures err { OnErr result (self.new ≡ self.old) }
+        ensures returned { IfErr result (λ e. e.value ≡ node) }
+    {
+        match way {
+            [] => self.run.push(node),
+            [junction, rest @ ..] => {
+                let child = &mut self.forks[junction.fork];
+                child.extend(rest, node)
+            }
+        }
+    }
+
+    /// Adds a fork to the branch at the end of `way`, or hands it back.
+    pub fn split(
+        &mut self,
+        way: &[Junction],
+        fork: Box<Branch<A>, A>,
+    ) -> Result<(), AllocFailed<Box<Branch<A>, A>>>
+        requires { IsWay self.old way.now }
+        ensures ok { OnOk result (self.new ≡ at_end (with_fork fork.value) self.old way.now) }
+        ensures err { OnErr result (self.new ≡ self.old) }
+        ensures returned { IfErr result (λ e. e.value ≡ fork) }
+    {
+        match way {
+            [] => self.forks.push(fork),
+            [junction, rest @ ..] => {
+                let child = &mut self.forks[junction.fork];
+                child.split(rest, fork)
+            }
+        }
+    }
+
+    /// Empties the branch if it leaves its parent's run behind the first `at` nodes.
+    fn trim(&mut self, at: usize)
+        ensures { self.new ≡ trimmed at self.old }
+    {
+        if self.from > at {
+            self.from = 0;
+            self.run.clear();
+            self.forks.clear();
+        }
+    }
+
+    /// Keeps the first `at` nodes of the run, and the forks that leave it there.
+    fn crop(&mut self, at: usize)
+        ensures { self.new ≡ cropped at self.old }
+    {
+        self.run.truncate(at);
+        trim_forks(&mut self.forks, at);
+    }
+
+    /// Takes the node at `at` of the run of the branch at the end of `way` out of the tree, with all below it.
+    pub fn prune(&mut self, way: &[Junction], at: usize)
+        requires { IsWay self.old way.now }
+        ensures { self.new ≡ at_end (cropped at) self.old way.now }
+    {
+        match way {
+            [] => self.crop(at),
+            [junction, rest @ ..] => {
+                let child = &mut self.forks[junction.fork];
+                child.prune(rest, at);
+            }
+        }
+    }
+
+    /// A branch with no node.
+    pub fn root(alloc: &A) -> Result<Branch<A>, AllocError>
+    where
+        A: Clone,
+        ensures { IfOk result (λ b. b ≡ record { from = 0; run = []; forks = bare }) }
+    {
+        Ok(Branch {
+            from: 0,
+            run: Vec::new(alloc.clone()?),
+            forks: Vec::new(alloc.clone()?),
+        })
+    }
+
+    /// A branch of one node that leaves its parent's run at `from`.
+    pub fn sprout(
+        alloc: &A,
+        from: usize,
+        node: Node<A>,
+    ) -> Result<Box<Branch<A>, A>, AllocFailed<Node<A>>>
+    where
+        A: Clone,
+        ensures ok { IfOk result (λ b. b.value ≡ record { from = from; run = node ∷ []; forks = bare }) }
+        ensures err { IfErr result (λ e. e.value ≡ node) }
+    {
+        let Ok((first, second, third)) = handles(alloc) else {
+            return Err(AllocFailed { value: node });
+        };
+        let mut run = Vec::new(first);
+        if let Err(refused) = run.push(node) {
+            return Err(refused);
+        }
+        match Box::new(
+            second,
+            Branch {
+                from,
+                run,
+                forks: Vec::new(third),
+            },
+        ) {
+            Ok(branch) => Ok(branch),
+            Err(refused) => Err(AllocFailed {
+                value: refused.value.into_node(),
+            }),
+        }
+    }
+
+    /// The node of a branch that has one.
+    pub fn into_node(self) -> Node<A>
+        requires { length self.run ≡ 1 }
+        ensures { self.run ≡ result ∷ [] }
+    {
+        let Branch {
+            from: _,
+            mut run,
+            forks: _,
+        } = self;
+        match run.pop() {
+            Some(node) => node,
+            None => unreachable!(),
+        }
+    }
+}
+
+// Empties each fork that leaves its run behind the first `at` nodes.
+fn trim_forks<A: Allocator>(forks: &mut Vec<Box<Branch<A>, A>, A>, at: usize)
+    ensures items { map (λ b. b.value) forks.new.items ≡ map (λ b. trimmed at b.value) forks.old.items }
+    ensures length { length forks.new.items ≡ length forks.old.items }
+{
+    for fork in forks.iter_mut() {
+        fork.trim(at);
+    }
+}
+
+// Passes `number`, the next of a rising list, of which the one at `left` is wanted where `next` belongs into it.
+fn pass(next: Option<u32>, left: usize, number: u32) -> Result<u32, (Option<u32>, usize)>
+    ensures ok { IfOk result (λ x. (ys : List ℕ) → slice_get (put_in next (number ∷ ys)) left ≡ Some x) }
+    ensures err { IfErr result (λ p. (ys : List ℕ) → slice_get (put_in next (number ∷ ys)) left ≡ slice_get (put_in p.0 ys) p.1) }
+{
+    match next {
+        None => {
+            if left == 0 {
+                return Ok(number);
+            }
+            Err((None, left - 1))
+        }
+        Some(own) => {
+            if own < number {
+                if left == 0 {
+                    return Ok(own);
+                }
+                if left == 1 {
+                    return Ok(number);
+                }
+                return Err((None, left - 2));
+            }
+            if left == 0 {
+                return Ok(number);
+            }
+            Err((Some(own), left - 1))
+        }
+    }
+}
+
+// Three handles on the allocator.
+fn handles<A: Allocator + Clone>(alloc: &A) -> Result<(A, A, A), AllocError> {
+    Ok((alloc.clone()?, alloc.clone()?, alloc.clone()?))
+}

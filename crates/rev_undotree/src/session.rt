@@ -1,0 +1,340 @@
+//! A session: a store, and the tree of all that was played on it.
+ghost use Rattle.std.specs.Prelude.{◌≡◌, ◌++◌, ◌∷◌, [], ◌+◌, length, IfOk, IfErr, OnErr, OnOk, IsOk, IsTrue, ◌↔◌, Some, None, Err, true, false, not, ◌<◌, slice_get, IfSome, IfNone, IsNone, ◌⊎◌};
+ghost use Rattle.std.specs.Option.{option_map};
+ghost use Rattle.rev_steps.specs.Plain.{plain_step};
+ghost use Rattle.rev_undotree.specs.Steps.{Sound, outcome_of};
+ghost use Rattle.rev_undotree.specs.Rows.{at, parent_of, row, row_of, Row};
+ghost use Rattle.rev_undotree.specs.Finds.{is_held};
+ghost use Rattle.rev_undotree.specs.Machine.{is_continued, nesting_below, lineage, distance, children};
+ghost use Rattle.rev_undotree.specs.Trails.{Trailed};
+ghost use Rattle.rev_undotree.specs.Prunes.{pruned, is_below};
+ghost use Rattle.rev_undotree.specs.Faults.{IsFault, TooManyNodes, TooDeep};
+
+use crate::branch::{Branch, Node};
+use crate::junction::Junction;
+use crate::position::{Position, above, is_on_way};
+use arrayvec::ArrayVec;
+use rev_inverse::Store;
+use rev_model::Outcome;
+use rev_moves::Record;
+use rev_steps::{Step, apply};
+use std::alloc::{AllocError, Allocator};
+use std::marker::Model;
+use thiserror::Error;
+
+/// How many nodes a session ever makes, the root left out.
+pub const MAX_NODES: u32 = 1048576;
+
+/// A node of a session: 0 is the root, and the others are numbered from 1 as they are played.
+#[derive(Clone, Copy, Debug, PartialEq, Eq, PartialOrd, Ord, Hash)]
+pub struct NodeId(pub u32);
+
+/// Why a play was refused.
+#[derive(Clone, Copy, Debug, PartialEq, Eq, Drop, Error)]
+pub enum PlayFault {
+    /// As many numbers were given out as there are.
+    #[error("too many nodes")]
+    TooManyNodes,
+    /// The node would be the 65th on its way from the root that forks off.
+    #[error("too many nested forks")]
+    TooDeep,
+    #[error("out of memory")]
+    Memory,
+}
+
+/// The current node is the root, which has no parent.
+#[derive(Clone, Copy, Debug, PartialEq, Eq, Drop, Error)]
+#[error("the current node is the root")]
+pub struct AtRoot;
+
+/// The current node has no child of this index.
+#[derive(Clone, Copy, Debug, PartialEq, Eq, Drop, Error)]
+#[error("no such child")]
+pub struct NoChild;
+
+/// No node that is held has this number.
+#[derive(Clone, Copy, Debug, PartialEq, Eq, Drop, Error)]
+#[error("no such node")]
+pub struct NoNode;
+
+/// Why a node was not pruned.
+#[derive(Clone, Copy, Debug, PartialEq, Eq, Drop, Error)]
+pub enum PruneFault {
+    /// No node that is held has this number.
+    #[error("no such node")]
+    NoNode,
+    /// The root stays.
+    #[error("the root stays")]
+    IsRoot,
+    /// It is the current node, or stands on the way to it.
+    #[error("on the way to the current node")]
+    OnPath,
+}
+
+/// The node that a play made, and the outcome of its step.
+#[derive(Clone, Copy, Debug, PartialEq, Eq)]
+pub struct Played {
+    pub node: NodeId,
+    pub outcome: Outcome,
+}
+
+/// A store, and the tree of all that was played on it. The store stands at the current node.
+#[derive(Drop)]
+pub struct Session<A: Allocator> {
+    position: Position<A>,
+    issued: u32,
+    alloc: A,
+}
+
+impl<A: Allocator> Model for Session<A> {
+    ghost use Rattle.std.specs.Coded.{codes};
+    ghost use Rattle.rev_model.specs.Codes.{coded_contents, coded_keys};
+    ghost use Rattle.rev_undotree.specs.Rows.{rows_of, number_at};
+    ghost use Rattle.rev_undotree.specs.States.{rewind};
+    ghost use Rattle.rev_undotree.specs.Positions.{SessionState, Kept};
+
+    ghost Value = { SessionState };
+
+    ghost coded = { Prim.hlevel (codes, coded_contents, coded_keys) };
+
+    ghost view = { λ a. record { root = rewind a.position.base a.position.way.items a.position.here a.position.store; rows = rows_of a.issued a.position.base; current = number_at a.position.base a.position.way.items a.position.here } };
+
+    ghost invariant = { λ a. Kept (rewind a.position.base a.position.way.items a.position.here a.position.store) a.position.store a.position.base a.position.way.items a.position.here a.issued };
+}
+
+impl<A: Allocator + Clone> Session<A> {
+    /// A session whose root is `store`, or the store where there is no memory.
+    pub fn open(alloc: A, store: Store<A>) -> Result<Session<A>, (AllocError, Store<A>)>
+        requires { Sound store }
+        ensures ok { IfOk result (λ s. s ≡ record { root = store; rows = []; current = 0 }) }
+        ensures err { IfErr result (λ e. e.1 ≡ store) }
+    {
+        let Ok(base) = Branch::root(&alloc) else {
+            return Err((AllocError, store));
+        };
+        Ok(Session {
+            position: Position {
+                store,
+                base,
+                way: ArrayVec::new(),
+                here: 0,
+            },
+            issued: 0,
+            alloc,
+        })
+    }
+
+    /// Plays a step below the current node; its node is then the current one. A refused step is handed back, and
+    /// nothing is changed. TooManyNodes goes before TooDeep, and that before Memory.
+    pub fn play(&mut self, step: Step<A>) -> Result<Played, (PlayFault, Step<A>)>
+        ensures ok { IfOk result (λ p. self.new ≡ record { root = self.old.root; rows = self.old.rows ++ Some (row self.old.current (plain_step step) (not (is_continued self.old.rows self.old.current))) ∷ []; current = p.node.0 }) }
+        ensures node { IfOk result (λ p. p.node.0 ≡ length self.old.rows + 1) }
+        ensures outcome { IfOk result (λ p. p.outcome ≡ outcome_of (at self.old.root self.old.rows self.old.current) (plain_step step)) }
+        ensures err { OnErr result (self.new ≡ self.old) }
+        ensures many { IsFault result TooManyNodes ↔ (length self.old.rows ≡ 1048576) }
+        ensures deep { IsFault result TooDeep ↔ ((length self.old.rows < 1048576) × (64 < nesting_below self.old.rows self.old.current)) }
+        ensures returned { IfErr result (λ e. plain_step e.1 ≡ plain_step step) }
+    {
+        if self.issued == MAX_NODES {
+            return Err((PlayFault::TooManyNodes, step));
+        }
+        if !self.position.has_room() {
+            return Err((PlayFault::TooDeep, step));
+        }
+        let Ok((outcome, undo)) = apply(&mut self.position.store, &step) else {
+            return Err((PlayFault::Memory, step));
+        };
+        let number = self.issued + 1;
+        let node = Node {
+            number,
+            step,
+            outcome,
+            undo,
+        };
+        match self.position.grow(&self.alloc, node) {
+            Ok(()) => {
+                self.issued = number;
+                Ok(Played {
+                    node: NodeId(number),
+                    outcome,
+                })
+            }
+            Err(refused) => {
+                let Node {
+                    number: _,
+                    step,
+                    outcome: _,
+                    mut undo,
+                } = refused.value;
+                self.position.store.turn(&mut undo);
+                Err((PlayFault::Memory, step))
+            }
+        }
+    }
+
+    /// The store at the current node: what the steps from the root to it give from scratch.
+    pub fn store(&self) -> &Store<A>
+        ensures state { result.now ≡ at self.now.root self.now.rows self.now.current }
+        ensures sound { Sound result.now }
+    {
+        &self.position.store
+    }
+
+    /// The current node.
+    pub fn current(&self) -> NodeId
+        ensures { result.0 ≡ self.now.current }
+    {
+        NodeId(self.position.number())
+    }
+
+    /// How many numbers were given out, the root's left out.
+    pub fn issued(&self) -> u32
+        ensures { result ≡ length self.now.rows }
+    {
+        self.issued
+    }
+
+    /// How many nodes stand on the way to the current node, itself included and the root left out.
+    pub fn depth(&self) -> usize
+        ensures { result ≡ length (lineage self.now.rows self.now.current) }
+    {
+        self.position.depth()
+    }
+
+    /// The node at `depth` of the way to the current node, from 1, with its step and its record, which leads back to its
+    /// parent.
+    pub fn trail<'a>(&'a self, depth: usize) -> Option<(NodeId, &'a Step<A>, &'a Record<A>)>
+        ensures some { IfSome result (λ x. Trailed self.now depth x.0.0 (plain_step x.1.now) x.2.now) }
+        ensures none { IsNone result ↔ ((depth ≡ 0) ⊎ (length (lineage self.now.rows self.now.current) < depth)) }
+    {
+        if depth == 0 {
+            return None;
+        }
+        if depth > self.position.depth() {
+            return None;
+        }
+        let (level, at) = self.position.ancestor(depth);
+        let node = self
+            .position
+            .base
+            .reach(&self.position.way[..level])
+            .node(at - 1);
+        Some((NodeId(node.number), &node.step, &node.undo))
+    }
+
+    /// The parent of a node that is held, none for the root.
+    pub fn parent(&self, node: NodeId) -> Option<NodeId>
+        ensures { option_map (λ n. n.0) result ≡ parent_of self.now.rows node.0 }
+    {
+        if node.0 == 0 {
+            return None;
+        }
+        let mut way = ArrayVec::new();
+        match self.position.find(node.0, &mut way) {
+            Some(at) => {
+                let here = above(&mut way, at);
+                Some(NodeId(self.position.number_at(way.as_slice(), here)))
+            }
+            None => None,
+        }
+    }
+
+    /// The step and the outcome of a node that is held, none for the root.
+    pub fn row<'a>(&'a self, node: NodeId) -> Option<(&'a Step<A>, Outcome)>
+        ensures some { IfSome result (λ x. (r : Row) × (row_of self.now.rows node.0 ≡ Some r) × (plain_step x.0.now ≡ r.step) × (x.1 ≡ outcome_of (at self.now.root self.now.rows r.parent) r.step)) }
+        ensures none { IfNone result (row_of self.now.rows node.0 ≡ None) }
+    {
+        if node.0 == 0 {
+            return None;
+        }
+        let mut way = ArrayVec::new();
+        match self.position.find(node.0, &mut way) {
+            Some(at) => Some(self.position.base.reach(way.as_slice()).step_at(at - 1)),
+            None => None,
+        }
+    }
+
+    /// The child by number `index` of a node that is held, counted from 0 by rising number.
+    pub fn child(&self, node: NodeId, index: usize) -> Option<NodeId>
+        ensures { option_map (λ n. n.0) result ≡ slice_get (children self.now.rows node.0) index }
+    {
+        let mut way = ArrayVec::new();
+        match self.position.find(node.0, &mut way) {
+            Some(at) => match self.position.base.reach(way.as_slice()).child(at, index) {
+                Some(number) => Some(NodeId(number)),
+                None => None,
+            },
+            None => None,
+        }
+    }
+
+    /// Goes to the child by number `index` of the current node, counted from 0 by rising number.
+    pub fn forward(&mut self, index: usize) -> Result<NodeId, NoChild>
+        ensures ok { IfOk result (λ n. (slice_get (children self.old.rows self.old.current) index ≡ Some n.0) × (self.new ≡ record self.old { current = n.0 })) }
+        ensures err { OnErr result ((slice_get (children self.old.rows self.old.current) index ≡ None) × (self.new ≡ self.old)) }
+    {
+        match self.child(self.current(), index) {
+            Some(node) => match self.go(node) {
+                Ok(_) => Ok(node),
+                Err(_) => Err(NoChild),
+            },
+            None => Err(NoChild),
+        }
+    }
+
+    /// Goes back to the parent.
+    pub fn back(&mut self) -> Result<NodeId, AtRoot>
+        ensures ok { IfOk result (λ n. (parent_of self.old.rows self.old.current ≡ Some n.0) × (self.new ≡ record self.old { current = n.0 })) }
+        ensures err { OnErr result ((self.old.current ≡ 0) × (self.new ≡ self.old)) }
+    {
+        if self.position.here == 0 {
+            return Err(AtRoot);
+        }
+        self.position.retreat();
+        Ok(NodeId(self.position.number()))
+    }
+
+    /// Goes to a node that is held, or to the root. The answer is the number of records that were turned.
+    pub fn go(&mut self, node: NodeId) -> Result<u32, NoNode>
+        ensures turns { IfOk result (λ n. n ≡ distance self.old.rows self.old.current node.0) }
+        ensures held { IsOk result ↔ IsTrue (is_held self.old.rows node.0) }
+        ensures ok { OnOk result (self.new ≡ record self.old { current = node.0 }) }
+        ensures err { OnErr result (self.new ≡ self.old) }
+    {
+        let mut way = ArrayVec::new();
+        match self.position.find(node.0, &mut way) {
+            Some(at) => Ok(self.position.go(way.as_slice(), at)),
+            None => Err(NoNode),
+        }
+    }
+
+    /// Takes a node and all below it out of the tree. NoNode goes before IsRoot, and that before OnPath; at a refusal
+    /// nothing is changed. Its numbers are not given out again.
+    pub fn prune(&mut self, node: NodeId) -> Result<(), PruneFault>
+        ensures ok { OnOk result (self.new ≡ record self.old { rows = pruned self.old.rows node.0 }) }
+        ensures err { OnErr result (self.new ≡ self.old) }
+        ensures missing { (result ≡ Err PruneFault.NoNode) ↔ (is_held self.old.rows node.0 ≡ false) }
+        ensures root { (result ≡ Err PruneFault.IsRoot) ↔ (node.0 ≡ 0) }
+        ensures path { (result ≡ Err PruneFault.OnPath) ↔ (is_below self.old.rows node.0 self.old.current ≡ true) }
+    {
+        let mut way = ArrayVec::new();
+        match self.position.find(node.0, &mut way) {
+            None => Err(PruneFault::NoNode),
+            Some(at) => {
+                if node.0 == 0 {
+                    return Err(PruneFault::IsRoot);
+                }
+                if is_on_way(
+                    way.as_slice(),
+                    at,
+                    self.position.way.as_slice(),
+                    self.position.here,
+                ) {
+                    return Err(PruneFault::OnPath);
+                }
+                self.position.base.prune(way.as_slice(), at - 1);
+                Ok(())
+            }
+        }
+    }
+}
