@@ -1,26 +1,26 @@
 -- The moves by which a new item enters, and that the store is then sound.
-use Rattle.std.specs.Prelude.{ℕ, ◌≡◌, ◌+◌, ◌<◌, ◌≤◌, Bool, true, false, cond, List, [], ◌∷◌, Option, None, Some, is_some, length, slice_index, slice_index_or, slice_set, refl}
+use Rattle.std.specs.Prelude.{ℕ, ◌≡◌, ◌+◌, true, false, cond, List, [], ◌∷◌, None, Some, is_some, slice_index_or, refl}
 use Rattle.std.specs.List.{sum_by}
 use Rattle.std.proofs.Common.{sym, ◌∙◌, ap, subst, arith, inl, inr}
-use Rattle.std.proofs.lemmas.Bool.{cases_Bool, false≢true, true≢false}
+use Rattle.std.proofs.lemmas.Bool.{cases_Bool}
 use Rattle.std.proofs.lemmas.List.Sums.{sum_by-set}
 use Rattle.std.specs.FinMap as map
 use Rattle.std.specs.Ordering.{eq_by_cmp, nat_cmp}
 use Rattle.std.specs.Cmp.Lexicographic.{slice_cmp, nat_list_cmp_total}
 use Rattle.rev_items.specs.Plain.{PlainItem}
 use Rattle.rev_model.specs.Chunk.{same_chunk, same_entry, chunk_cmp, chunk_cmp_exact, chunk_cmp_total}
-use Rattle.rev_model.specs.Lists.{has, count}
-use Rattle.rev_model.specs.State.{State, WellFormed, IsChunkOf, free_of, queue_of, queue_place, owner_of, item_at, find, stands}
+use Rattle.rev_model.specs.Lists.{count}
+use Rattle.rev_model.specs.State.{State, WellFormed, IsChunkOf, queue_place, owner_of, item_at, find, stands}
 use Rattle.rev_model.specs.Move.{Puts, Fills, Binds, Sets, moved, Possible}
 use Rattle.rev_model.specs.Undo.{tells_chunk, get-put_at, get-put_at_same, tied}
 use Rattle.rev_model.specs.Keeps.{keeps-fill, keeps-bind, keeps-put_queue}
 use Rattle.rev_model.specs.declared.ChunkRef.{ChunkRef}
-use Rattle.rev_model.specs.declared.Entry.TheVariants.{Chunk, Mark}
+use Rattle.rev_model.specs.declared.Entry.TheVariants.{Chunk}
 use Rattle.rev_model.specs.declared.Queue.{Queue}
 use Rattle.rev_model.specs.declared.Placed.TheVariants.{ToQueue}
 use Rattle.rev_model.specs.Words.{linked, with_item, queue_for, class_of}
 use Rattle.rev_items.specs.Rules.{footprint_of}
-use Rattle.rev_model.specs.Sound.{SoundBut, Sound}
+use Rattle.rev_model.specs.Sound.{SoundBut}
 use Rattle.rev_model.specs.Drops.{Loose}
 use Rattle.rev_model.specs.Places.{IsClass, queue_in, free_in}
 use Rattle.rev_changes.specs.Rest.{Rest}

@@ -1,6 +1,6 @@
 -- Notes beside the moves of a record.
 use Rattle.std.specs.Prelude.{ℕ, ◌≡◌, ◌+◌, ◌-◌, List, [], ◌∷◌, ◌++◌, Option, None, Some, length, slice_set, zero, suc, refl}
-use Rattle.std.proofs.Common.{sym, ◌∙◌, ap, arith}
+use Rattle.std.proofs.Common.{ap, arith}
 use Rattle.rev_model.specs.declared.Cause.{Cause}
 
 -- the last note becomes the cause, if there is one
@@ -22,8 +22,3 @@ length_more x (y ∷ l) = let more : length (l ++ x ∷ []) ≡ length l + 1 = l
 pub noted-made : (cause : Option Cause) (ns : List (Option Cause)) → noted cause (ns ++ None ∷ []) ≡ ns ++ cause ∷ []
 noted-made None ns = refl
 noted-made (Some c) ns = set_last None (Some c) ns (length (ns ++ None ∷ []) - 1) (omega (arith, length_more None ns))
-
--- the notes of an item that left
-pub three_notes : (cause : Option Cause) (ns : List (Option Cause)) → ((ns ++ None ∷ []) ++ cause ∷ []) ++ None ∷ [] ≡ ns ++ None ∷ cause ∷ None ∷ []
-three_notes cause [] = refl
-three_notes cause (n ∷ ns) = ap (λ t. n ∷ t) (three_notes cause ns)

@@ -1,6 +1,5 @@
 -- The page that a class gets, taken from memory before the first change.
-use Rattle.std.specs.Prelude.{ℕ, ◌≡◌, ◌<◌, ◌≤◌, ◌+◌, Option, None, Some, refl, length}
-use Rattle.std.specs.Option.{option_map}
+use Rattle.std.specs.Prelude.{ℕ, ◌≡◌, ◌<◌, Option, None, Some, length}
 use Rattle.std.proofs.Common.{arith}
 use Rattle.rev_model.specs.State.{State, per_page}
 use Rattle.rev_model.specs.Pull.{page_of}

@@ -1,9 +1,9 @@
 -- What steps are made of keeps a store sound.
-use Rattle.std.specs.Prelude.{ℕ, ◌≡◌, ◌+◌, ◌*◌, ◌%◌, ◌^◌, ◌<◌, ◌≤◌, Bool, true, false, cond, ◌||◌, List, [], ◌∷◌, Option, None, Some, is_some, length, slice_index, slice_index_or, slice_set, refl}
+use Rattle.std.specs.Prelude.{ℕ, ◌≡◌, ◌+◌, ◌<◌, true, false, cond, List, [], ◌∷◌, Option, None, Some, length, refl}
 use Rattle.std.specs.List.{sum_by}
 use Rattle.std.proofs.Common.{sym, ◌∙◌, ap, subst, arith, inl, inr}
 use Rattle.std.proofs.lemmas.Bool.{cases_Bool, false≢true, true≢false}
-use Rattle.std.proofs.lemmas.List.{get_or-set_same, get_or-set_other, length-set}
+use Rattle.std.proofs.lemmas.List.{length-set}
 use Rattle.std.proofs.lemmas.List.Sums.{sum_by-set}
 use Rattle.std.specs.FinMap as map
 use Rattle.std.specs.Ordering.{eq_by_cmp, nat_cmp}
@@ -12,17 +12,17 @@ use Rattle.std.specs.Cmp.Lexicographic.{slice_cmp, nat_list_cmp_total}
 use Rattle.rev_items.specs.Plain.{PlainItem}
 use Rattle.rev_model.specs.Chunk.{same_chunk, same_entry, chunk_cmp, chunk_cmp_exact, chunk_cmp_total}
 use Rattle.rev_model.specs.Lists.{has, count, without}
-use Rattle.rev_model.specs.State.{State, WellFormed, IsChunkOf, free_of, queue_of, queue_place, owner_of, item_at, find, stands, counter_place}
-use Rattle.rev_model.specs.Move.{put_at, touched}
-use Rattle.rev_model.specs.Undo.{tells_chunk, tells_entry, count-without, count_in_table, get-put_at, tied}
+use Rattle.rev_model.specs.State.{State, WellFormed, free_of, queue_of, queue_place, item_at}
+use Rattle.rev_model.specs.Move.{touched}
+use Rattle.rev_model.specs.Undo.{tells_chunk, tells_entry, get-put_at, tied}
 use Rattle.rev_model.specs.declared.ChunkRef.{ChunkRef}
 use Rattle.rev_model.specs.declared.Entry.{Entry}
-use Rattle.rev_model.specs.declared.Entry.TheVariants.{Chunk, Mark}
+use Rattle.rev_model.specs.declared.Entry.TheVariants.{Chunk}
 use Rattle.rev_model.specs.declared.Queue.{Queue}
 use Rattle.rev_model.specs.declared.Counter.{Counter}
 use Rattle.rev_model.specs.declared.Touched.{Touched}
-use Rattle.rev_model.specs.Words.{unlinked, freed, dropped, counted, left, entered, headed, with_item}
-use Rattle.rev_model.specs.Sound.{SoundBut, Placed, Filed, Kept, Stands, away}
+use Rattle.rev_model.specs.Words.{dropped, counted, left, headed, with_item}
+use Rattle.rev_model.specs.Sound.{SoundBut, Placed, Filed, Kept, Stands}
 
 some_inj : {X : Type 0} (x y : X) → Some x ≡ Some y → x ≡ y
 some_inj x y e = cc

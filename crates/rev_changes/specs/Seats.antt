@@ -1,22 +1,19 @@
 -- Where an item of a sound store stands.
-use Rattle.std.specs.Prelude.{ℕ, ◌≡◌, ◌+◌, ◌*◌, ◌/◌, ◌%◌, ◌<◌, ◌≤◌, Bool, true, false, cond, List, [], ◌∷◌, Option, None, Some, is_some, length, slice_index, slice_index_or, refl, zero, suc, ◌⊎◌}
+use Rattle.std.specs.Prelude.{ℕ, ◌≡◌, ◌+◌, ◌≤◌, true, false, List, [], ◌∷◌, Option, Some, is_some, slice_index_or, refl, zero, suc}
 use Rattle.std.specs.List.{sum_by}
-use Rattle.std.specs.Option.{option_map}
 use Rattle.std.proofs.Common.{sym, ◌∙◌, ap, subst, arith, inl, inr}
-use Rattle.std.proofs.lemmas.Bool.{cases_Bool, false≢true, true≢false}
+use Rattle.std.proofs.lemmas.Bool.{cases_Bool, true≢false}
 use Rattle.std.proofs.lemmas.List.Sums.{sum_by-cons}
-use Rattle.std.specs.FinMap as map
 use Rattle.rev_items.specs.Plain.{PlainItem}
-use Rattle.rev_model.specs.Chunk.{same_chunk, same_entry}
+use Rattle.rev_model.specs.Chunk.{same_entry}
 use Rattle.rev_model.specs.Lists.{has, count}
-use Rattle.rev_model.specs.Undo.{tells_entry, has-count}
-use Rattle.rev_model.specs.State.{State, WellFormed, IsChunkOf, queue_of, queue_place, queue_number, owner_of, item_at, find}
+use Rattle.rev_model.specs.State.{State, queue_of, queue_place, owner_of, item_at}
 use Rattle.rev_model.specs.declared.ChunkRef.{ChunkRef}
 use Rattle.rev_model.specs.declared.Entry.{Entry}
-use Rattle.rev_model.specs.declared.Entry.TheVariants.{Chunk, Mark}
+use Rattle.rev_model.specs.declared.Entry.TheVariants.{Chunk}
 use Rattle.rev_model.specs.declared.Queue.{Queue}
 use Rattle.rev_model.specs.declared.Queue.TheVariants.{Hot, Warm, Cold, Temp}
-use Rattle.rev_model.specs.Words.{queue_with, queue_among}
+use Rattle.rev_model.specs.Words.{queue_with}
 use Rattle.rev_model.specs.Sound.{SoundBut, Stands}
 use Rattle.rev_model.specs.Places.{IsClass, queue_in, free_in}
 

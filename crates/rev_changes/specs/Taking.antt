@@ -1,21 +1,19 @@
 -- A chunk that is taken, and what room needs of it.
-use Rattle.std.specs.Prelude.{ℕ, ◌≡◌, ◌+◌, ◌<◌, ◌≤◌, Bool, true, false, cond, List, [], ◌∷◌, Option, None, Some, length, slice_index_or, slice_set, refl, zero, suc}
-use Rattle.std.proofs.Common.{sym, ◌∙◌, ap, subst, arith, inl, inr}
-use Rattle.std.proofs.lemmas.Bool.{cases_Bool}
+use Rattle.std.specs.Prelude.{ℕ, ◌≡◌, ◌+◌, ◌<◌, true, cond, List, [], ◌∷◌, Option, None, Some, length, refl}
+use Rattle.std.proofs.Common.{sym, ap, subst, arith}
 use Rattle.std.proofs.lemmas.List.Sums.{sum_by-set}
 use Rattle.rev_model.specs.Chunk.{same_chunk}
 use Rattle.rev_model.specs.Lists.{has, count, without}
-use Rattle.rev_model.specs.State.{State, WellFormed, IsChunkOf, free_of, stands}
-use Rattle.rev_model.specs.Move.{Possible, Takes, moved, with_free}
+use Rattle.rev_model.specs.State.{State, WellFormed, IsChunkOf, free_of}
+use Rattle.rev_model.specs.Move.{Possible, Takes, moved}
 use Rattle.rev_model.specs.Undo.{tells_chunk}
 use Rattle.rev_model.specs.Keeps.{keeps-take_free}
 use Rattle.rev_model.specs.declared.ChunkRef.{ChunkRef}
 use Rattle.rev_model.specs.declared.Listed.TheVariants.{InFree}
 use Rattle.rev_model.specs.Words.{first}
 use Rattle.rev_model.specs.Pull.{fronted}
-use Rattle.rev_model.specs.Sound.{SoundBut, Sound}
-use Rattle.rev_model.specs.Places.{IsClass, free_in}
-use Rattle.rev_changes.specs.Rest.{Rest, rest_of, sound_of}
+use Rattle.rev_model.specs.Sound.{Sound}
+use Rattle.rev_changes.specs.Rest.{Rest}
 
 abbrev pub paired : State → Option ChunkRef → Option (State × ChunkRef)
 paired s None = None

@@ -1,15 +1,12 @@
 -- What a record tells of the keys that left the index.
-use Rattle.std.specs.Prelude.{ℕ, ◌≡◌, ◌+◌, List, [], ◌∷◌, ◌++◌, Option, None, Some, length, refl}
+use Rattle.std.specs.Prelude.{◌≡◌, ◌+◌, List, [], ◌∷◌, ◌++◌, Option, length, refl}
 use Rattle.std.proofs.Common.{sym, ◌∙◌, ap, subst, arith}
-use Rattle.rev_items.specs.Plain.{PlainItem}
-use Rattle.rev_model.specs.State.{State, WellFormed, item_at}
-use Rattle.rev_model.specs.Move.{Move, Unbinds, moved, reverse, Ready, Possible}
-use Rattle.rev_model.specs.Track.{Removal, removal, removals}
+use Rattle.rev_model.specs.State.{State, WellFormed}
+use Rattle.rev_model.specs.Move.{Move, moved, reverse, Possible}
+use Rattle.rev_model.specs.Track.{Removal, removals}
 use Rattle.rev_model.specs.Notes.{removed, removals-made}
 use Rattle.rev_model.specs.declared.Cause.{Cause}
-use Rattle.rev_model.specs.declared.ChunkRef.{ChunkRef}
 use Rattle.rev_moves.specs.Record.{PlainRecord}
-use Rattle.rev_changes.specs.Notes.{noted, noted-made}
 
 -- a record with a note beside each move still has one, and tells these removals more
 pub record Tells (r : PlainRecord) (s : State) (t : PlainRecord) (u : State) (rs : List Removal) : Type 0 where

@@ -1,6 +1,6 @@
 -- Which keys a client's step takes out of the index, in their order, each with its cause, or none where the key is stored again.
-use Rattle.std.specs.Prelude.{ℕ, ◌≡◌, Bool, true, false, cond, List, [], ◌∷◌, ◌++◌, Option, None, Some, length, refl}
-use Rattle.std.proofs.Common.{sym, ◌∙◌, ap, subst}
+use Rattle.std.specs.Prelude.{ℕ, ◌≡◌, cond, List, [], ◌++◌, Option, None, Some, length}
+use Rattle.std.proofs.Common.{sym, ◌∙◌, ap}
 use Rattle.rev_items.specs.Plain.{PlainItem}
 use Rattle.rev_items.specs.Rules.{footprint}
 use Rattle.rev_model.specs.State.{State, item_at, find}

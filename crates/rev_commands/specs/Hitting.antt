@@ -1,11 +1,11 @@
 -- What a hit leaves, and how many moves it takes.
-use Rattle.std.specs.Prelude.{ℕ, ◌≡◌, ◌≤◌, ◌<◌, ◌+◌, Bool, true, false, cond, List, [], ◌∷◌, ◌++◌, Option, None, Some, length, refl}
-use Rattle.std.proofs.Common.{sym, ◌∙◌, ap, subst, inl, inr, arith}
+use Rattle.std.specs.Prelude.{ℕ, ◌≡◌, ◌≤◌, ◌<◌, ◌+◌, cond, List, [], ◌∷◌, ◌++◌, Option, None, Some, length, refl}
+use Rattle.std.proofs.Common.{sym, ◌∙◌, ap, inl, inr, arith}
 use Rattle.std.proofs.lemmas.Bool.{cases_Bool}
 use Rattle.rev_items.specs.Plain.{PlainItem}
 use Rattle.rev_items.specs.declared.Bits.{Bits}
 use Rattle.rev_model.specs.State.{State, WellFormed, item_at, find}
-use Rattle.rev_model.specs.Move.{Possible, BumpsIn, moved}
+use Rattle.rev_model.specs.Move.{Possible, BumpsIn}
 use Rattle.rev_model.specs.Words.{is_dead, header_of}
 use Rattle.rev_model.specs.Client.{lookup}
 use Rattle.std.specs.Option.{option_map}

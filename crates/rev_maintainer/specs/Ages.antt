@@ -1,5 +1,5 @@
 -- Ages read at a header_of.
-use Rattle.std.specs.Prelude.{ℕ, ◌≡◌, ◌-◌, Option, None, Some, refl}
+use Rattle.std.specs.Prelude.{◌≡◌, ◌-◌, Option, None, Some, refl}
 use Rattle.std.specs.Option.{option_map}
 use Rattle.std.proofs.Common.{ap}
 use Rattle.rev_items.specs.Plain.{PlainItem}

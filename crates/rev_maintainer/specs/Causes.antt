@@ -1,6 +1,6 @@
 -- Which keys a pull and room take out of the index, in their order, each with its cause.
-use Rattle.std.specs.Prelude.{ℕ, ◌≡◌, ◌-◌, Bool, true, false, cond, List, [], ◌∷◌, ◌++◌, Option, None, Some, zero, suc, refl}
-use Rattle.std.proofs.Common.{sym, ◌∙◌, ap, arith}
+use Rattle.std.specs.Prelude.{ℕ, ◌≡◌, ◌-◌, cond, List, [], ◌++◌, Option, None, Some, zero, suc, refl}
+use Rattle.std.proofs.Common.{◌∙◌, ap, arith}
 use Rattle.rev_items.specs.Plain.{PlainItem}
 use Rattle.rev_model.specs.State.{State, queue_of, item_at}
 use Rattle.rev_model.specs.Words.{is_dead, tail}
@@ -11,7 +11,7 @@ use Rattle.rev_model.specs.declared.ChunkRef.{ChunkRef}
 use Rattle.rev_model.specs.declared.Queue.{Queue}
 use Rattle.rev_model.specs.declared.Queue.TheVariants.{Hot, Warm, Cold, Temp}
 use Rattle.rev_model.specs.declared.PullMode.{PullMode}
-use Rattle.rev_model.specs.declared.PullMode.TheVariants.{Plain, Evicting, ShareZero}
+use Rattle.rev_model.specs.declared.PullMode.TheVariants.{Evicting, ShareZero}
 
 -- of a live item: only COLD is evicted from
 abbrev pub live_removals : Queue → PullMode → PlainItem → List Removal

@@ -1,10 +1,9 @@
 -- A pull keeps a store sound.
-use Rattle.std.specs.Prelude.{ℕ, ◌≡◌, ◌+◌, ◌<◌, ◌≤◌, Bool, true, false, cond, ◌||◌, Option, None, Some, length, refl}
-use Rattle.std.proofs.Common.{sym, ◌∙◌, ap, subst, inl, inr}
+use Rattle.std.specs.Prelude.{ℕ, ◌≡◌, false, ◌||◌, Option, None, Some, refl}
+use Rattle.std.proofs.Common.{inl, inr}
 use Rattle.std.proofs.lemmas.Bool.{cases_Bool}
 use Rattle.rev_items.specs.Plain.{PlainItem}
-use Rattle.rev_model.specs.State.{State, queue_of, queue_place, item_at}
-use Rattle.rev_model.specs.Move.{touched}
+use Rattle.rev_model.specs.State.{State, queue_of, item_at}
 use Rattle.rev_model.specs.declared.ChunkRef.{ChunkRef}
 use Rattle.rev_model.specs.declared.Queue.{Queue}
 use Rattle.rev_model.specs.declared.Queue.TheVariants.{Hot, Warm, Cold, Temp}

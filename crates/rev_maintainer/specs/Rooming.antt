@@ -1,5 +1,5 @@
 -- How many moves room needs, and what a pull leaves alone.
-use Rattle.std.specs.Prelude.{ℕ, ◌≡◌, ◌+◌, ◌-◌, ◌*◌, ◌<◌, ◌≤◌, Bool, true, false, cond, ◌||◌, List, [], ◌∷◌, Option, None, Some, length, refl, zero, suc}
+use Rattle.std.specs.Prelude.{ℕ, ◌≡◌, ◌+◌, ◌-◌, ◌*◌, ◌≤◌, cond, ◌||◌, List, [], ◌∷◌, Option, None, Some, length, refl, zero, suc}
 use Rattle.std.proofs.Common.{sym, ◌∙◌, ap, subst, arith, inl, inr}
 use Rattle.std.proofs.lemmas.Bool.{cases_Bool}
 use Rattle.rev_items.specs.Plain.{PlainItem}
@@ -8,12 +8,12 @@ use Rattle.std.specs.Ordering.{eq_by_cmp, nat_cmp}
 use Rattle.std.specs.Cmp.Lexicographic.{slice_cmp, nat_list_cmp_total}
 use Rattle.rev_model.specs.State.{State, Keys, free_of, queue_of, item_at, find}
 use Rattle.rev_model.specs.Words.{is_dead, tail, over, idle}
-use Rattle.rev_model.specs.Pull.{page_of, page_for, lowest_page, pull, pull_tail, pull_item, pull_live, takes_all, evicts, squeezed, squeezed_by, room, room_by, given, or_carved, fronted, carved, taken_or}
+use Rattle.rev_model.specs.Pull.{page_of, pull, pull_tail, pull_item, pull_live, takes_all, evicts, squeezed, squeezed_by, room, room_by, given, or_carved, fronted, carved, taken_or}
 use Rattle.rev_model.specs.declared.ChunkRef.{ChunkRef}
 use Rattle.rev_model.specs.declared.Queue.{Queue}
 use Rattle.rev_model.specs.declared.Queue.TheVariants.{Hot, Warm, Cold, Temp}
 use Rattle.rev_model.specs.declared.PullMode.{PullMode}
-use Rattle.rev_model.specs.declared.PullMode.TheVariants.{Plain, Evicting, ShareZero}
+use Rattle.rev_model.specs.declared.PullMode.TheVariants.{Evicting, ShareZero}
 use Rattle.rev_model.specs.declared.Form.{Form}
 use Rattle.rev_model.specs.declared.Form.TheVariants.{Fresh, Pool, Withdrawn}
 use Rattle.rev_changes.specs.Paging.{IsPlan}
@@ -33,7 +33,7 @@ pub record IsRoomPlan {A : Type 0} (s : State) (c : ℕ) (plan : RoomPlan A) : T
   pub moves : plan.moves ≡ room_need 10 s c
 
 -- what a pull leaves alone
-pub record Kin (s t : State) : Type 0 where
+pub record SamePages (s t : State) : Type 0 where
   pub fixed : t.fixed ≡ s.fixed
   pub owner : t.owner ≡ s.owner
   pub globals : t.globals ≡ s.globals
@@ -47,57 +47,57 @@ gone m l k e = map.get-remove nat_list_cmp_total m l k ∙ elim (cases_Bool (eq_
   | inr f ↦ rw f e
 ]
 
-kin_self : (s : State) → Kin s s
-kin_self s = record { fixed = refl; owner = refl; globals = refl; keys = λ k h. h }
+same_pages_self : (s : State) → SamePages s s
+same_pages_self s = record { fixed = refl; owner = refl; globals = refl; keys = λ k h. h }
 
-kin_live : (s : State) (c : ℕ) (q : Queue) (m : PullMode) (x : ChunkRef) (i : PlainItem) → Kin s (pull_live s c q m x i).0
-kin_live s c Hot m x i = elim (cases_Bool i.bits.active) [
+same_pages_live : (s : State) (c : ℕ) (q : Queue) (m : PullMode) (x : ChunkRef) (i : PlainItem) → SamePages s (pull_live s c q m x i).0
+same_pages_live s c Hot m x i = elim (cases_Bool i.bits.active) [
   | inl e ↦ rw e (record { fixed = refl; owner = refl; globals = refl; keys = λ k h. h })
   | inr e ↦ rw e (elim (cases_Bool (takes_all m || (over s c Hot || idle s c Hot i))) [
     | inl f ↦ rw f (record { fixed = refl; owner = refl; globals = refl; keys = λ k h. h })
-    | inr f ↦ rw f (kin_self s)
+    | inr f ↦ rw f (same_pages_self s)
   ])
 ]
-kin_live s c Warm m x i = elim (cases_Bool i.bits.active) [
+same_pages_live s c Warm m x i = elim (cases_Bool i.bits.active) [
   | inl e ↦ rw e (record { fixed = refl; owner = refl; globals = refl; keys = λ k h. h })
   | inr e ↦ rw e (elim (cases_Bool (over s c Warm || idle s c Warm i)) [
     | inl f ↦ rw f (record { fixed = refl; owner = refl; globals = refl; keys = λ k h. h })
-    | inr f ↦ rw f (kin_self s)
+    | inr f ↦ rw f (same_pages_self s)
   ])
 ]
-kin_live s c Cold m x i = elim (cases_Bool (evicts m)) [
+same_pages_live s c Cold m x i = elim (cases_Bool (evicts m)) [
   | inl e ↦ rw e (record { fixed = refl; owner = refl; globals = refl; keys = λ k h. gone s.index i.key k h })
   | inr e ↦ rw e (elim (cases_Bool i.bits.active) [
     | inl f ↦ rw f (record { fixed = refl; owner = refl; globals = refl; keys = λ k h. h })
-    | inr f ↦ rw f (kin_self s)
+    | inr f ↦ rw f (same_pages_self s)
   ])
 ]
-kin_live s c Temp m x i = kin_self s
+same_pages_live s c Temp m x i = same_pages_self s
 
-kin_item : (s : State) (c : ℕ) (q : Queue) (m : PullMode) (x : ChunkRef) (o : Option PlainItem) → Kin s (pull_item s c q m x o).0
-kin_item s c q m x None = kin_self s
-kin_item s c q m x (Some i) = elim (cases_Bool (is_dead s.globals i)) [
+same_pages_item : (s : State) (c : ℕ) (q : Queue) (m : PullMode) (x : ChunkRef) (o : Option PlainItem) → SamePages s (pull_item s c q m x o).0
+same_pages_item s c q m x None = same_pages_self s
+same_pages_item s c q m x (Some i) = elim (cases_Bool (is_dead s.globals i)) [
   | inl e ↦ rw e (record { fixed = refl; owner = refl; globals = refl; keys = λ k h. gone s.index i.key k h })
-  | inr e ↦ rw e (kin_live s c q m x i)
+  | inr e ↦ rw e (same_pages_live s c q m x i)
 ]
 
-kin_tail : (s : State) (c : ℕ) (q : Queue) (m : PullMode) (o : Option ChunkRef) → Kin s (pull_tail s c q m o).0
-kin_tail s c q m None = kin_self s
-kin_tail s c q m (Some x) = kin_item s c q m x (item_at s x)
+same_pages_tail : (s : State) (c : ℕ) (q : Queue) (m : PullMode) (o : Option ChunkRef) → SamePages s (pull_tail s c q m o).0
+same_pages_tail s c q m None = same_pages_self s
+same_pages_tail s c q m (Some x) = same_pages_item s c q m x (item_at s x)
 
-pub kin_pull : (s : State) (c : ℕ) (q : Queue) (m : PullMode) → Kin s (pull s c q m).0
-kin_pull s c q m = kin_tail s c q m (tail (queue_of s c q))
+pub same_pages_pull : (s : State) (c : ℕ) (q : Queue) (m : PullMode) → SamePages s (pull s c q m).0
+same_pages_pull s c q m = same_pages_tail s c q m (tail (queue_of s c q))
 
-kin_by : (s : State) (c : ℕ) (o : Option ChunkRef) → Kin s (squeezed_by s c o)
-kin_by s c (Some x) = kin_pull s c Cold Evicting
-kin_by s c None = kin_pull s c Hot ShareZero
+same_pages_by : (s : State) (c : ℕ) (o : Option ChunkRef) → SamePages s (squeezed_by s c o)
+same_pages_by s c (Some x) = same_pages_pull s c Cold Evicting
+same_pages_by s c None = same_pages_pull s c Hot ShareZero
 
-pub kin_squeezed : (s : State) (c : ℕ) → Kin s (squeezed s c)
-kin_squeezed s c = kin_by s c (tail (queue_of s c Cold))
+pub same_pages_squeezed : (s : State) (c : ℕ) → SamePages s (squeezed s c)
+same_pages_squeezed s c = same_pages_by s c (tail (queue_of s c Cold))
 
 -- and with it the page that a class gets
-pub page_kin : (s t : State) (c : ℕ) → Kin s t → page_of t c ≡ page_of s c
-page_kin s t c k = rw (k.fixed, k.owner) refl
+pub same_page_of : (s t : State) (c : ℕ) → SamePages s t → page_of t c ≡ page_of s c
+same_page_of s t c k = rw (k.fixed, k.owner) refl
 
 -- the moves of a squeeze and of the rounds that follow
 pub need_more : (k n : ℕ) (t : State) (c : ℕ) → page_of t c ≡ None → n ≤ 5 → n ≤ 4 + length (free_of t c) → n + room_need k t c ≤ 4 * (k + 1) + 2
@@ -119,43 +119,43 @@ need_some k [] None = omega arith
 
 -- ---- room changes neither the configuration nor the globals, and binds no key
 
-pub record Alike (s t : State) : Type 0 where
+pub record SameGlobals (s t : State) : Type 0 where
   pub fixed : t.fixed ≡ s.fixed
   pub globals : t.globals ≡ s.globals
   pub keys : (k : List ℕ) → find s k ≡ None → find t k ≡ None
 
-alike_self : (s : State) → Alike s s
-alike_self s = record { fixed = refl; globals = refl; keys = λ k h. h }
+same_globals_self : (s : State) → SameGlobals s s
+same_globals_self s = record { fixed = refl; globals = refl; keys = λ k h. h }
 
-abbrev AlikeIf : State → Option (State × ChunkRef) → Type 0
-AlikeIf s None = Unit {0}
-AlikeIf s (Some (t, x)) = Alike s t
+abbrev SameGlobalsIf : State → Option (State × ChunkRef) → Type 0
+SameGlobalsIf s None = Unit {0}
+SameGlobalsIf s (Some (t, x)) = SameGlobals s t
 
-alike_fronted : (s t : State) (c : ℕ) (l : List ChunkRef) → Alike s t → AlikeIf s (fronted t c l)
-alike_fronted s t c [] h = tt
-alike_fronted s t c (x ∷ xs) h = record { fixed = h.fixed; globals = h.globals; keys = h.keys }
+same_globals_fronted : (s t : State) (c : ℕ) (l : List ChunkRef) → SameGlobals s t → SameGlobalsIf s (fronted t c l)
+same_globals_fronted s t c [] h = tt
+same_globals_fronted s t c (x ∷ xs) h = record { fixed = h.fixed; globals = h.globals; keys = h.keys }
 
-alike_carved : (s : State) (c : ℕ) (p : Option (ℕ × Form)) → Alike s (carved s c p)
-alike_carved s c None = alike_self s
-alike_carved s c (Some (p, Fresh)) = record { fixed = refl; globals = refl; keys = λ k h. h }
-alike_carved s c (Some (p, Pool)) = record { fixed = refl; globals = refl; keys = λ k h. h }
-alike_carved s c (Some (p, Withdrawn)) = record { fixed = refl; globals = refl; keys = λ k h. h }
+same_globals_carved : (s : State) (c : ℕ) (p : Option (ℕ × Form)) → SameGlobals s (carved s c p)
+same_globals_carved s c None = same_globals_self s
+same_globals_carved s c (Some (p, Fresh)) = record { fixed = refl; globals = refl; keys = λ k h. h }
+same_globals_carved s c (Some (p, Pool)) = record { fixed = refl; globals = refl; keys = λ k h. h }
+same_globals_carved s c (Some (p, Withdrawn)) = record { fixed = refl; globals = refl; keys = λ k h. h }
 
-alike_or : (s : State) (c : ℕ) (o : Option (State × ChunkRef)) → AlikeIf s o → AlikeIf s (or_carved s c o)
-alike_or s c (Some r) h = h
-alike_or s c None h = alike_fronted s (carved s c (page_of s c)) c (free_of (carved s c (page_of s c)) c) (alike_carved s c (page_of s c))
+same_globals_or : (s : State) (c : ℕ) (o : Option (State × ChunkRef)) → SameGlobalsIf s o → SameGlobalsIf s (or_carved s c o)
+same_globals_or s c (Some r) h = h
+same_globals_or s c None h = same_globals_fronted s (carved s c (page_of s c)) c (free_of (carved s c (page_of s c)) c) (same_globals_carved s c (page_of s c))
 
-alike_taken : (s : State) (o : Option (State × ChunkRef)) (later : State × Option ChunkRef) → AlikeIf s o → Alike s later.0 → Alike s (taken_or o later).0
-alike_taken s (Some (t, x)) later h k = h
-alike_taken s None later h k = k
+same_globals_taken : (s : State) (o : Option (State × ChunkRef)) (later : State × Option ChunkRef) → SameGlobalsIf s o → SameGlobals s later.0 → SameGlobals s (taken_or o later).0
+same_globals_taken s (Some (t, x)) later h k = h
+same_globals_taken s None later h k = k
 
-pub alike_room : (k : ℕ) (s : State) (c : ℕ) → Alike s (room_by k s c).0
-alike_room zero s c = record { fixed = refl; globals = refl; keys = λ k h. h }
-alike_room (suc k) s c =
-    let more = alike_room k (squeezed s c) c in
-    let kin = kin_squeezed s c in
-    alike_taken s (given s c) (room_by k (squeezed s c) c) (alike_or s c (fronted s c (free_of s c)) (alike_fronted s s c (free_of s c) (alike_self s)))
-    (record { fixed = more.fixed ∙ kin.fixed; globals = more.globals ∙ kin.globals; keys = λ l h. more.keys l (kin.keys l h) })
+pub same_globals_room : (k : ℕ) (s : State) (c : ℕ) → SameGlobals s (room_by k s c).0
+same_globals_room zero s c = record { fixed = refl; globals = refl; keys = λ k h. h }
+same_globals_room (suc k) s c =
+    let more = same_globals_room k (squeezed s c) c in
+    let same_pages = same_pages_squeezed s c in
+    same_globals_taken s (given s c) (room_by k (squeezed s c) c) (same_globals_or s c (fronted s c (free_of s c)) (same_globals_fronted s s c (free_of s c) (same_globals_self s)))
+    (record { fixed = more.fixed ∙ same_pages.fixed; globals = more.globals ∙ same_pages.globals; keys = λ l h. more.keys l (same_pages.keys l h) })
 
 -- ---- a round that got no chunk
 
@@ -171,8 +171,8 @@ later_room s t c (suc k) r pos none next done =
     let less : suc k - 1 ≡ k = omega arith in
     done ∙ ap (λ n. room_by n t c) less ∙ ap (λ u. room_by k u c) next ∙ ap (λ o. taken_or o (room_by k (squeezed s c) c)) none
 
-pub room_alike : (s t : State) (c : ℕ) (o : Option ChunkRef) → (t, o) ≡ room s c → Alike s t
-room_alike s t c o e = subst (λ (r : State × Option ChunkRef). Alike s r.0) (sym e) (alike_room 10 s c)
+pub same_globals_after : (s t : State) (c : ℕ) (o : Option ChunkRef) → (t, o) ≡ room s c → SameGlobals s t
+same_globals_after s t c o e = subst (λ (r : State × Option ChunkRef). SameGlobals s r.0) (sym e) (same_globals_room 10 s c)
 
 -- a round that got a chunk
 pub given_room : (s t : State) (c k : ℕ) (x : ChunkRef) → (k ≡ 0 → ⊥) → Some (t, x) ≡ given s c → (t, Some x) ≡ room_by k s c

@@ -13,10 +13,12 @@ abbrev pub is_continued : List (Option Row) → ℕ → Bool
 is_continued [] n = false
 is_continued (q ∷ qs) n = cond (continues_from n q) true (is_continued qs n)
 
+-- a count by a row, 0 where there is none
 abbrev pub count_from : Option Row → (Row → ℕ) → ℕ
 count_from None f = 0
 count_from (Some r) f = f r
 
+-- the nesting of n, looked for at most so many nodes up
 abbrev pub nesting_within : ℕ → List (Option Row) → ℕ → ℕ
 nesting_within zero rows n = 0
 nesting_within (suc k) rows n = count_from (row_of rows n) (λ r. nesting_within k rows r.parent + cond r.continues 0 1)
@@ -29,10 +31,12 @@ nesting rows n = nesting_within n rows n
 abbrev pub nesting_below : List (Option Row) → ℕ → ℕ
 nesting_below rows n = nesting rows n + cond (is_continued rows n) 1 0
 
+-- a list by a row, empty where there is none
 abbrev pub nodes_from : Option Row → (Row → List ℕ) → List ℕ
 nodes_from None f = []
 nodes_from (Some r) f = f r
 
+-- the same, at most so many nodes up
 abbrev pub lineage_within : ℕ → List (Option Row) → ℕ → List ℕ
 lineage_within zero rows n = []
 lineage_within (suc k) rows n = nodes_from (row_of rows n) (λ r. lineage_within k rows r.parent ++ n ∷ [])
@@ -56,9 +60,11 @@ abbrev pub is_child : ℕ → Option Row → Bool
 is_child n None = false
 is_child n (Some r) = eqb r.parent n
 
+-- in the rows behind the first k, the children of n
 abbrev pub children_from : ℕ → ℕ → List (Option Row) → List ℕ
 children_from n k [] = []
 children_from n k (q ∷ qs) = cond (is_child n q) (suc k ∷ children_from n (suc k) qs) (children_from n (suc k) qs)
 
+-- the held children of n by rising number
 abbrev pub children : List (Option Row) → ℕ → List ℕ
 children rows n = children_from n 0 rows

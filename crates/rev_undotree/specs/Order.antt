@@ -7,10 +7,12 @@ abbrev pub RisesFrom : ℕ → List PlainNode → Type 0
 RisesFrom p [] = Unit {0}
 RisesFrom p (e ∷ es) = (p < e.number) × RisesFrom e.number es
 
+-- the numbers of a run rise
 abbrev pub RisesRun : List PlainNode → Type 0
 RisesRun [] = Unit {0}
 RisesRun (e ∷ es) = RisesFrom e.number es
 
+-- the numbers of each run of the forks rise
 abbrev pub RisesForks : Forks → Type 0
 RisesForks bare = Unit {0}
 RisesForks (fork f r i m) = RisesRun r × RisesForks i × RisesForks m
@@ -19,6 +21,7 @@ RisesForks (fork f r i m) = RisesRun r × RisesForks i × RisesForks m
 abbrev pub Rises : PlainBranch → Type 0
 Rises b = RisesRun b.run × RisesForks b.forks
 
+-- the first number of a run
 abbrev pub head_number : List PlainNode → Option ℕ
 head_number [] = None
 head_number (e ∷ es) = Some e.number

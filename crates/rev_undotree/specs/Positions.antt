@@ -14,14 +14,16 @@ pub record Stands (root t : State) (b : PlainBranch) (way : List Junction) (here
   pub holds : Holds root b way here
   pub now_at : t ≡ state_at root b way here
 
--- a tree with its records wiped out
+-- a node with its record wiped out
 abbrev pub wiped : PlainNode → PlainNode
 wiped e = record e { undo = no_node.undo }
 
+-- forks with their records wiped out
 abbrev pub erased_forks : Forks → Forks
 erased_forks bare = bare
 erased_forks (fork f r i m) = fork f (map wiped r) (erased_forks i) (erased_forks m)
 
+-- a branch with its records wiped out
 abbrev pub erased : PlainBranch → PlainBranch
 erased b = record { from = b.from; run = map wiped b.run; forks = erased_forks b.forks }
 
@@ -41,6 +43,7 @@ abbrev pub Inner : List Junction → ℕ → Type 0
 Inner [] here = 0 < here
 Inner (p ∷ ps) here = (0 < p.taken) × Inner ps here
 
+-- a position in which each run but the first is entered
 abbrev pub Proper : List Junction → ℕ → Type 0
 Proper [] here = Unit {0}
 Proper (p ∷ ps) here = Inner ps here

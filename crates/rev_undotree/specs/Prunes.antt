@@ -5,6 +5,7 @@ use Rattle.rev_undotree.specs.Tree.{PlainBranch, Forks, bare, fork}
 use Rattle.rev_undotree.specs.Rows.{Row}
 use Rattle.rev_undotree.specs.Machine.{lineage}
 
+-- n stands in the list
 abbrev pub is_among : ℕ → List ℕ → Bool
 is_among n [] = false
 is_among n (m ∷ ms) = cond (nat_eq m n) true (is_among n ms)
@@ -18,6 +19,7 @@ abbrev pub spared : List (Option Row) → ℕ → ℕ → List (Option Row) → 
 spared rows n k [] = []
 spared rows n k (q ∷ qs) = cond (is_below rows n (suc k)) None q ∷ spared rows n (suc k) qs
 
+-- the rows after n and all below it were taken away
 abbrev pub pruned : List (Option Row) → ℕ → List (Option Row)
 pruned rows n = spared rows n 0 rows
 
@@ -25,6 +27,7 @@ pruned rows n = spared rows n 0 rows
 abbrev pub trimmed : ℕ → PlainBranch → PlainBranch
 trimmed k b = cond (nat_lt k b.from) (record { from = 0; run = []; forks = bare }) b
 
+-- forks of which those are emptied that leave their run behind its first k nodes
 abbrev pub trimmed_forks : ℕ → Forks → Forks
 trimmed_forks k bare = bare
 trimmed_forks k (fork f r i m) = cond (nat_lt k f) (fork 0 [] bare (trimmed_forks k m)) (fork f r i (trimmed_forks k m))

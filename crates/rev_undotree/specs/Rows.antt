@@ -17,6 +17,7 @@ abbrev pub row_of : List (Option Row) → ℕ → Option Row
 row_of rows zero = None
 row_of rows (suc m) = get_or rows m None
 
+-- the parent that a row names
 abbrev pub option_parent : Option Row → Option ℕ
 option_parent None = None
 option_parent (Some r) = Some r.parent
@@ -25,10 +26,12 @@ option_parent (Some r) = Some r.parent
 abbrev pub parent_of : List (Option Row) → ℕ → Option ℕ
 parent_of rows n = option_parent (row_of rows n)
 
+-- a state by a row, s where there is none
 abbrev pub state_from : Option Row → State → (Row → State) → State
 state_from None s f = s
 state_from (Some r) s f = f r
 
+-- the state at node n, from at most so many nodes up
 abbrev pub at_within : ℕ → State → List (Option Row) → ℕ → State
 at_within zero root rows n = root
 at_within (suc k) root rows n = state_from (row_of rows n) root (λ r. next (at_within k root rows r.parent) r.step)
@@ -41,6 +44,7 @@ at root rows n = at_within n root rows n
 abbrev pub RowsFall : List (Option Row) → Type 0
 RowsFall rows = (n : ℕ) (r : Row) → row_of rows n ≡ Some r → r.parent < n
 
+-- a row of these parts
 abbrev pub row : ℕ → Step → Bool → Row
 row p d c = record { parent = p; step = d; continues = c }
 
@@ -55,6 +59,7 @@ abbrev pub start_at : ℕ → PlainBranch → List Junction → ℕ
 start_at p b [] = p
 start_at p b (q ∷ qs) = start_at (number_after p q.taken b.run) (fork_at b.forks q.fork) qs
 
+-- whether the first node of the branch at the end of a way continues a run: only that of the base branch does
 abbrev pub first_continues : Bool → List Junction → Bool
 first_continues c [] = c
 first_continues c (q ∷ qs) = first_continues false qs
@@ -63,6 +68,7 @@ first_continues c (q ∷ qs) = first_continues false qs
 abbrev pub number_at : PlainBranch → List Junction → ℕ → ℕ
 number_at b way here = number_after (start_at 0 b way) here (reach b way).run
 
+-- the first, or the second where there is no first
 abbrev pub or_else : Option Row → Option Row → Option Row
 or_else None q = q
 or_else (Some r) q = Some r
@@ -72,11 +78,13 @@ abbrev pub find_run : ℕ → ℕ → Bool → List PlainNode → Option Row
 find_run n p c [] = None
 find_run n p c (e ∷ es) = cond (eqb n e.number) (Some (row p e.step c)) (find_run n e.number true es)
 
+-- the same in the forks of a run that begins behind node p
 abbrev pub find_forks : ℕ → ℕ → List PlainNode → Forks → Option Row
 find_forks n p run bare = None
 find_forks n p run (fork f r i m) =
     or_else (or_else (find_run n (number_after p f run) false r) (find_forks n (number_after p f run) r i)) (find_forks n p run m)
 
+-- the same in a branch that begins behind node p; c says whether its first node continues a run
 abbrev pub find_in : ℕ → ℕ → Bool → PlainBranch → Option Row
 find_in n p c b = or_else (find_run n p c b.run) (find_forks n p b.run b.forks)
 
@@ -90,9 +98,11 @@ abbrev pub KnownRun : List (Option Row) → ℕ → Bool → List PlainNode → 
 KnownRun rows p c [] = Unit {0}
 KnownRun rows p c (e ∷ es) = (row_of rows e.number ≡ Some (row p e.step c)) × KnownRun rows e.number true es
 
+-- the same of the forks of a run
 abbrev pub KnownForks : List (Option Row) → ℕ → List PlainNode → Forks → Type 0
 KnownForks rows p run bare = Unit {0}
 KnownForks rows p run (fork f r i m) = KnownRun rows (number_after p f run) false r × KnownForks rows (number_after p f run) r i × KnownForks rows p run m
 
+-- the same of a branch
 abbrev pub Known : List (Option Row) → ℕ → Bool → PlainBranch → Type 0
 Known rows p c b = KnownRun rows p c b.run × KnownForks rows p b.run b.forks

@@ -8,10 +8,11 @@ pub use Rattle.rev_model.specs.declared.Outcome.{Outcome}
 use Rattle.rev_model.specs.Actor as actor
 use Rattle.rev_model.specs.Move as moves
 
--- the state that a step leaves, and its outcome
+-- the state that a step leaves
 unfoldable pub next : State → Step → State
 next s e = (actor.step s e).0
 
+-- what the step answers
 unfoldable pub outcome_of : State → Step → Outcome
 outcome_of s e = (actor.step s e).1
 

@@ -6,6 +6,7 @@ use Rattle.rev_model.specs.declared.Outcome.TheVariants as outcome
 use Rattle.rev_undotree.specs.Tree.{PlainNode, PlainBranch, count, fork_at, put_fork, add_fork}
 use Rattle.rev_undotree.specs.declared.junction.Junction.{Junction}
 
+-- what is read where there is no node
 abbrev pub no_node : PlainNode
 no_node = record { number = 0; step = actor.Bump; outcome = outcome.Idle; undo = record { moves = []; notes = []; room = 0 } }
 
@@ -32,9 +33,10 @@ undo_of run k = (get_or run k no_node).undo
 abbrev pub with_undo : ℕ → PlainRecord → PlainBranch → PlainBranch
 with_undo k r b = record { from = b.from; run = set b.run k (record (get_or b.run k no_node) { undo = r }); forks = b.forks }
 
--- a branch with one more node, and with one more fork
+-- a branch with one more node
 abbrev pub with_node : PlainNode → PlainBranch → PlainBranch
 with_node e b = record { from = b.from; run = b.run ++ (e ∷ []); forks = b.forks }
 
+-- a branch with one more fork
 abbrev pub with_fork : PlainBranch → PlainBranch → PlainBranch
 with_fork c b = record { from = b.from; run = b.run; forks = add_fork b.forks c }

@@ -1,4 +1,3 @@
-use Rattle.rev_model.specs.Words.{headed}
 use Rattle.rev_changes.proofs.alter.warm_up.Goals as goal
 
 pub raise-requires-clause-class : goal.raise-requires-clause-class

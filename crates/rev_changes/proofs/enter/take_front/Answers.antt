@@ -1,7 +1,7 @@
 use Rattle.std.specs.Prelude.{Some}
-use Rattle.std.proofs.Common.{sym, ◌∙◌, subst}
+use Rattle.std.proofs.Common.{sym, ◌∙◌}
 use Rattle.rev_model.specs.Places.{free_in}
-use Rattle.rev_changes.specs.Rest.{sound_of, Rest}
+use Rattle.rev_changes.specs.Rest.{sound_of}
 use Rattle.rev_changes.specs.Taking.{front_take, front_rest, front_chunk}
 use Rattle.rev_changes.proofs.enter.take_front.Goals as goal
 

@@ -1,5 +1,4 @@
-use Rattle.std.specs.Prelude.{Option}
-use Rattle.std.proofs.Common.{ap, subst, ◌∙◌}
+use Rattle.std.proofs.Common.{ap, subst}
 use Rattle.rev_model.specs.Drops.{drop_take, drop_unbind, drop_fill}
 use Rattle.rev_model.specs.State.{State, item_at}
 use Rattle.rev_model.specs.Track.{removal}

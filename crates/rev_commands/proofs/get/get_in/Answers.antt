@@ -1,4 +1,4 @@
-use Rattle.std.specs.Prelude.{ℕ, ◌≡◌, ◌+◌, ◌≤◌, length}
+use Rattle.std.specs.Prelude.{◌≡◌}
 use Rattle.std.proofs.Common.{sym, ◌∙◌, arith}
 use Rattle.rev_commands.specs.Looking.{found, found_look, look_need}
 use Rattle.rev_commands.specs.Hitting.{get_room, get_need, hit_need}

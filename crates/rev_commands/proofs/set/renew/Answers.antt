@@ -1,5 +1,5 @@
 use Rattle.std.specs.Prelude.{Some}
-use Rattle.std.proofs.Common.{sym, ◌∙◌, ap, subst}
+use Rattle.std.proofs.Common.{subst}
 use Rattle.rev_model.specs.Sound.{SoundBut}
 use Rattle.rev_commands.specs.Renewing.{fresh_after}
 use Rattle.rev_commands.proofs.set.renew.Goals as goal

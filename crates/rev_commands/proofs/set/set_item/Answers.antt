@@ -1,11 +1,8 @@
-use Rattle.std.specs.Prelude.{ℕ, ◌≡◌, ◌+◌, ◌≤◌, Option, length}
-use Rattle.std.proofs.Common.{sym, ◌∙◌, ap, subst, arith}
-use Rattle.rev_model.specs.State.{State, Fixed}
+use Rattle.std.specs.Prelude.{◌≤◌}
+use Rattle.std.proofs.Common.{sym, subst, arith}
+use Rattle.rev_model.specs.State.{Fixed}
 use Rattle.rev_model.specs.Places.{IsClass}
-use Rattle.rev_model.specs.Client.{stored_room, Sets}
-use Rattle.rev_model.specs.declared.ChunkRef.{ChunkRef}
-use Rattle.rev_model.specs.declared.Outcome.TheVariants.{Stored}
-use Rattle.rev_maintainer.specs.Rooming.{room_alike}
+use Rattle.rev_maintainer.specs.Rooming.{same_globals_after}
 use Rattle.rev_commands.specs.Looking.{removal_less, removal_need}
 use Rattle.rev_changes.specs.Telling.{Tells, tells_then}
 use Rattle.rev_commands.specs.Causes.{set_removals_some, set_removals_none}
@@ -14,7 +11,7 @@ use Rattle.rev_commands.proofs.set.set_item.Goals as goal
 
 pub renew-requires-clause-class : goal.renew-requires-clause-class
 renew-requires-clause-class g c =
-    let same = room_alike c.args.store.now c.room.new.store c.args.class c.room.result c.room.ensures.done in
+    let same = same_globals_after c.args.store.now c.room.new.store c.args.class c.room.result c.room.ensures.done in
     subst (λ (f : Fixed). IsClass f c.args.class) (sym same.fixed) c.requires.class
 
 pub renew-requires-clause-chunk : goal.renew-requires-clause-chunk
@@ -22,7 +19,7 @@ renew-requires-clause-chunk g c = c.room.ensures.chunk c.in-Some.chunk c.in-Some
 
 pub renew-requires-clause-fits : goal.renew-requires-clause-fits
 renew-requires-clause-fits g c =
-    let same = room_alike c.args.store.now c.room.new.store c.args.class c.room.result c.room.ensures.done in
+    let same = same_globals_after c.args.store.now c.room.new.store c.args.class c.room.result c.room.ensures.done in
     rw same.fixed c.requires.fits
 
 pub renew-requires-clause-room : goal.renew-requires-clause-room
@@ -30,13 +27,13 @@ renew-requires-clause-room g c =
     let s = c.args.store.now in
     let t = c.room.new.store in
     let k = c.args.key.now in
-    let same = room_alike s t c.args.class c.room.result c.room.ensures.done in
+    let same = same_globals_after s t c.args.class c.room.result c.room.ensures.done in
     let less : removal_need t k ≤ removal_need s k = removal_less s t k (same.keys k) in
     omega (arith, less, c.room.ensures.made, c.room.ensures.room, c.requires.room)
 
 pub returns-in-Some-clause-done : goal.returns-in-Some-clause-done
 returns-in-Some-clause-done g c =
-    let same = room_alike c.args.store.now c.room.new.store c.args.class c.room.result c.room.ensures.done in
+    let same = same_globals_after c.args.store.now c.room.new.store c.args.class c.room.result c.room.ensures.done in
     λ e m. set_some c.args.store.now c.room.new.store c.renew.new.store c.args.class c.room.result c.in-Some.chunk c.args.key.now c.args.item e c.room.ensures.done c.in-Some.is same.globals c.requires.item m c.renew.ensures.state
 
 pub returns-in-None-clause-done : goal.returns-in-None-clause-done
@@ -50,7 +47,7 @@ returns-in-Some-clause-made g c =
     let s = c.args.store.now in
     let t = c.room.new.store in
     let k = c.args.key.now in
-    let same = room_alike s t c.args.class c.room.result c.room.ensures.done in
+    let same = same_globals_after s t c.args.class c.room.result c.room.ensures.done in
     let less : removal_need t k ≤ removal_need s k = removal_less s t k (same.keys k) in
     omega (arith, less, c.room.ensures.made, c.renew.ensures.made)
 

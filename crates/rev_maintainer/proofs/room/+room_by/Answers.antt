@@ -1,4 +1,4 @@
-use Rattle.std.specs.Prelude.{ℕ, ◌++◌, ◌≡◌, ◌-◌, ◌+◌, ◌≤◌, None, Option, length}
+use Rattle.std.specs.Prelude.{◌++◌, ◌≡◌, ◌-◌, ◌+◌, ◌≤◌, length}
 use Rattle.std.proofs.Common.{sym, ◌∙◌, ap, subst, rules, arith}
 use Rattle.rev_model.specs.State.{State, Fixed, free_of}
 use Rattle.rev_model.specs.Pull.{squeezed, page_of}
@@ -7,7 +7,7 @@ use Rattle.rev_moves.specs.Record.{PlainRecord}
 use Rattle.rev_changes.specs.Taking.{paired}
 use Rattle.rev_changes.specs.Telling.{Tells, tells_more, tells_then}
 use Rattle.rev_maintainer.specs.Causes.{squeeze_removals, room_removals_by, later_removals, given_removals}
-use Rattle.rev_maintainer.specs.Rooming.{kin_squeezed, page_kin, next_need, later_room, given_room, room_need, need_some, need_least}
+use Rattle.rev_maintainer.specs.Rooming.{same_pages_squeezed, same_page_of, next_need, later_room, given_room, room_need, need_some, need_least}
 use Rattle.rev_maintainer.proofs.room.+room_by.Goals as goal
 
 pub room_by-requires : goal.room_by-requires
@@ -16,9 +16,9 @@ room_by-requires g t c κs within =
     let k = c.args.class in
     let none = c.give.ensures.none c.in-None.is in
     let next = c.squeeze.ensures.state ∙ ap (λ (u : State). squeezed u k) none.0 in
-    let kin = kin_squeezed s k in
-    let fixed = ap (λ (u : State). u.fixed) next ∙ kin.fixed in
-    let page = ap (λ (u : State). page_of u k) next ∙ page_kin s (squeezed s k) k kin ∙ none.3 in
+    let same_pages = same_pages_squeezed s k in
+    let fixed = ap (λ (u : State). u.fixed) next ∙ same_pages.fixed in
+    let page = ap (λ (u : State). page_of u k) next ∙ same_page_of s (squeezed s k) k same_pages ∙ none.3 in
     let room : c.squeeze.new.undo.room ≡ c.args.undo.now.room = c.squeeze.ensures.room ∙ ap (λ (r : PlainRecord). r.room) none.1 in
     let need = next_need s c.squeeze.new.store k c.args.rounds (length c.args.undo.now.moves) (length c.squeeze.new.undo.moves) c.squeeze.new.undo.room none.2 none.3 page c.if-rounds-eq0.false
     (rw room c.requires.room)
