@@ -73,12 +73,12 @@ fn small_pages(rt: HostRuntime) -> Result<(), Fail> {
     Ok(())
 }
 
-struct Case {
-    config: Config,
-    fault: ConfigFault,
+pub struct Case {
+    pub config: Config,
+    pub fault: ConfigFault,
 }
 
-static FAULTS: [Case; 5] = [
+pub static FAULTS: [Case; 5] = [
     Case {
         config: Config {
             page_size: 1001,

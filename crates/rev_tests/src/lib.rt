@@ -12,4 +12,6 @@ mod scripts;
 #[cfg(test)]
 mod short_scripts;
 #[cfg(test)]
+mod stores;
+#[cfg(test)]
 mod streams;
