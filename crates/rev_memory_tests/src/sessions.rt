@@ -1,0 +1,222 @@
+//! Sessions that are opened and played on, and whole runs.
+use crate::heap::{BYTES, UNIT, fill};
+use crate::parts::SMALL;
+use crate::pictures::{picture_of, session_picture};
+use crate::steps::{Command, step_of};
+use linked_list_allocator::LocalHeap;
+use rev_classes::fault_of;
+use rev_inverse::Store;
+use rev_output::ToWrite;
+use rev_script::source::FromRead;
+use rev_shell::run::{RunFault, run};
+use rev_undotree::{PlayFault, Session};
+use std::alloc::Global;
+use std::process::Abort;
+use std::test::Fail;
+
+// Opens a session with so many bytes left. A store that is handed back tells what it told before.
+fn try_open<R: Abort>(rt: &R, alloc: Global, left: usize) -> Result<bool, Fail> {
+    let heap = LocalHeap::new(alloc, BYTES)?;
+    let store = Store::open(&heap, SMALL)?;
+    let before = picture_of(alloc, &store)?;
+    let ballast = fill(alloc, &heap, left)?;
+    match Session::open(&heap, store) {
+        Ok(_session) => Ok(true),
+        Err((_, store)) => {
+            drop(ballast);
+            let after = picture_of(alloc, &store)?;
+            assert!(rt; before.is_same(&after), "{left} bytes left");
+            Ok(false)
+        }
+    }
+}
+
+#[test]
+fn opens(rt: HostRuntime) -> Result<(), Fail> {
+    for units in 0..BYTES / UNIT {
+        if try_open(&rt, rt.alloc(), units * UNIT)? {
+            return Ok(());
+        }
+    }
+    Err(Fail::new("there was never enough"))
+}
+
+// What a case does before its play.
+#[derive(Clone, Copy, Debug)]
+enum Turn {
+    Play(Command),
+    Back,
+}
+
+struct Case {
+    name: &'static str,
+    before: &'static [Turn],
+    command: Command,
+}
+
+static CASES: [Case; 5] = [
+    Case {
+        name: "the first play",
+        before: &[],
+        command: Command::Set("a", 1),
+    },
+    Case {
+        name: "a play that continues a run",
+        before: &[Turn::Play(Command::Set("a", 1))],
+        command: Command::Get("a"),
+    },
+    Case {
+        name: "the first fork of the root",
+        before: &[Turn::Play(Command::Set("a", 1)), Turn::Back],
+        command: Command::Set("b", 1),
+    },
+    Case {
+        name: "the first fork of a run",
+        before: &[
+            Turn::Play(Command::Set("a", 1)),
+            Turn::Play(Command::Get("a")),
+            Turn::Back,
+        ],
+        command: Command::Delete("a"),
+    },
+    Case {
+        name: "the second fork of a node",
+        before: &[
+            Turn::Play(Command::Set("a", 1)),
+            Turn::Back,
+            Turn::Play(Command::Set("b", 1)),
+            Turn::Back,
+        ],
+        command: Command::Set("c", 1),
+    },
+];
+
+fn take_turn<'a>(
+    heap: &'a LocalHeap,
+    session: &mut Session<&'a LocalHeap>,
+    turn: Turn,
+) -> Result<(), Fail> {
+    match turn {
+        Turn::Play(command) => match session.play(step_of(heap, command)?) {
+            Ok(_) => Ok(()),
+            Err((fault, _step)) => Err(Fail::from(fault)),
+        },
+        Turn::Back => {
+            session.back()?;
+            Ok(())
+        }
+    }
+}
+
+// Plays the case's command with so many bytes left. A session that was refused memory tells what it told before, and the
+// step is handed back.
+fn try_case<R: Abort>(rt: &R, alloc: Global, case: &Case, left: usize) -> Result<bool, Fail> {
+    let heap = LocalHeap::new(alloc, BYTES)?;
+    let Ok(mut session) = Session::open(&heap, Store::open(&heap, SMALL)?) else {
+        return Err(Fail::new("no session"));
+    };
+    for turn in case.before {
+        take_turn(&heap, &mut session, *turn)?;
+    }
+    let step = step_of(&heap, case.command)?;
+    let same = step_of(&heap, case.command)?;
+    let before = session_picture(alloc, &session)?;
+    let ballast = fill(alloc, &heap, left)?;
+    let played = session.play(step);
+    drop(ballast);
+    let after = session_picture(alloc, &session)?;
+    let name = case.name;
+    let is_same = before.is_same(&after);
+    match played {
+        Ok(_) => {
+            assert!(rt; !is_same, "{name}: {left} bytes left");
+            Ok(true)
+        }
+        Err((fault, step)) => {
+            assert!(rt; is_same, "{name}: {left} bytes left");
+            assert_eq!(rt; fault, PlayFault::Memory, "{name}: {left} bytes left");
+            assert!(rt; step.is_same(&same), "{name}: {left} bytes left");
+            Ok(false)
+        }
+    }
+}
+
+#[test]
+fn plays(rt: HostRuntime) -> Result<(), Fail> {
+    for case in &CASES {
+        let mut refused = None;
+        for units in 0..BYTES / UNIT {
+            if try_case(&rt, rt.alloc(), case, units * UNIT)? {
+                refused = Some(units);
+                break;
+            }
+        }
+        let name = case.name;
+        assert!(rt; refused.unwrap_or(0) > 0, "{name}");
+    }
+    Ok(())
+}
+
+// The lines of a script, with their data, and what each is answered.
+static LINES: [(&str, &str); 8] = [
+    ("set a 7 0 5\r\nabcde\r\n", "STORED\r\n"),
+    ("get a\r\n", "VALUE a 7 5\r\nabcde\r\nEND\r\n"),
+    (":back\r\n", "NODE 1\r\n"),
+    ("delete a\r\n", "DELETED\r\n"),
+    (":back\r\n", "NODE 1\r\n"),
+    ("set bb 0 0 1\r\nx\r\n", "STORED\r\n"),
+    (":queue 1 hot\r\n", "QUEUE =bb =a\r\n"),
+    (":pages\r\n", "PAGE 0 1\r\nEND\r\n"),
+];
+
+// The answers of the lines before a line, counted from 1.
+fn answers_before(alloc: Global, line: u64) -> Result<Vec<u8>, Fail> {
+    let mut answers = Vec::new(alloc);
+    for (index, (_, answer)) in LINES.iter().enumerate() {
+        if (index as u64) + 1 < line {
+            answers.extend_from_slice(answer.as_bytes())?;
+        }
+    }
+    Ok(answers)
+}
+
+// Runs the lines with so many bytes left. Where memory is refused at a line, the answers before it are written.
+fn try_run<R: Abort>(rt: &R, alloc: Global, script: &[u8], left: usize) -> Result<bool, Fail> {
+    let heap = LocalHeap::new(alloc, BYTES)?;
+    let _ballast = fill(alloc, &heap, left)?;
+    let mut written: Vec<u8> = Vec::new(alloc);
+    let mut source = FromRead::new(script);
+    let ended = match fault_of(&SMALL) {
+        Some(fault) => return Err(Fail::from(fault)),
+        None => run(&&heap, &SMALL, &mut source, &mut ToWrite::new(&mut written)),
+    };
+    let (line, is_done) = match ended {
+        Ok(_) => (u64::MAX, true),
+        Err(RunFault::Memory { line }) => (line, false),
+        Err(fault) => return Err(Fail::from(fault)),
+    };
+    let answers = answers_before(alloc, line)?;
+    assert!(rt;
+        written.as_slice() == answers.as_slice(),
+        "{left} bytes left: line {line}"
+    );
+    assert_eq!(rt; heap.free(), left);
+    Ok(is_done)
+}
+
+#[test]
+fn runs(rt: HostRuntime) -> Result<(), Fail> {
+    let mut script: Vec<u8> = Vec::new(rt.alloc());
+    for (line, _) in &LINES {
+        script.extend_from_slice(line.as_bytes())?;
+    }
+    let mut refused = None;
+    for units in 0..BYTES / UNIT {
+        if try_run(&rt, rt.alloc(), script.as_slice(), units * UNIT)? {
+            refused = Some(units);
+            break;
+        }
+    }
+    assert!(rt; refused.unwrap_or(0) > 0);
+    Ok(())
+}

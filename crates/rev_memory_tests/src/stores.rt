@@ -1,0 +1,217 @@
+//! A store that is opened, and steps that are applied to one.
+ghost use Rattle.std.specs.Prelude.{OnOk};
+ghost use Rattle.rev_model.specs.Sound.{Sound};
+
+use crate::heap::{BYTES, UNIT, fill};
+use crate::parts::SMALL;
+use crate::pictures::picture_of;
+use crate::steps::{Command, step_of};
+use linked_list_allocator::LocalHeap;
+use rev_classes::ConfigFault;
+use rev_inverse::Store;
+use rev_moves::Record;
+use rev_steps::{Step, apply};
+use std::alloc::{Allocator, Global};
+use std::process::Abort;
+use std::test::Fail;
+
+// Opens a store with so many bytes left.
+fn try_open<R: Abort>(rt: &R, alloc: Global, left: usize) -> Result<bool, Fail> {
+    let heap = LocalHeap::new(alloc, BYTES)?;
+    let _ballast = fill(alloc, &heap, left)?;
+    match Store::open(&heap, SMALL) {
+        Ok(_store) => Ok(true),
+        Err(fault) => {
+            assert_eq!(rt; fault, ConfigFault::Memory, "{left} bytes left");
+            assert_eq!(rt; heap.free(), left);
+            Ok(false)
+        }
+    }
+}
+
+#[test]
+fn opens(rt: HostRuntime) -> Result<(), Fail> {
+    let mut refused = None;
+    for units in 0..BYTES / UNIT {
+        if try_open(&rt, rt.alloc(), units * UNIT)? {
+            refused = Some(units);
+            break;
+        }
+    }
+    assert!(rt; refused.unwrap_or(0) > 0);
+    Ok(())
+}
+
+// Makes a record, or the slots of a page, with so many bytes left.
+fn try_room<R: Abort>(rt: &R, alloc: Global, of_page: bool, left: usize) -> Result<bool, Fail> {
+    let heap = LocalHeap::new(alloc, BYTES)?;
+    let store = Store::open(&heap, SMALL)?;
+    let _ballast = fill(alloc, &heap, left)?;
+    let is_made = if of_page {
+        assert!(rt; store.table().last() >= 1);
+        store.parts(1).is_ok()
+    } else {
+        Record::with_room(&heap, 64).is_ok()
+    };
+    assert_eq!(rt; heap.free(), left);
+    Ok(is_made)
+}
+
+#[test]
+fn rooms(rt: HostRuntime) -> Result<(), Fail> {
+    for of_page in [true, false] {
+        let mut refused = None;
+        for units in 0..BYTES / UNIT {
+            if try_room(&rt, rt.alloc(), of_page, units * UNIT)? {
+                refused = Some(units);
+                break;
+            }
+        }
+        assert!(rt; refused.unwrap_or(0) > 0);
+    }
+    Ok(())
+}
+
+struct Case {
+    name: &'static str,
+    before: &'static [Command],
+    command: Command,
+}
+
+static CASES: [Case; 8] = [
+    Case {
+        name: "a set that makes a page",
+        before: &[],
+        command: Command::Set("a", 1),
+    },
+    Case {
+        name: "a set that takes a free chunk",
+        before: &[Command::Set("a", 1)],
+        command: Command::Set("b", 1),
+    },
+    Case {
+        name: "a set that replaces an item of its class",
+        before: &[Command::Set("a", 1)],
+        command: Command::Set("a", 2),
+    },
+    Case {
+        name: "a set that replaces an item of another class, and makes a page",
+        before: &[Command::Set("a", 1)],
+        command: Command::Set("a", 500),
+    },
+    Case {
+        name: "a set for which an item is evicted",
+        before: &[Command::Set("a", 964)],
+        command: Command::Set("b", 964),
+    },
+    Case {
+        name: "a set that is too large",
+        before: &[Command::Set("a", 1)],
+        command: Command::Set("a", 2000),
+    },
+    Case {
+        name: "a get",
+        before: &[Command::Set("a", 1)],
+        command: Command::Get("a"),
+    },
+    Case {
+        name: "a delete",
+        before: &[Command::Set("b", 1), Command::Set("a", 1)],
+        command: Command::Delete("a"),
+    },
+];
+
+// Applies the commands, one after another.
+fn prepare<A: Allocator + Clone>(store: &mut Store<A>, commands: &[Command]) -> Result<(), Fail>
+    requires { Sound store.old }
+    ensures { OnOk result (Sound store.new) }
+{
+    for command in commands {
+        let step = step_of(store.alloc()?, *command)?;
+        apply(store, &step)?;
+    }
+    Ok(())
+}
+
+// Applies a step, and tells whether there was memory for it.
+fn has_applied<A: Allocator + Clone>(store: &mut Store<A>, step: &Step<A>) -> bool
+    requires { Sound store.old }
+    ensures { Sound store.new }
+{
+    match apply(store, step) {
+        Ok(_) => true,
+        Err(_) => false,
+    }
+}
+
+// Applies the case's command with so many bytes left. A store that was refused memory tells what it told before.
+fn try_case<R: Abort>(rt: &R, alloc: Global, case: &Case, left: usize) -> Result<bool, Fail> {
+    let heap = LocalHeap::new(alloc, BYTES)?;
+    let mut store = Store::open(&heap, SMALL)?;
+    prepare(&mut store, case.before)?;
+    let step = step_of(&heap, case.command)?;
+    let before = picture_of(alloc, &store)?;
+    let ballast = fill(alloc, &heap, left)?;
+    let is_done = has_applied(&mut store, &step);
+    if !is_done {
+        assert_eq!(rt; heap.free(), left);
+    }
+    drop(ballast);
+    let after = picture_of(alloc, &store)?;
+    let name = case.name;
+    let is_same = before.is_same(&after);
+    assert!(rt; is_same != is_done, "{name}: {left} bytes left");
+    Ok(is_done)
+}
+
+#[test]
+fn applies(rt: HostRuntime) -> Result<(), Fail> {
+    for case in &CASES {
+        let mut refused = None;
+        for units in 0..BYTES / UNIT {
+            if try_case(&rt, rt.alloc(), case, units * UNIT)? {
+                refused = Some(units);
+                break;
+            }
+        }
+        let name = case.name;
+        assert!(rt; refused.unwrap_or(0) > 0, "{name}");
+    }
+    Ok(())
+}
+
+// Copies the step of a command with so many bytes left.
+fn try_copy<R: Abort>(rt: &R, alloc: Global, command: Command, left: usize) -> Result<bool, Fail> {
+    let heap = LocalHeap::new(alloc, BYTES)?;
+    let step = step_of(&heap, command)?;
+    let _ballast = fill(alloc, &heap, left)?;
+    match step.copy(&heap) {
+        Ok(copy) => {
+            assert!(rt; step.is_same(&copy), "{command:?}");
+            Ok(true)
+        }
+        Err(_) => {
+            assert_eq!(rt; heap.free(), left, "{command:?}");
+            Ok(false)
+        }
+    }
+}
+
+#[test]
+fn copies(rt: HostRuntime) -> Result<(), Fail> {
+    for command in [
+        Command::Set("a", 100),
+        Command::Get("a"),
+        Command::Delete("a"),
+    ] {
+        let mut refused = None;
+        for units in 0..BYTES / UNIT {
+            if try_copy(&rt, rt.alloc(), command, units * UNIT)? {
+                refused = Some(units);
+                break;
+            }
+        }
+        assert!(rt; refused.unwrap_or(0) > 0, "{command:?}");
+    }
+    Ok(())
+}
