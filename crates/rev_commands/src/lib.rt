@@ -1,10 +1,9 @@
-//! The steps of clients (protocol.txt): set, get and delete.
+//! The commands of clients (protocol.txt).
 #![tactic(auto)]
 
-mod delete;
-mod get;
-mod look;
-mod set;
-mod steps;
+mod dispatch;
+mod flush;
 
-pub use steps::{ClientStep, Payload, client};
+pub use dispatch::client;
+pub use flush::flush_all;
+pub use rev_requests::{Arithmetic, ClientStep, JoinSide, KeyCommand, Payload, StoreVerb};

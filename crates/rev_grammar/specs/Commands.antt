@@ -7,6 +7,7 @@ use Rattle.rev_grammar.specs.Number.{number, number_u32, signed, is_factor, fact
 use Rattle.rev_grammar.specs.Words.{words, word, is_name, are_words}
 use Rattle.rev_items.specs.Keys.{is_key}
 use Rattle.rev_model.specs.declared.ClassSet.TheVariants.{All, These}
+use Rattle.rev_requests.specs.Limits.{is_tune}
 use Rattle.rev_grammar.specs.declared.command.BadAnswer.TheVariants.{Error, BadFormat, DeleteUsage, BadExptime, BadDelta, SharesOver80, LineTooLong, BadCommand}
 use Rattle.rev_model.specs.declared.Queue.{Queue}
 use Rattle.rev_model.specs.declared.Queue.TheVariants.{Hot, Warm, Cold, Temp}
@@ -156,12 +157,14 @@ abbrev pub temp_ttl_of : Option ℤ → Command
 temp_ttl_of None = Bad BadFormat
 temp_ttl_of (Some n) = Actor (actors.TempTtl n)
 
--- the percentages are at least 1
+-- the four numbers within their limits
 abbrev pub tune_of : ℕ → ℕ → Option ℕ → Option ℕ → Command
 tune_of hot warm None warm_factor = Bad BadFormat
 tune_of hot warm (Some hot_factor) None = Bad BadFormat
 tune_of hot warm (Some hot_factor) (Some warm_factor) =
-    if nat_lt 0 hot && nat_lt 0 warm then Actor (actors.Tune hot warm hot_factor warm_factor) else Bad BadFormat
+    if is_tune hot warm hot_factor warm_factor then
+    Actor (actors.Tune record { hot_share = hot; warm_share = warm; hot_factor = hot_factor; warm_factor = warm_factor })
+    else Bad BadFormat
 
 -- two percentages beside two words that have a factor's form; their sum is looked at before the factors' range
 abbrev pub tune_percent : Option ℕ → Option ℕ → List (List ℕ) → Command

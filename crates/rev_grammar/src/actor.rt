@@ -7,6 +7,7 @@ use crate::command::{ActorCommand, BadAnswer, Command};
 use crate::number::{factor, ids, is_factor, number_u32, signed};
 use crate::words::word;
 use rev_model::{ClassSet, Queue};
+use rev_requests::Tune;
 
 #[tactic(auto, unfolding(crate::specs::Commands::crawler_command))]
 pub fn crawler_command(words: &[&[u8]]) -> Command
@@ -65,15 +66,10 @@ fn tune_command(words: &[&[u8]]) -> Command
     let Some(warm_factor) = factor(word(words, 5)) else {
         return Command::Bad(BadAnswer::BadFormat);
     };
-    if hot_share == 0 || warm_share == 0 {
-        return Command::Bad(BadAnswer::BadFormat);
+    match Tune::new(hot_share, warm_share, hot_factor, warm_factor) {
+        Ok(tune) => Command::Actor(ActorCommand::Tune(tune)),
+        Err(_) => Command::Bad(BadAnswer::BadFormat),
     }
-    Command::Actor(ActorCommand::Tune {
-        hot_share,
-        warm_share,
-        hot_factor,
-        warm_factor,
-    })
 }
 
 /// `lru tune` and `lru temp_ttl`.

@@ -3,6 +3,7 @@
 //! These types hold no text: a key or a name is always the word behind the command's own word.
 
 use rev_model::{ClassSet, Queue};
+use rev_requests::Tune;
 
 /// How a malformed line is answered. The line makes no step.
 #[derive(Clone, Copy, Debug, PartialEq, Eq)]
@@ -53,28 +54,14 @@ pub enum UpdateCommand {
 /// A command to the background actors: the maintainer, the crawler and the page mover.
 #[derive(Clone, Copy, Debug, PartialEq, Eq)]
 pub enum ActorCommand {
-    Pull {
-        class: u32,
-        queue: Queue,
-    },
+    Pull { class: u32, queue: Queue },
     Bump,
-    Crawl {
-        class: u32,
-        queue: Queue,
-    },
+    Crawl { class: u32, queue: Queue },
     Advance,
     StartCrawl(ClassSet),
-    Reassign {
-        source: u32,
-        target: u32,
-    },
-    /// Shares of HOT and WARM in per cent, and their age factors in thousandths.
-    Tune {
-        hot_share: u32,
-        warm_share: u32,
-        hot_factor: u32,
-        warm_factor: u32,
-    },
+    Reassign { source: u32, target: u32 },
+    /// With the shares of HOT and WARM and their age factors.
+    Tune(Tune),
     /// In seconds; negative disables TEMP.
     TempTtl(i32),
 }

@@ -9,7 +9,7 @@ ghost use Rattle.rev_model.specs.Sound.{Stands, Sound};
 ghost use Rattle.rev_model.specs.Places.{IsClass};
 ghost use Rattle.rev_moves.specs.Leads.{Leads};
 ghost use Rattle.rev_changes.specs.Telling.{Tells};
-ghost use Rattle.rev_maintainer.specs.Causes.{live_removals, item_removals, pull_removals};
+ghost use Rattle.rev_model.specs.Causes.{live_removals, item_removals, pull_removals};
 
 use crate::reads::{evicts, is_crowded, takes_all};
 use rev_changes::alter::{cool, warm_up};

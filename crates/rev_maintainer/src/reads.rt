@@ -9,7 +9,7 @@ use rev_inverse::Store;
 use rev_model::{PullMode, Queue, Settings};
 use std::alloc::Allocator;
 
-fn share_of(settings: Settings, queue: Queue) -> u32
+fn share_of(settings: Settings, queue: Queue) -> u8
     ensures { result ≡ share settings queue }
 {
     match queue {

@@ -6,7 +6,7 @@ ghost use Rattle.rev_model.specs.Sound.{Sound, SoundBut};
 ghost use Rattle.rev_model.specs.Places.{IsClass};
 ghost use Rattle.rev_moves.specs.Leads.{Leads};
 ghost use Rattle.rev_changes.specs.Telling.{Tells};
-ghost use Rattle.rev_maintainer.specs.Causes.{squeeze_removals, room_removals_by, room_removals};
+ghost use Rattle.rev_model.specs.Causes.{squeeze_removals, room_removals_by, room_removals};
 ghost use Rattle.rev_changes.specs.Taking.{paired};
 ghost use Rattle.rev_changes.specs.Paging.{IsPlan};
 ghost use Rattle.rev_maintainer.specs.Rooming.{room_need, IsRoomPlan};

@@ -196,11 +196,28 @@ impl Picture {
         self.put(u64::from(globals.clock))?;
         self.put(globals.last_cas)?;
         self.put(globals.mark)?;
-        self.put(u64::from(globals.flush.is_some()))?;
-        self.put(u64::from(globals.mover.is_some()))
+        self.put(globals.flush.unwrap_or(u64::MAX))?;
+        if let Some(mover) = globals.mover {
+            self.put(u64::from(mover.src))?;
+            self.put(u64::from(mover.dst))?;
+            self.put(u64::from(mover.page))?;
+            self.put(u64::from(mover.slot))?;
+        }
+        self.put(u64::MAX)
     }
 
-    /// Puts what the store tells: pages, contents, each class's lists and counters, the bump queue, the globals, keys.
+    fn put_settings<A: Allocator>(&mut self, store: &Store<A>) -> Result<(), AllocError> {
+        let settings = store.globals().settings;
+        self.put(u64::from(settings.hot_share))?;
+        self.put(u64::from(settings.warm_share))?;
+        self.put(u64::from(settings.hot_factor))?;
+        self.put(u64::from(settings.warm_factor))?;
+        self.put(u64::from(settings.temp_ttl < 0))?;
+        self.put(u64::from(settings.temp_ttl.unsigned_abs()))
+    }
+
+    /// Puts what the store tells: pages, contents, each class's lists and counters, the bump queue, the globals, the
+    /// settings, keys.
     pub fn put_store<A: Allocator + Clone>(&mut self, store: &Store<A>) -> Result<(), Fail>
         requires { Sound store.now }
     {
@@ -209,6 +226,7 @@ impl Picture {
         self.put_classes(store)?;
         self.put_bump(store)?;
         self.put_globals(store)?;
+        self.put_settings(store)?;
         for name in KEYS {
             let key = Key::new(store.alloc()?, name)?;
             self.put_chunk(store.find(&key))?;

@@ -5,10 +5,13 @@ use crate::pictures::{picture_of, session_picture};
 use crate::steps::{Command, step_of};
 use linked_list_allocator::LocalHeap;
 use rev_classes::fault_of;
+use rev_explain::story;
 use rev_inverse::Store;
+use rev_items::Key;
 use rev_output::ToWrite;
 use rev_script::source::FromRead;
 use rev_shell::run::{RunFault, run};
+use rev_steps::{KeyCommand, StoreVerb};
 use rev_undotree::{PlayFault, Session};
 use std::alloc::Global;
 use std::process::Abort;
@@ -58,36 +61,36 @@ static CASES: [Case; 5] = [
     Case {
         name: "the first play",
         before: &[],
-        command: Command::Set("a", 1),
+        command: Command::Store(StoreVerb::Set, "a", 1),
     },
     Case {
         name: "a play that continues a run",
-        before: &[Turn::Play(Command::Set("a", 1))],
-        command: Command::Get("a"),
+        before: &[Turn::Play(Command::Store(StoreVerb::Set, "a", 1))],
+        command: Command::Keyed(KeyCommand::Get, "a"),
     },
     Case {
         name: "the first fork of the root",
-        before: &[Turn::Play(Command::Set("a", 1)), Turn::Back],
-        command: Command::Set("b", 1),
+        before: &[Turn::Play(Command::Store(StoreVerb::Set, "a", 1)), Turn::Back],
+        command: Command::Store(StoreVerb::Set, "b", 1),
     },
     Case {
         name: "the first fork of a run",
         before: &[
-            Turn::Play(Command::Set("a", 1)),
-            Turn::Play(Command::Get("a")),
+            Turn::Play(Command::Store(StoreVerb::Set, "a", 1)),
+            Turn::Play(Command::Keyed(KeyCommand::Get, "a")),
             Turn::Back,
         ],
-        command: Command::Delete("a"),
+        command: Command::Keyed(KeyCommand::Delete, "a"),
     },
     Case {
         name: "the second fork of a node",
         before: &[
-            Turn::Play(Command::Set("a", 1)),
+            Turn::Play(Command::Store(StoreVerb::Set, "a", 1)),
             Turn::Back,
-            Turn::Play(Command::Set("b", 1)),
+            Turn::Play(Command::Store(StoreVerb::Set, "b", 1)),
             Turn::Back,
         ],
-        command: Command::Set("c", 1),
+        command: Command::Store(StoreVerb::Set, "c", 1),
     },
 ];
 
@@ -154,6 +157,49 @@ fn plays(rt: HostRuntime) -> Result<(), Fail> {
         let name = case.name;
         assert!(rt; refused.unwrap_or(0) > 0, "{name}");
     }
+    Ok(())
+}
+
+// A key's story that has three events.
+static LIFE: [Turn; 3] = [
+    Turn::Play(Command::Store(StoreVerb::Set, "a", 1)),
+    Turn::Play(Command::Store(StoreVerb::Set, "a", 2)),
+    Turn::Play(Command::Keyed(KeyCommand::Delete, "a")),
+];
+
+// Asks for the story with so many bytes left.
+fn try_story<R: Abort>(rt: &R, alloc: Global, left: usize) -> Result<bool, Fail> {
+    let heap = LocalHeap::new(alloc, BYTES)?;
+    let Ok(mut session) = Session::open(&heap, Store::open(&heap, SMALL)?) else {
+        return Err(Fail::new("no session"));
+    };
+    for turn in &LIFE {
+        take_turn(&heap, &mut session, *turn)?;
+    }
+    let key = Key::new(&heap, b"a")?;
+    let _ballast = fill(alloc, &heap, left)?;
+    match story(&session, &key) {
+        Ok(events) => {
+            assert_eq!(rt; events.len(), LIFE.len());
+            Ok(true)
+        }
+        Err(_) => {
+            assert_eq!(rt; heap.free(), left);
+            Ok(false)
+        }
+    }
+}
+
+#[test]
+fn stories(rt: HostRuntime) -> Result<(), Fail> {
+    let mut refused = None;
+    for units in 0..BYTES / UNIT {
+        if try_story(&rt, rt.alloc(), units * UNIT)? {
+            refused = Some(units);
+            break;
+        }
+    }
+    assert!(rt; refused.unwrap_or(0) > 0);
     Ok(())
 }
 

@@ -7,10 +7,11 @@ use crate::parts::SMALL;
 use crate::pictures::picture_of;
 use crate::steps::{Command, step_of};
 use linked_list_allocator::LocalHeap;
-use rev_classes::ConfigFault;
+use rev_classes::{Config, ConfigFault};
 use rev_inverse::Store;
+use rev_model::{ClassSet, Queue};
 use rev_moves::Record;
-use rev_steps::{Step, apply};
+use rev_steps::{ActorStep, Arithmetic, JoinSide, KeyCommand, Step, StoreVerb, apply};
 use std::alloc::{Allocator, Global};
 use std::process::Abort;
 use std::test::Fail;
@@ -74,50 +75,185 @@ fn rooms(rt: HostRuntime) -> Result<(), Fail> {
 
 struct Case {
     name: &'static str,
+    pages: u32,
     before: &'static [Command],
     command: Command,
 }
 
-static CASES: [Case; 8] = [
+static CASES: [Case; 29] = [
     Case {
         name: "a set that makes a page",
+        pages: 1,
         before: &[],
-        command: Command::Set("a", 1),
+        command: Command::Store(StoreVerb::Set, "a", 1),
     },
     Case {
         name: "a set that takes a free chunk",
-        before: &[Command::Set("a", 1)],
-        command: Command::Set("b", 1),
+        pages: 1,
+        before: &[Command::Store(StoreVerb::Set, "a", 1)],
+        command: Command::Store(StoreVerb::Set, "b", 1),
     },
     Case {
         name: "a set that replaces an item of its class",
-        before: &[Command::Set("a", 1)],
-        command: Command::Set("a", 2),
+        pages: 1,
+        before: &[Command::Store(StoreVerb::Set, "a", 1)],
+        command: Command::Store(StoreVerb::Set, "a", 2),
     },
     Case {
         name: "a set that replaces an item of another class, and makes a page",
-        before: &[Command::Set("a", 1)],
-        command: Command::Set("a", 500),
+        pages: 1,
+        before: &[Command::Store(StoreVerb::Set, "a", 1)],
+        command: Command::Store(StoreVerb::Set, "a", 500),
     },
     Case {
         name: "a set for which an item is evicted",
-        before: &[Command::Set("a", 964)],
-        command: Command::Set("b", 964),
+        pages: 1,
+        before: &[Command::Store(StoreVerb::Set, "a", 964)],
+        command: Command::Store(StoreVerb::Set, "b", 964),
     },
     Case {
         name: "a set that is too large",
-        before: &[Command::Set("a", 1)],
-        command: Command::Set("a", 2000),
+        pages: 1,
+        before: &[Command::Store(StoreVerb::Set, "a", 1)],
+        command: Command::Store(StoreVerb::Set, "a", 2000),
+    },
+    Case {
+        name: "an add",
+        pages: 1,
+        before: &[],
+        command: Command::Store(StoreVerb::Add, "a", 1),
+    },
+    Case {
+        name: "a replace",
+        pages: 1,
+        before: &[Command::Store(StoreVerb::Set, "a", 1)],
+        command: Command::Store(StoreVerb::Replace, "a", 2),
+    },
+    Case {
+        name: "a cas",
+        pages: 1,
+        before: &[Command::Store(StoreVerb::Set, "a", 1)],
+        command: Command::Store(StoreVerb::Cas(1), "a", 2),
+    },
+    Case {
+        name: "a cas of another number, which makes a page",
+        pages: 1,
+        before: &[Command::Store(StoreVerb::Set, "a", 1)],
+        command: Command::Store(StoreVerb::Cas(7), "a", 500),
+    },
+    Case {
+        name: "an append that needs a larger chunk",
+        pages: 1,
+        before: &[Command::Store(StoreVerb::Set, "a", 100)],
+        command: Command::Join(JoinSide::Append, "a", 200),
+    },
+    Case {
+        name: "a prepend for which its own item is evicted",
+        pages: 1,
+        before: &[Command::Store(StoreVerb::Set, "a", 960)],
+        command: Command::Join(JoinSide::Prepend, "a", 4),
+    },
+    Case {
+        name: "an incr",
+        pages: 1,
+        before: &[Command::Store(StoreVerb::Set, "a", 3)],
+        command: Command::Keyed(KeyCommand::Count(Arithmetic::Increment(9)), "a"),
+    },
+    Case {
+        name: "a decr",
+        pages: 1,
+        before: &[Command::Store(StoreVerb::Set, "a", 3)],
+        command: Command::Keyed(KeyCommand::Count(Arithmetic::Decrement(9)), "a"),
     },
     Case {
         name: "a get",
-        before: &[Command::Set("a", 1)],
-        command: Command::Get("a"),
+        pages: 1,
+        before: &[Command::Store(StoreVerb::Set, "a", 1)],
+        command: Command::Keyed(KeyCommand::Get, "a"),
+    },
+    Case {
+        name: "a touch",
+        pages: 1,
+        before: &[Command::Store(StoreVerb::Set, "a", 1)],
+        command: Command::Keyed(KeyCommand::Touch(100), "a"),
     },
     Case {
         name: "a delete",
-        before: &[Command::Set("b", 1), Command::Set("a", 1)],
-        command: Command::Delete("a"),
+        pages: 1,
+        before: &[Command::Store(StoreVerb::Set, "b", 1), Command::Store(StoreVerb::Set, "a", 1)],
+        command: Command::Keyed(KeyCommand::Delete, "a"),
+    },
+    Case {
+        name: "a flush",
+        pages: 1,
+        before: &[Command::Store(StoreVerb::Set, "a", 1)],
+        command: Command::FlushAll,
+    },
+    Case {
+        name: "a pull",
+        pages: 1,
+        before: &[Command::Store(StoreVerb::Set, "a", 1), Command::Store(StoreVerb::Set, "b", 1)],
+        command: Command::Actor(ActorStep::Pull { class: 1, queue: Queue::Hot }),
+    },
+    Case {
+        name: "a bump",
+        pages: 1,
+        before: &[Command::Store(StoreVerb::Set, "a", 1), Command::Actor(ActorStep::Pull { class: 1, queue: Queue::Hot }), Command::Keyed(KeyCommand::Get, "a"), Command::Keyed(KeyCommand::Get, "a")],
+        command: Command::Actor(ActorStep::Bump),
+    },
+    Case {
+        name: "a crawl's start",
+        pages: 1,
+        before: &[Command::Store(StoreVerb::Set, "a", 1)],
+        command: Command::Actor(ActorStep::StartCrawl(ClassSet::All)),
+    },
+    Case {
+        name: "a crawl",
+        pages: 1,
+        before: &[Command::Store(StoreVerb::Set, "a", 1), Command::Actor(ActorStep::StartCrawl(ClassSet::All))],
+        command: Command::Actor(ActorStep::Crawl { class: 1, queue: Queue::Hot }),
+    },
+    Case {
+        name: "a page move's start",
+        pages: 2,
+        before: &[Command::Store(StoreVerb::Set, "a", 964), Command::Store(StoreVerb::Set, "b", 964)],
+        command: Command::Actor(ActorStep::Reassign { source: 11, target: 1 }),
+    },
+    Case {
+        name: "an advance that rescues an item",
+        pages: 2,
+        before: &[Command::Store(StoreVerb::Set, "a", 150), Command::Store(StoreVerb::Set, "b", 150), Command::Store(StoreVerb::Set, "c", 150), Command::Store(StoreVerb::Set, "d", 150), Command::Store(StoreVerb::Set, "e", 150), Command::Actor(ActorStep::Reassign { source: 5, target: 1 })],
+        command: Command::Actor(ActorStep::Advance),
+    },
+    Case {
+        name: "an advance that evicts an item",
+        pages: 2,
+        before: &[Command::Store(StoreVerb::Set, "a", 964), Command::Store(StoreVerb::Set, "b", 964), Command::Actor(ActorStep::Reassign { source: 11, target: 1 })],
+        command: Command::Actor(ActorStep::Advance),
+    },
+    Case {
+        name: "the last advance, which lays the page",
+        pages: 2,
+        before: &[Command::Store(StoreVerb::Set, "a", 964), Command::Store(StoreVerb::Set, "b", 964), Command::Actor(ActorStep::Reassign { source: 11, target: 1 }), Command::Actor(ActorStep::Advance)],
+        command: Command::Actor(ActorStep::Advance),
+    },
+    Case {
+        name: "a clock",
+        pages: 1,
+        before: &[],
+        command: Command::Actor(ActorStep::Clock(5)),
+    },
+    Case {
+        name: "a tune",
+        pages: 1,
+        before: &[],
+        command: Command::Tune,
+    },
+    Case {
+        name: "a temp_ttl",
+        pages: 1,
+        before: &[],
+        command: Command::Actor(ActorStep::TempTtl(60)),
     },
 ];
 
@@ -147,7 +283,11 @@ fn has_applied<A: Allocator + Clone>(store: &mut Store<A>, step: &Step<A>) -> bo
 // Applies the case's command with so many bytes left. A store that was refused memory tells what it told before.
 fn try_case<R: Abort>(rt: &R, alloc: Global, case: &Case, left: usize) -> Result<bool, Fail> {
     let heap = LocalHeap::new(alloc, BYTES)?;
-    let mut store = Store::open(&heap, SMALL)?;
+    let config = Config {
+        pages: case.pages,
+        ..SMALL
+    };
+    let mut store = Store::open(&heap, config)?;
     prepare(&mut store, case.before)?;
     let step = step_of(&heap, case.command)?;
     let before = picture_of(alloc, &store)?;
@@ -200,9 +340,9 @@ fn try_copy<R: Abort>(rt: &R, alloc: Global, command: Command, left: usize) -> R
 #[test]
 fn copies(rt: HostRuntime) -> Result<(), Fail> {
     for command in [
-        Command::Set("a", 100),
-        Command::Get("a"),
-        Command::Delete("a"),
+        Command::Store(StoreVerb::Set, "a", 100),
+        Command::Join(JoinSide::Append, "a", 100),
+        Command::Keyed(KeyCommand::Get, "a"),
     ] {
         let mut refused = None;
         for units in 0..BYTES / UNIT {

@@ -17,7 +17,14 @@ pub mod Drops
 pub mod Places
 pub mod Laying
 pub mod Track
+pub mod Causes
 pub mod Laws
 pub mod Place
 pub mod Notes
 pub mod Rests
+pub mod Events
+pub mod Fates
+pub mod Leaving
+pub mod Stages
+pub mod Walks
+pub mod Storing

@@ -83,8 +83,8 @@ pub struct BumpEntry {
 /// The page mover at work.
 #[derive(Clone, Copy, Debug, PartialEq, Eq)]
 pub struct Mover {
-    pub src: usize,
-    pub dst: usize,
+    pub src: u8,
+    pub dst: u8,
     pub page: u16,
     pub slot: u16,
 }
@@ -93,8 +93,8 @@ pub struct Mover {
 /// negative one closes it (new_lru.txt, `lru tune` and `lru temp_ttl` of protocol.txt).
 #[derive(Clone, Copy, Debug, PartialEq, Eq)]
 pub struct Settings {
-    pub hot_share: u32,
-    pub warm_share: u32,
+    pub hot_share: u8,
+    pub warm_share: u8,
     pub hot_factor: u32,
     pub warm_factor: u32,
     pub temp_ttl: i32,
@@ -210,4 +210,14 @@ pub fn is_dead(globals: Globals, item: ItemHeader) -> bool
 {
     let expired = item.moment != 0 && item.moment <= globals.clock as u64;
     expired || item.cas <= globals.mark
+}
+
+/// What a step did to a key (this project's own): the class and queue that its item entered, where the step stored it,
+/// first or over another; the queue that it left and the one that it entered; or what took it out of the index.
+#[derive(Clone, Copy, Debug, PartialEq, Eq)]
+pub enum EventKind {
+    Stored(ClassQueue),
+    Replaced(ClassQueue),
+    Moved { from: Queue, to: Queue },
+    Left(Cause),
 }

@@ -52,6 +52,14 @@ impl<A: Allocator> Record<A> {
         self.moves.len()
     }
 
+    /// Gives memory back that the moves made so far do not need; there is then room for these alone.
+    pub fn trim(&mut self)
+        ensures { self.new ≡ record self.old { room = length self.old.moves } }
+    {
+        self.moves.shrink_to_fit();
+        self.room = self.moves.len();
+    }
+
     /// Adds a move behind the others, without a note. It takes no memory.
     pub fn push(&mut self, undo: Move<A>)
         requires { length self.old.moves < self.old.room }

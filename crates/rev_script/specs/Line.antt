@@ -1,6 +1,6 @@
 -- What a contract sees of a line of the code.
 use Rattle.std.specs.Prelude.{ℤ, ◌≡◌, ◌≢◌, ◌⊎◌, ◌<◌, ◌+◌, ℕ, Bool, length, List, [], Option, None, Some}
-use Rattle.rev_model.specs.Client as model
+use Rattle.rev_requests.specs.Plain.{plain_payload}
 use Rattle.rev_grammar.specs.Words.{word}
 use Rattle.rev_grammar.specs.declared.command.StorageCommand.{StorageCommand}
 use Rattle.rev_grammar.specs.declared.command.Command.{Command}
@@ -11,8 +11,6 @@ use Rattle.rev_script.specs.Source.{Told}
 use Rattle.rev_script.specs.declared.byte_reader.ByteReader.{ByteReader}
 use Rattle.rev_script.specs.declared.byte_reader.LineFault.{LineFault}
 use Rattle.rev_script.specs.declared.byte_reader.LineFault.TheVariants as faults
-use Rattle.rev_script.specs.declared.line.Payload as the_payload
-use Rattle.rev_script.specs.declared.line.Payload.TheVariants as payloads
 use Rattle.rev_script.specs.declared.line.ClientLine as the_client
 use Rattle.rev_script.specs.declared.line.ClientLine.TheVariants as clients
 use Rattle.rev_script.specs.declared.line.DebugLine as the_debug
@@ -22,13 +20,9 @@ use Rattle.rev_script.specs.declared.line.Line.TheVariants as lines
 use Rattle.rev_script.specs.declared.line.Asked.{Asked}
 use Rattle.rev_script.specs.declared.line.Asked.TheVariants as askeds
 
-abbrev pub payload_view : {A : Type 0} → the_payload.Payload A → model.Payload
-payload_view (payloads.Bytes v) = model.Bytes v.items
-payload_view (payloads.Skipped n) = model.Skipped n
-
 abbrev pub client_view : {A : Type 0} → the_client.ClientLine A → ScriptLine
 client_view (clients.Storage c key flags exptime payload noreply) =
-    StorageLine c key flags exptime (payload_view payload) noreply
+    StorageLine c key flags exptime (plain_payload payload) noreply
 client_view (clients.Retrieval keys with_cas) = RetrievalLine keys.items with_cas
 client_view (clients.Update c key noreply) = UpdateLine c key noreply
 client_view (clients.FlushAll delay noreply) = FlushLine delay noreply

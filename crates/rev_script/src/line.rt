@@ -4,15 +4,8 @@ use rev_grammar::command::{
     ActorCommand, BadAnswer, BookmarkCommand, DebugCommand, KeyQuery, StorageCommand, UpdateCommand,
 };
 use rev_items::Key;
+use rev_requests::Payload;
 use std::alloc::Allocator;
-
-/// The data of a storage line.
-#[derive(Drop)]
-pub enum Payload<A: Allocator> {
-    Bytes(Vec<u8, A>),
-    /// So many bytes, which were read and not kept: they are more than fit any slab class.
-    Skipped(u32),
-}
 
 /// A line of a client.
 #[derive(Drop)]

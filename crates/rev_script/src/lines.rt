@@ -13,13 +13,14 @@ ghost use Rattle.rev_script.specs.DataBlock.{IsShort};
 
 use crate::byte_reader::{ByteReader, LineFault};
 use crate::data_block::{MOST_DATA, take_block};
-use crate::line::{Asked, ClientLine, DebugLine, Line, Payload};
+use crate::line::{Asked, ClientLine, DebugLine, Line};
 use crate::raw_line::{MOST_KEPT, read_text};
 use crate::source::Source;
 use rev_grammar::command::{BadAnswer, Command, StorageCommand};
 use rev_grammar::line::{asked, body};
 use rev_grammar::words::{word, words};
 use rev_items::{Key, KeyFault};
+use rev_requests::Payload;
 use std::alloc::{AllocError, Allocator};
 
 // A copy of a word that meets the rule of keys.

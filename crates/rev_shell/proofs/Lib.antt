@@ -1,4 +1,6 @@
 pub mod Plays
 pub mod Walk
 pub mod Shows
+pub mod Marks
+pub mod Trees
 pub mod Runs

@@ -14,10 +14,9 @@ use Rattle.rev_script.specs.declared.byte_reader.LineFault.TheVariants as faults
 use Rattle.rev_script.proofs.Known.{Took-then}
 use Rattle.rev_script.proofs.Front.{take_front}
 use Rattle.rev_output.specs.Sink.{WroteFront}
-use Rattle.rev_shell.specs.Answers.{after, answer}
+use Rattle.rev_shell.specs.Answers.{MarkedSession, after, answer}
 use Rattle.rev_output.proofs.Written.{Appends-then, Appends-none}
-use Rattle.rev_undotree.specs.Positions.{SessionState}
-use Rattle.rev_shell.specs.Run.{answers, session_after, out, text, wholes, AreWhole, IsSoFar, IsDone, IsStopped, run_fault}
+use Rattle.rev_shell.specs.Run.{answers, session_after, out, text, wholes, AreWhole, IsSoFar, IsLeft, IsStopped, run_fault}
 use Rattle.rev_shell.specs.declared.run.RunFault.TheVariants as run_faults
 
 lines-nil : lines [] ≡ []
@@ -41,15 +40,15 @@ takes_byte [] line End (inl w) = absurd (no_fixed (lines []) line (lines-whole [
 takes_byte [] line End (inr l) = absurd (let e = sym lines-nil ∙ lines-last [] line l.0 in cc)
 takes_byte (b ∷ bs) line End h = omega arith
 
-answers-append : (s : SessionState) (xs ys : List ScriptLine) → answers s (xs ++ ys) ≡ answers s xs ++ answers (session_after s xs) ys
+answers-append : (s : MarkedSession) (xs ys : List ScriptLine) → answers s (xs ++ ys) ≡ answers s xs ++ answers (session_after s xs) ys
 answers-append s [] ys = refl
 answers-append s (x ∷ xs) ys = ap (λ t. answer s x ++ t) (answers-append (after s x) xs ys) ∙ sym (append_assoc (answer s x) (answers (after s x) xs) (answers (session_after (after s x) xs) ys))
 
-session_after-append : (s : SessionState) (xs : List ScriptLine) (y : ScriptLine) → session_after s (xs ++ y ∷ []) ≡ after (session_after s xs) y
+session_after-append : (s : MarkedSession) (xs : List ScriptLine) (y : ScriptLine) → session_after s (xs ++ y ∷ []) ≡ after (session_after s xs) y
 session_after-append s [] y = refl
 session_after-append s (x ∷ xs) y = session_after-append (after s x) xs y
 
-answers-one : (s : SessionState) (xs : List ScriptLine) (y : ScriptLine) → answers s (xs ++ y ∷ []) ≡ answers s xs ++ answer (session_after s xs) y
+answers-one : (s : MarkedSession) (xs : List ScriptLine) (y : ScriptLine) → answers s (xs ++ y ∷ []) ≡ answers s xs ++ answer (session_after s xs) y
 answers-one s xs y = answers-append s xs (y ∷ []) ∙ ap (λ t. answers s xs ++ t) (append-nil (answer (session_after s xs) y))
 
 -- ---- lines that lie whole in front
@@ -86,7 +85,7 @@ last_then : (read taken : List ℕ) (done : List ScriptLine) (line : ScriptLine)
 last_then read taken done line w n = lines-more read taken done w ∙ ap (λ t. done ++ t) (lines-last taken line n)
 
 -- the first lines of what was read are those that are done
-text-more : (s0 : SessionState) (read more : List ℕ) (done : List ScriptLine) → AreWhole read done → text s0 (read ++ more) (length done) ≡ answers s0 done
+text-more : (s0 : MarkedSession) (read more : List ℕ) (done : List ScriptLine) → AreWhole read done → text s0 (read ++ more) (length done) ≡ answers s0 done
 unfolding text
 text-more s0 read more done w = ap (λ l. answers s0 (take (length done) l)) (lines-more read more done w) ∙ ap (λ l. answers s0 l) (take-append_seam done (lines more))
 
@@ -112,7 +111,7 @@ keep_all None = tt
 keep_all (Some xs) = refl
 
 -- a line that was given tells that the input was not at its end before
-pub still_whole : {S : Type 0} {told : S → Told} {start b : ByteReader S} {old mid : Option (List ℕ)} {s0 s : SessionState} {count : ℕ} (f : IsSoFar told start b old mid s0 s count) →
+pub still_whole : {S : Type 0} {told : S → Told} {start b : ByteReader S} {old mid : Option (List ℕ)} {s0 s : MarkedSession} {count : ℕ} (f : IsSoFar told start b old mid s0 s count) →
     (AtEnd told b → ⊥) → AreWhole f.read f.done
 still_whole f never = elim f.lines_are [
   | inl w ↦ w
@@ -122,8 +121,8 @@ still_whole f never = elim f.lines_are [
 pub Took-refl : {S : Type 0} {told : S → Told} {b : ByteReader S} → Took told b b []
 Took-refl {S} {told} {b} = record { bytes = keep_all (ahead told b); count = omega arith; same = refl }
 
-module _ {S : Type 0} (told : S → Told) (start b c : ByteReader S) (old mid new : Option (List ℕ)) (s0 s : SessionState) (count : ℕ) (fresh : in_piece start ≡ []) (none_given : given start ≡ 0) (f : IsSoFar told start b old mid s0 s count) where
-  pub progress : (line : ScriptLine) (t : SessionState) → AreWhole f.read f.done → IsNext told b c (Some line) → t ≡ after s line → Appends mid new (answer s line) →
+module _ {S : Type 0} (told : S → Told) (start b c : ByteReader S) (old mid new : Option (List ℕ)) (s0 s : MarkedSession) (count : ℕ) (fresh : in_piece start ≡ []) (none_given : given start ≡ 0) (f : IsSoFar told start b old mid s0 s count) where
+  pub progress : (line : ScriptLine) (t : MarkedSession) → AreWhole f.read f.done → IsNext told b c (Some line) → t ≡ after s line → Appends mid new (answer s line) →
       IsSoFar told start c old new s0 t (count + 1)
   progress line t w n is a =
       record {
@@ -145,20 +144,23 @@ module _ {S : Type 0} (told : S → Told) (start b c : ByteReader S) (old mid ne
     | inr p ↦ p.0
   ]
 
-  pub finished : (plays : ℕ) → plays ≡ length s.rows → IsNext told b c None →
-      IsDone (told start.source).remaining (told c.source).remaining (told c.source).last old mid s0 (record { lines = count; plays = plays })
+  pub finished : (plays : ℕ) → plays ≡ length s.session.rows → IsNext told b c None →
+      IsLeft (told start.source).remaining (told c.source).remaining (told c.source).last old mid s0 s (record { lines = count; plays = plays })
   unfolding out
   finished plays p n =
       let taken : f.read ++ [] ≡ f.read = append-nil f.read in
       let all : (f.read ++ []) ++ in_piece c ≡ f.read = ap (λ t. (f.read ++ []) ++ t) n.1.ended.1 ∙ append-nil (f.read ++ []) ∙ taken in
       record {
-        read = f.read;
-        took = subst (λ l. Consumes (told start.source).remaining (told c.source).remaining l) all (read_of told start c (f.read ++ []) fresh (Took-then f.took n.0));
-        none_left = subst (λ a. IsAtEnd a) (plain_ahead (in_piece c) (told c.source).remaining n.1.ended.1) n.1.none_left;
-        ended = n.1.ended.0;
-        wrote = subst (λ l. Appends old mid (answers s0 l)) (sym all_lines) f.wrote;
-        lines_are = sym f.count_is ∙ ap (λ l. length l) (sym all_lines);
-        plays_are = p ∙ ap (λ m. length m.rows) (f.session_is ∙ ap (λ l. session_after s0 l) (sym all_lines));
+        done = record {
+          read = f.read;
+          took = subst (λ l. Consumes (told start.source).remaining (told c.source).remaining l) all (read_of told start c (f.read ++ []) fresh (Took-then f.took n.0));
+          none_left = subst (λ a. IsAtEnd a) (plain_ahead (in_piece c) (told c.source).remaining n.1.ended.1) n.1.none_left;
+          ended = n.1.ended.0;
+          wrote = subst (λ l. Appends old mid (answers s0 l)) (sym all_lines) f.wrote;
+          lines_are = sym f.count_is ∙ ap (λ l. length l) (sym all_lines);
+          plays_are = p ∙ ap (λ m. length m.session.rows) (f.session_is ∙ ap (λ l. session_after s0 l) (sym all_lines));
+        };
+        left_is = f.session_is ∙ ap (λ l. session_after s0 l) (sym all_lines);
       }
 
   -- the lines done are the first of all bytes that begin with those taken for them
@@ -237,6 +239,6 @@ module _ {S : Type 0} (told : S → Told) (start b c : ByteReader S) (old mid ne
       }
 
 -- a run that never began
-pub nothing_read : (reader sink : Option (List ℕ)) (last : LastRead) (start : SessionState) → (failed : Bool) → IsStopped reader reader last failed sink sink start (run_faults.Memory 0)
+pub nothing_read : (reader sink : Option (List ℕ)) (last : LastRead) (start : MarkedSession) → (failed : Bool) → IsStopped reader reader last failed sink sink start (run_faults.Memory 0)
 unfolding text
 nothing_read reader sink last failed start = record { read = []; took = keep_all reader; because = tt; wrote = Appends-none sink }

@@ -2,7 +2,7 @@
 use Rattle.std.specs.Prelude.{ℕ, ℤ, ◌+◌, ◌++◌, Bool, true, false, cond, not, ◌&&◌, nat_eq, nat_lt, List, [], ◌∷◌, length, Option, None, Some, codes}
 use Rattle.rev_model.specs.State.{State, free_of, queue_of, find}
 use Rattle.rev_model.specs.Move.{is_class}
-use Rattle.rev_model.specs.Actor.{Step, Client}
+use Rattle.rev_model.specs.Actor.{Step, Client, Clock}
 use Rattle.rev_model.specs.Client as client
 use Rattle.rev_model.specs.declared.Outcome.{Outcome}
 use Rattle.rev_model.specs.declared.Outcome.TheVariants as outcomes
@@ -10,18 +10,19 @@ use Rattle.rev_undotree.specs.Steps.{outcome_of}
 use Rattle.rev_undotree.specs.Rows.{at, row, parent_of}
 use Rattle.rev_undotree.specs.Machine.{is_continued, nesting_below}
 use Rattle.rev_undotree.specs.Positions.{SessionState}
-use Rattle.rev_grammar.specs.declared.command.StorageCommand.{StorageCommand}
-use Rattle.rev_grammar.specs.declared.command.StorageCommand.TheVariants as storages
-use Rattle.rev_grammar.specs.declared.command.UpdateCommand.{UpdateCommand}
-use Rattle.rev_grammar.specs.declared.command.UpdateCommand.TheVariants as updates
-use Rattle.rev_grammar.specs.declared.command.ActorCommand.{ActorCommand}
-use Rattle.rev_grammar.specs.declared.command.ActorCommand.TheVariants as actors
 use Rattle.rev_grammar.specs.declared.command.DebugCommand.{DebugCommand}
 use Rattle.rev_grammar.specs.declared.command.DebugCommand.TheVariants as debugs
 use Rattle.rev_grammar.specs.declared.command.KeyQuery.{KeyQuery}
 use Rattle.rev_grammar.specs.declared.command.KeyQuery.TheVariants as queries
+use Rattle.rev_grammar.specs.declared.command.BookmarkCommand.{BookmarkCommand}
+use Rattle.rev_grammar.specs.declared.command.BookmarkCommand.TheVariants as bookmarks
 use Rattle.rev_script.specs.Script.{ScriptLine, StorageLine, RetrievalLine, UpdateLine, FlushLine, ActorLine, ClockLine, DebugLine, QueryLine, BookmarkLine, BadLine}
 use Rattle.rev_shell.specs.Texts.{output, bad_text, outcome_text, found_value, item_of, found_text, place_text, entries_text, chunks_text, pages_text, counters_text, globals_text, node_text, parent_text}
+use Rattle.rev_shell.specs.Trees.{gone_to, child_at, child_text, go_text, gone, prune_text, after_prune, tree_text}
+use Rattle.rev_shell.specs.Bookmarks.{marked, with_mark, mark_text, marks_text, goto_text, gone_by}
+use Rattle.rev_shell.specs.Asked.{storage_step, update_step, flush_step, actor_step}
+use Rattle.rev_explain.specs.Story.{story, why_of}
+use Rattle.rev_shell.specs.Reasons.{events_text, why_text}
 use Rattle.rev_shell.specs.declared.play.Reply.{Reply}
 use Rattle.rev_shell.specs.declared.play.Reply.TheVariants.{Played, TooManyNodes, TooDeep}
 
@@ -100,97 +101,88 @@ abbrev pub after_gets : SessionState → List (List ℕ) → SessionState
 after_gets m [] = m
 after_gets m (k ∷ ks) = if_played (reply m (get k)) (after_gets (after_step m (get k)) ks) m
 
--- ---- lines that ask for one step; those whose step is not there are unknown commands
+-- ---- a session and the bookmarks beside it, which belong to the run and are not undone
 
-abbrev pub storage_step : StorageCommand → List ℕ → ℕ → ℤ → client.Payload → Option Step
-storage_step storages.Set k flags exptime data_is = Some (Client (client.Stores client.Sets k flags exptime data_is))
-storage_step storages.Add k flags exptime data_is = None
-storage_step storages.Replace k flags exptime data_is = None
-storage_step storages.Append k flags exptime data_is = None
-storage_step storages.Prepend k flags exptime data_is = None
-storage_step (storages.Cas n) k flags exptime data_is = None
+pub record MarkedSession : Type 0 where
+  pub session : SessionState
+  pub bookmarks : List (List ℕ × ℕ)
 
-abbrev pub update_step : UpdateCommand → List ℕ → Option Step
-update_step updates.Delete k = Some (Client (client.Deletes k))
-update_step (updates.Touch exptime) k = None
-update_step (updates.Increment n) k = None
-update_step (updates.Decrement n) k = None
+abbrev pub with_bookmarks : SessionState → List (List ℕ × ℕ) → MarkedSession
+with_bookmarks m marks = record { session = m; bookmarks = marks }
 
-abbrev pub after_maybe : SessionState → Option Step → SessionState
-after_maybe m None = m
-after_maybe m (Some e) = after_step m e
-
-abbrev pub maybe_text : Bool → SessionState → Option Step → List ℕ
-maybe_text noreply m None = output (codes "ERROR")
-maybe_text noreply m (Some e) = reply_text noreply (reply m e)
-
-abbrev pub actor_text : ActorCommand → List ℕ
-actor_text (actors.Pull c q) = output (codes "BAD COMMAND")
-actor_text actors.Bump = output (codes "BAD COMMAND")
-actor_text (actors.Crawl c q) = output (codes "BAD COMMAND")
-actor_text actors.Advance = output (codes "BAD COMMAND")
-actor_text (actors.StartCrawl set) = output (codes "ERROR")
-actor_text (actors.Reassign a b) = output (codes "ERROR")
-actor_text (actors.Tune a b c d) = output (codes "ERROR")
-actor_text (actors.TempTtl n) = output (codes "ERROR")
-
--- ---- debug commands
+-- ---- debug commands; they make no node
 
 abbrev pub of_class : State → ℕ → List ℕ → List ℕ
 of_class s c text = cond (is_class s c) text (output (codes "NOCLASS"))
 
-abbrev pub debug_text : SessionState → DebugCommand → List ℕ
-debug_text m debugs.At = node_text m.current
-debug_text m debugs.Back = parent_text (parent_of m.rows m.current)
-debug_text m (debugs.Forward n) = output (codes "BAD COMMAND")
-debug_text m (debugs.Go n) = output (codes "BAD COMMAND")
-debug_text m (debugs.Queue c q) = of_class (state_of m) c (output (codes "QUEUE" ++ entries_text (state_of m) (queue_of (state_of m) c q)))
-debug_text m (debugs.Free c) = of_class (state_of m) c (output (codes "FREE" ++ chunks_text (free_of (state_of m) c)))
-debug_text m debugs.Pages = pages_text 0 (state_of m).owner ++ output (codes "END")
-debug_text m (debugs.Counters c) = of_class (state_of m) c (counters_text (state_of m) c)
-debug_text m debugs.Globals = globals_text (state_of m)
-debug_text m debugs.Tree = output (codes "BAD COMMAND")
-debug_text m debugs.Marks = output (codes "BAD COMMAND")
-debug_text m (debugs.Prune n) = output (codes "BAD COMMAND")
-
-abbrev pub gone_to : SessionState → Option ℕ → SessionState
-gone_to m None = m
-gone_to m (Some n) = record m { current = n }
+abbrev pub debug_text : MarkedSession → DebugCommand → List ℕ
+debug_text d debugs.At = node_text d.session.current
+debug_text d debugs.Back = parent_text (parent_of d.session.rows d.session.current)
+debug_text d (debugs.Forward i) = child_text (child_at d.session i)
+debug_text d (debugs.Go n) = go_text d.session n
+debug_text d (debugs.Queue c q) =
+    of_class (state_of d.session) c (output (codes "QUEUE" ++ entries_text (state_of d.session) (queue_of (state_of d.session) c q)))
+debug_text d (debugs.Free c) = of_class (state_of d.session) c (output (codes "FREE" ++ chunks_text (free_of (state_of d.session) c)))
+debug_text d debugs.Pages = pages_text 0 (state_of d.session).owner ++ output (codes "END")
+debug_text d (debugs.Counters c) = of_class (state_of d.session) c (counters_text (state_of d.session) c)
+debug_text d debugs.Globals = globals_text (state_of d.session)
+debug_text d debugs.Tree = tree_text d.session
+debug_text d debugs.Marks = marks_text d.bookmarks
+debug_text d (debugs.Prune n) = prune_text d.session n
 
 abbrev pub after_debug : SessionState → DebugCommand → SessionState
+after_debug m debugs.At = m
 after_debug m debugs.Back = gone_to m (parent_of m.rows m.current)
-after_debug m _ = m
+after_debug m (debugs.Forward i) = gone_to m (child_at m i)
+after_debug m (debugs.Go n) = gone m n
+after_debug m (debugs.Queue c q) = m
+after_debug m (debugs.Free c) = m
+after_debug m debugs.Pages = m
+after_debug m (debugs.Counters c) = m
+after_debug m debugs.Globals = m
+after_debug m debugs.Tree = m
+after_debug m debugs.Marks = m
+after_debug m (debugs.Prune n) = after_prune m n
 
-abbrev pub query_text : State → KeyQuery → List ℕ → List ℕ
-query_text s queries.Item k = found_text s (find s k)
-query_text s queries.Chunk k = place_text (find s k)
-query_text s queries.Why k = output (codes "BAD COMMAND")
-query_text s queries.Story k = output (codes "BAD COMMAND")
+-- what is asked of a key at the current node
+abbrev pub query_text : SessionState → KeyQuery → List ℕ → List ℕ
+query_text m queries.Item k = found_text (state_of m) (find (state_of m) k)
+query_text m queries.Chunk k = place_text (find (state_of m) k)
+query_text m queries.Why k = why_text (why_of m.root m.rows m.current k)
+query_text m queries.Story k = events_text (story m.root m.rows m.current k)
+
+abbrev pub bookmark_text : MarkedSession → BookmarkCommand → List ℕ → List ℕ
+bookmark_text d bookmarks.Mark name = mark_text name d.session.current
+bookmark_text d bookmarks.Goto name = goto_text d.session (marked d.bookmarks name)
+
+abbrev pub after_bookmark : MarkedSession → BookmarkCommand → List ℕ → MarkedSession
+after_bookmark d bookmarks.Mark name = with_bookmarks d.session (with_mark d.bookmarks name d.session.current)
+after_bookmark d bookmarks.Goto name = with_bookmarks (gone_by d.session (marked d.bookmarks name)) d.bookmarks
 
 -- ---- a line
 
 -- what a line answers
-abbrev pub answer : SessionState → ScriptLine → List ℕ
-answer m (StorageLine c k flags exptime data_is noreply) = maybe_text noreply m (storage_step c k flags exptime data_is)
-answer m (RetrievalLine ks with_cas) = values with_cas m ks
-answer m (UpdateLine c k noreply) = maybe_text noreply m (update_step c k)
-answer m (FlushLine delay noreply) = output (codes "ERROR")
-answer m (ActorLine c) = actor_text c
-answer m (ClockLine n) = output (codes "BAD COMMAND")
-answer m (DebugLine c) = debug_text m c
-answer m (QueryLine q k) = query_text (state_of m) q k
-answer m (BookmarkLine c name) = output (codes "BAD COMMAND")
-answer m (BadLine a) = output (bad_text a)
+abbrev pub answer : MarkedSession → ScriptLine → List ℕ
+answer d (StorageLine c k flags exptime payload noreply) = reply_text noreply (reply d.session (storage_step c k flags exptime payload))
+answer d (RetrievalLine ks with_cas) = values with_cas d.session ks
+answer d (UpdateLine c k noreply) = reply_text noreply (reply d.session (update_step c k))
+answer d (FlushLine delay noreply) = reply_text noreply (reply d.session (flush_step delay))
+answer d (ActorLine c) = reply_text false (reply d.session (actor_step c))
+answer d (ClockLine n) = reply_text false (reply d.session (Clock n))
+answer d (DebugLine c) = debug_text d c
+answer d (QueryLine q k) = query_text d.session q k
+answer d (BookmarkLine c name) = bookmark_text d c name
+answer d (BadLine a) = output (bad_text a)
 
--- the session after it
-abbrev pub after : SessionState → ScriptLine → SessionState
-after m (StorageLine c k flags exptime data_is noreply) = after_maybe m (storage_step c k flags exptime data_is)
-after m (RetrievalLine ks with_cas) = after_gets m ks
-after m (UpdateLine c k noreply) = after_maybe m (update_step c k)
-after m (FlushLine delay noreply) = m
-after m (ActorLine c) = m
-after m (ClockLine n) = m
-after m (DebugLine c) = after_debug m c
-after m (QueryLine q k) = m
-after m (BookmarkLine c name) = m
-after m (BadLine a) = m
+-- the session and the bookmarks after it
+abbrev pub after : MarkedSession → ScriptLine → MarkedSession
+after d (StorageLine c k flags exptime payload noreply) = with_bookmarks (after_step d.session (storage_step c k flags exptime payload)) d.bookmarks
+after d (RetrievalLine ks with_cas) = with_bookmarks (after_gets d.session ks) d.bookmarks
+after d (UpdateLine c k noreply) = with_bookmarks (after_step d.session (update_step c k)) d.bookmarks
+after d (FlushLine delay noreply) = with_bookmarks (after_step d.session (flush_step delay)) d.bookmarks
+after d (ActorLine c) = with_bookmarks (after_step d.session (actor_step c)) d.bookmarks
+after d (ClockLine n) = with_bookmarks (after_step d.session (Clock n)) d.bookmarks
+after d (DebugLine c) = with_bookmarks (after_debug d.session c) d.bookmarks
+after d (QueryLine q k) = d
+after d (BookmarkLine c name) = after_bookmark d c name
+after d (BadLine a) = d

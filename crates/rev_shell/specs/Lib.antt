@@ -1,3 +1,9 @@
 pub mod Texts
+pub mod Words
+pub mod Asked
+pub mod Trees
+pub mod Bookmarks
+pub mod Reasons
+pub mod Marked
 pub mod Answers
 pub mod Run

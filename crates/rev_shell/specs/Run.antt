@@ -13,37 +13,45 @@ use Rattle.rev_script.specs.declared.byte_reader.LineFault.TheVariants as faults
 use Rattle.rev_script.specs.declared.source.LastRead.{LastRead}
 use Rattle.rev_script.specs.declared.source.LastRead.TheVariants.{Failed, Ended}
 use Rattle.rev_output.specs.Sink.{WroteFront}
-use Rattle.rev_shell.specs.Answers.{after, answer}
+use Rattle.rev_shell.specs.Answers.{MarkedSession, with_bookmarks, after, answer}
 use Rattle.rev_shell.specs.declared.run.Summary.{Summary}
 use Rattle.rev_shell.specs.declared.run.RunFault.{RunFault}
 use Rattle.rev_shell.specs.declared.run.RunFault.TheVariants.{Memory, Read, Write, TooLong}
 
--- the session that a run begins with: an empty store, and no node but the root
-abbrev pub initial : Config → SessionState
-initial config = record { root = empty_state config; rows = []; current = 0 }
+-- the session of a program: an empty store, and no node but the root
+abbrev pub opened : Config → SessionState
+opened config = record { root = empty_state config; rows = []; current = 0 }
+
+-- a run on a session begins with no bookmark
+abbrev pub unmarked : SessionState → MarkedSession
+unmarked m = with_bookmarks m []
+
+-- what the program's run begins with
+abbrev pub initial : Config → MarkedSession
+initial config = unmarked (opened config)
 
 -- the answers of the lines, from a session on, one after another
-abbrev pub answers : SessionState → List ScriptLine → List ℕ
+abbrev pub answers : MarkedSession → List ScriptLine → List ℕ
 answers m [] = []
 answers m (l ∷ ls) = answer m l ++ answers (after m l) ls
 
 -- the session after the lines
-abbrev pub session_after : SessionState → List ScriptLine → SessionState
+abbrev pub session_after : MarkedSession → List ScriptLine → MarkedSession
 session_after m [] = m
 session_after m (l ∷ ls) = session_after (after m l) ls
 
 -- what a run writes for these bytes, from a session on
-unfoldable pub out : SessionState → List ℕ → List ℕ
+unfoldable pub out : MarkedSession → List ℕ → List ℕ
 out m bytes = answers m (lines bytes)
 
 -- the answer of the first j lines
-unfoldable pub text : SessionState → List ℕ → ℕ → List ℕ
+unfoldable pub text : MarkedSession → List ℕ → ℕ → List ℕ
 text m bytes j = answers m (take j (lines bytes))
 
 -- what was written at a fault, where these bytes were read: where memory was wanted, the answers of the lines before;
 -- where a read failed or the script was too long, the answers of the lines that lie whole in the bytes (in those that
 -- a script may have); where a write failed, a front of all answers
-abbrev pub Wrote : RunFault → SessionState → List ℕ → Option (List ℕ) → Option (List ℕ) → Type 0
+abbrev pub Wrote : RunFault → MarkedSession → List ℕ → Option (List ℕ) → Option (List ℕ) → Type 0
 Wrote (Memory line) m read old new = Appends old new (text m read (line - 1))
 Wrote Read m read old new = Appends old new (text m read (whole_lines read))
 Wrote TooLong m read old new = Appends old new (text m read (whole_lines (take 4294967296 read)))
@@ -57,17 +65,22 @@ Because TooLong read last failed = 4294967296 < length read
 Because Write read last failed = failed ≡ true
 
 -- at the end: all was read (the last read, with room, gave none), and the answers of all its lines were written
-pub record IsDone (reader_old reader_new : Option (List ℕ)) (last : LastRead) (old new : Option (List ℕ)) (start : SessionState) (sum : Summary) : Type 0 where
+pub record IsDone (reader_old reader_new : Option (List ℕ)) (last : LastRead) (old new : Option (List ℕ)) (start : MarkedSession) (sum : Summary) : Type 0 where
   pub read : List ℕ
   pub took : Consumes reader_old reader_new read
   pub none_left : IsAtEnd reader_new
   pub ended : last ≡ Ended
   pub wrote : Appends old new (out start read)
   pub lines_are : sum.lines ≡ length (lines read)
-  pub plays_are : sum.plays ≡ length (session_after start (lines read)).rows
+  pub plays_are : sum.plays ≡ length (session_after start (lines read)).session.rows
+
+-- the same, and what the lines were done on is as they leave it
+pub record IsLeft (reader_old reader_new : Option (List ℕ)) (last : LastRead) (old new : Option (List ℕ)) (start left : MarkedSession) (sum : Summary) : Type 0 where
+  pub done : IsDone reader_old reader_new last old new start sum
+  pub left_is : left ≡ session_after start (lines done.read)
 
 -- at a fault: these bytes were read, and these answers of theirs written
-pub record IsStopped (reader_old reader_new : Option (List ℕ)) (last : LastRead) (failed : Bool) (old new : Option (List ℕ)) (start : SessionState) (e : RunFault) : Type 0 where
+pub record IsStopped (reader_old reader_new : Option (List ℕ)) (last : LastRead) (failed : Bool) (old new : Option (List ℕ)) (start : MarkedSession) (e : RunFault) : Type 0 where
   pub read : List ℕ
   pub took : Consumes reader_old reader_new read
   pub because : Because e read last failed
@@ -83,7 +96,7 @@ pub record AreWhole (read : List ℕ) (done : List ScriptLine) : Type 0 where
   pub cuts_are : (more : List ℕ) → cuts (read ++ more) ≡ wholes done ++ cuts more
 
 -- so far: the lines of what was taken are done; they lie whole in it, or the input is at its end
-pub record IsSoFar {S : Type 0} (told : S → Told) (start now : ByteReader S) (old new : Option (List ℕ)) (m0 m : SessionState) (count : ℕ) : Type 0 where
+pub record IsSoFar {S : Type 0} (told : S → Told) (start now : ByteReader S) (old new : Option (List ℕ)) (m0 m : MarkedSession) (count : ℕ) : Type 0 where
   pub done : List ScriptLine
   pub read : List ℕ
   pub took : Took told start now read

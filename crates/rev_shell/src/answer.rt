@@ -1,21 +1,22 @@
 //! One line of a script: what it does to a session, and what is answered.
-ghost use Rattle.std.specs.Prelude.{◌≡◌, ◌++◌, List, ℕ, codes, OnOk, IfOk, length, []};
-ghost use Rattle.rev_model.specs.Sound.{Sound};
+ghost use Rattle.std.specs.Prelude.{◌≡◌, ◌++◌, List, ℕ, OnOk};
 ghost use Rattle.rev_script.specs.Line.{view, client_view, debug_view};
-ghost use Rattle.rev_undotree.specs.Rows.{parent_of};
-ghost use Rattle.rev_shell.specs.Texts.{output, parent_text};
-ghost use Rattle.rev_shell.specs.Answers.{state_of, answer, after, actor_text, debug_text, gone_to, after_debug, query_text};
+ghost use Rattle.rev_shell.specs.Bookmarks.{marked, with_mark, mark_text, goto_text, gone_by};
+ghost use Rattle.rev_shell.specs.Answers.{with_bookmarks, answer, after, debug_text, after_debug, query_text, bookmark_text, after_bookmark};
 
-use crate::play::{play_line, put_values, storage_step, update_step};
+use crate::asked::{actor_step, clock_step, flush_step, storage_step, update_step};
+use crate::bookmarks::{Bookmarks, put_mark};
+use crate::play::{play_line, put_values};
+use crate::reasons::{put_story, put_why};
 use crate::show::{
     put_chunk_of, put_counters, put_free, put_globals, put_item_of, put_pages, put_queue,
 };
 use crate::text::{bad_text, put_node, put_output};
-use rev_grammar::command::{ActorCommand, DebugCommand, KeyQuery};
-use rev_inverse::Store;
+use crate::tree::{put_back, put_forward, put_go, put_prune, put_tree};
+use rev_grammar::command::{BookmarkCommand, DebugCommand, KeyQuery};
 use rev_items::Key;
 use rev_script::line::{ClientLine, DebugLine, Line};
-use rev_undotree::Session;
+use rev_undotree::{NodeId, Session};
 use std::alloc::{AllocError, Allocator};
 
 // A client's line.
@@ -24,8 +25,8 @@ fn put_client<A: Allocator + Clone>(
     line: ClientLine<A>,
     out: &mut Vec<u8, A>,
 ) -> Result<(), AllocError>
-    ensures text { OnOk result (out.new.items ≡ out.old.items ++ answer session.old (client_view line)) }
-    ensures session { OnOk result (session.new ≡ after session.old (client_view line)) }
+    ensures text { (marks : List (List ℕ × ℕ)) → OnOk result (out.new.items ≡ out.old.items ++ answer (with_bookmarks session.old marks) (client_view line)) }
+    ensures session { (marks : List (List ℕ × ℕ)) → OnOk result (with_bookmarks session.new marks ≡ after (with_bookmarks session.old marks) (client_view line)) }
 {
     match line {
         ClientLine::Storage {
@@ -49,112 +50,137 @@ fn put_client<A: Allocator + Clone>(
             key,
             noreply,
         } => play_line(session, update_step(command, key), noreply, out),
-        ClientLine::FlushAll { .. } => put_output(out, b"ERROR"),
-    }
-}
-
-// What an actor's line is answered as long as its step is not there.
-fn actor_text(command: ActorCommand) -> &'static [u8]
-    ensures { output result.now ≡ actor_text command }
-{
-    match command {
-        ActorCommand::Pull { .. }
-        | ActorCommand::Bump
-        | ActorCommand::Crawl { .. }
-        | ActorCommand::Advance => b"BAD COMMAND",
-        ActorCommand::StartCrawl(_)
-        | ActorCommand::Reassign { .. }
-        | ActorCommand::Tune { .. }
-        | ActorCommand::TempTtl(_) => b"ERROR",
-    }
-}
-
-// Goes back to the parent, and writes its number.
-fn put_back<A: Allocator + Clone>(
-    session: &mut Session<A>,
-    out: &mut Vec<u8, A>,
-) -> Result<(), AllocError>
-    ensures text { OnOk result (out.new.items ≡ out.old.items ++ parent_text (parent_of session.old.rows session.old.current)) }
-    ensures session { session.new ≡ gone_to session.old (parent_of session.old.rows session.old.current) }
-{
-    match session.back() {
-        Ok(node) => put_node(out, node.0),
-        Err(_) => put_output(out, b"ROOT"),
+        ClientLine::FlushAll { delay, noreply } => {
+            play_line(session, flush_step(delay), noreply, out)
+        }
     }
 }
 
 // A debug command.
 fn put_debug<A: Allocator + Clone>(
     session: &mut Session<A>,
+    bookmarks: &Bookmarks<'_, A>,
     command: DebugCommand,
     out: &mut Vec<u8, A>,
 ) -> Result<(), AllocError>
-    ensures text { OnOk result (out.new.items ≡ out.old.items ++ debug_text session.old command) }
+    ensures text { OnOk result (out.new.items ≡ out.old.items ++ debug_text (with_bookmarks session.old bookmarks.now) command) }
     ensures session { OnOk result (session.new ≡ after_debug session.old command) }
 {
     match command {
         DebugCommand::At => put_node(out, session.current().0),
         DebugCommand::Back => put_back(session, out),
+        DebugCommand::Forward(index) => put_forward(session, index, out),
+        DebugCommand::Go(number) => put_go(session, NodeId(number), out),
         DebugCommand::Queue { class, queue } => put_queue(session.store(), class, queue, out),
         DebugCommand::Free(class) => put_free(session.store(), class, out),
         DebugCommand::Pages => put_pages(session.store(), out),
         DebugCommand::Counters(class) => put_counters(session.store(), class, out),
         DebugCommand::Globals => put_globals(session.store(), out),
-        DebugCommand::Forward(_)
-        | DebugCommand::Go(_)
-        | DebugCommand::Tree
-        | DebugCommand::Marks
-        | DebugCommand::Prune(_) => { put_output(out, b"BAD COMMAND") }
+        DebugCommand::Tree => put_tree(session, out),
+        DebugCommand::Marks => bookmarks.put_all(out),
+        DebugCommand::Prune(number) => put_prune(session, NodeId(number), out),
     }
 }
 
 // A question about a key.
 fn put_query<A: Allocator + Clone>(
-    store: &Store<A>,
+    session: &Session<A>,
     query: KeyQuery,
     key: &Key<A>,
     out: &mut Vec<u8, A>,
 ) -> Result<(), AllocError>
-    requires { Sound store.now }
-    ensures { OnOk result (out.new.items ≡ out.old.items ++ query_text store.now query key.now) }
+    ensures { OnOk result (out.new.items ≡ out.old.items ++ query_text session.now query key.now) }
 {
     match query {
-        KeyQuery::Item => put_item_of(store, key, out),
-        KeyQuery::Chunk => put_chunk_of(store, key, out),
-        KeyQuery::Why | KeyQuery::Story => put_output(out, b"BAD COMMAND"),
+        KeyQuery::Item => put_item_of(session.store(), key, out),
+        KeyQuery::Chunk => put_chunk_of(session.store(), key, out),
+        KeyQuery::Why => put_why(session, key, out),
+        KeyQuery::Story => put_story(session, key, out),
+    }
+}
+
+// Gives the current node a name.
+fn put_marked<A: Allocator + Clone>(
+    session: &Session<A>,
+    bookmarks: &mut Bookmarks<'_, A>,
+    name: Vec<u8, A>,
+    out: &mut Vec<u8, A>,
+) -> Result<(), AllocError>
+    ensures text { OnOk result (out.new.items ≡ out.old.items ++ mark_text name.items session.now.current) }
+    ensures marks { OnOk result (bookmarks.new ≡ with_mark bookmarks.old name.items session.now.current) }
+{
+    let node = session.current();
+    put_mark(out, name.as_slice(), node)?;
+    bookmarks.set(name, node)
+}
+
+// Goes to the node of a name.
+fn put_goto<A: Allocator + Clone>(
+    session: &mut Session<A>,
+    bookmarks: &Bookmarks<'_, A>,
+    name: &[u8],
+    out: &mut Vec<u8, A>,
+) -> Result<(), AllocError>
+    ensures text { OnOk result (out.new.items ≡ out.old.items ++ goto_text session.old (marked bookmarks.now name.now)) }
+    ensures session { OnOk result (session.new ≡ gone_by session.old (marked bookmarks.now name.now)) }
+{
+    match bookmarks.get(name) {
+        None => put_output(out, b"NOMARK"),
+        Some(node) => put_go(session, node, out),
+    }
+}
+
+// A command about a bookmark.
+fn put_bookmark<A: Allocator + Clone>(
+    session: &mut Session<A>,
+    bookmarks: &mut Bookmarks<'_, A>,
+    command: BookmarkCommand,
+    name: Vec<u8, A>,
+    out: &mut Vec<u8, A>,
+) -> Result<(), AllocError>
+    ensures text { OnOk result (out.new.items ≡ out.old.items ++ bookmark_text (with_bookmarks session.old bookmarks.old) command name.items) }
+    ensures state { OnOk result (with_bookmarks session.new bookmarks.new ≡ after_bookmark (with_bookmarks session.old bookmarks.old) command name.items) }
+{
+    match command {
+        BookmarkCommand::Mark => put_marked(session, bookmarks, name, out),
+        BookmarkCommand::Goto => put_goto(session, bookmarks, name.as_slice(), out),
     }
 }
 
 // A debug line.
 fn put_debug_line<A: Allocator + Clone>(
     session: &mut Session<A>,
+    bookmarks: &mut Bookmarks<'_, A>,
     line: DebugLine<A>,
     out: &mut Vec<u8, A>,
 ) -> Result<(), AllocError>
-    ensures text { OnOk result (out.new.items ≡ out.old.items ++ answer session.old (debug_view line)) }
-    ensures session { OnOk result (session.new ≡ after session.old (debug_view line)) }
+    ensures text { OnOk result (out.new.items ≡ out.old.items ++ answer (with_bookmarks session.old bookmarks.old) (debug_view line)) }
+    ensures state { OnOk result (with_bookmarks session.new bookmarks.new ≡ after (with_bookmarks session.old bookmarks.old) (debug_view line)) }
 {
     match line {
-        DebugLine::Plain(command) => put_debug(session, command, out),
-        DebugLine::Query { query, key } => put_query(session.store(), query, &key, out),
-        DebugLine::Bookmark { .. } => put_output(out, b"BAD COMMAND"),
+        DebugLine::Plain(command) => put_debug(session, bookmarks, command, out),
+        DebugLine::Query { query, key } => put_query(session, query, &key, out),
+        DebugLine::Bookmark { command, name } => {
+            put_bookmark(session, bookmarks, command, name, out)
+        }
     }
 }
 
 /// Does what a line asks for, and writes its answer. At an error the answer is of no use.
 pub fn put_answer<A: Allocator + Clone>(
     session: &mut Session<A>,
+    bookmarks: &mut Bookmarks<'_, A>,
     line: Line<A>,
     out: &mut Vec<u8, A>,
 ) -> Result<(), AllocError>
-    ensures text { OnOk result (out.new.items ≡ out.old.items ++ answer session.old (view line)) }
-    ensures session { OnOk result (session.new ≡ after session.old (view line)) }
+    ensures text { OnOk result (out.new.items ≡ out.old.items ++ answer (with_bookmarks session.old bookmarks.old) (view line)) }
+    ensures state { OnOk result (with_bookmarks session.new bookmarks.new ≡ after (with_bookmarks session.old bookmarks.old) (view line)) }
 {
     match line {
         Line::Client(line) => put_client(session, line, out),
-        Line::Actor(command) => put_output(out, actor_text(command)),
-        Line::Clock(_) => put_output(out, b"BAD COMMAND"),
-        Line::Debug(line) => put_debug_line(session, line, out),
+        Line::Actor(command) => play_line(session, actor_step(command), false, out),
+        Line::Clock(now) => play_line(session, clock_step(now), false, out),
+        Line::Debug(line) => put_debug_line(session, bookmarks, line, out),
         Line::Bad { answer: text } => put_output(out, bad_text(text)),
     }
 }

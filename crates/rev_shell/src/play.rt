@@ -1,19 +1,16 @@
 //! Steps played on a session, with their answers.
-ghost use Rattle.std.specs.Prelude.{◌≡◌, ◌++◌, List, ℕ, codes, OnOk, IfOk, length};
-ghost use Rattle.std.specs.Option.{option_map};
+ghost use Rattle.std.specs.Prelude.{◌≡◌, ◌++◌, OnOk, IfOk};
 ghost use Rattle.rev_model.specs.Sound.{Sound};
 ghost use Rattle.rev_steps.specs.Plain.{plain_step};
-ghost use Rattle.rev_script.specs.Line.{payload_view};
 ghost use Rattle.rev_shell.specs.Texts.{item_of, found_value};
-ghost use Rattle.rev_shell.specs.Answers.{state_of, reply, after_step, reply_text, get, value_of, values, after_gets, storage_step, update_step, after_maybe, maybe_text, was_hit};
+ghost use Rattle.rev_shell.specs.Answers.{state_of, reply, after_step, reply_text, get, value_of, values, after_gets, was_hit};
 
+use crate::asked::get_step;
 use crate::text::{put_outcome, put_output, put_value};
-use rev_grammar::command::{StorageCommand, UpdateCommand};
 use rev_inverse::Store;
 use rev_items::Key;
 use rev_model::Outcome;
-use rev_script::line::Payload;
-use rev_steps::{ClientStep, Step};
+use rev_steps::Step;
 use rev_undotree::{PlayFault, Played, Session};
 use std::alloc::{AllocError, Allocator};
 
@@ -72,62 +69,18 @@ pub fn put_reply<A: Allocator>(
     }
 }
 
-/// Plays the step of a line, where it is there, and writes what is answered.
+/// Plays the step of a line, and writes what is answered.
 pub fn play_line<A: Allocator + Clone>(
     session: &mut Session<A>,
-    step: Option<Step<A>>,
+    step: Step<A>,
     noreply: bool,
     answer: &mut Vec<u8, A>,
 ) -> Result<(), AllocError>
-    ensures text { OnOk result (answer.new.items ≡ answer.old.items ++ maybe_text noreply session.old (option_map plain_step step)) }
-    ensures session { OnOk result (session.new ≡ after_maybe session.old (option_map plain_step step)) }
+    ensures text { OnOk result (answer.new.items ≡ answer.old.items ++ reply_text noreply (reply session.old (plain_step step))) }
+    ensures session { OnOk result (session.new ≡ after_step session.old (plain_step step)) }
 {
-    match step {
-        None => put_output(answer, b"ERROR"),
-        Some(step) => {
-            let reply = play(session, step)?;
-            put_reply(answer, noreply, reply)
-        }
-    }
-}
-
-/// The step of a storage command, where it is there.
-pub fn storage_step<A: Allocator>(
-    command: StorageCommand,
-    key: Key<A>,
-    flags: u32,
-    exptime: i32,
-    payload: Payload<A>,
-) -> Option<Step<A>>
-    ensures { option_map plain_step result ≡ storage_step command key flags exptime (payload_view payload) }
-{
-    let data = match payload {
-        Payload::Bytes(bytes) => rev_steps::Payload::Bytes(bytes),
-        Payload::Skipped(n) => rev_steps::Payload::Skipped(n),
-    };
-    match command {
-        StorageCommand::Set => Some(Step::Client(ClientStep::Set {
-            key,
-            flags,
-            exptime,
-            data,
-        })),
-        StorageCommand::Add
-        | StorageCommand::Replace
-        | StorageCommand::Append
-        | StorageCommand::Prepend
-        | StorageCommand::Cas(_) => None,
-    }
-}
-
-/// The step of an update command, where it is there.
-pub fn update_step<A: Allocator>(command: UpdateCommand, key: Key<A>) -> Option<Step<A>>
-    ensures { option_map plain_step result ≡ update_step command key }
-{
-    match command {
-        UpdateCommand::Delete => Some(Step::Client(ClientStep::Delete(key))),
-        UpdateCommand::Touch(_) | UpdateCommand::Increment(_) | UpdateCommand::Decrement(_) => None,
-    }
+    let reply = play(session, step)?;
+    put_reply(answer, noreply, reply)
 }
 
 // Writes the value of a key's item, dead or not, where there is one.
@@ -165,7 +118,7 @@ fn get_one<A: Allocator + Clone>(
 {
     let start = answer.len();
     put_found(session.store(), &key, with_cas, answer)?;
-    let reply = play(session, Step::Client(ClientStep::Get(key)))?;
+    let reply = play(session, get_step(key))?;
     if !was_hit(reply) {
         answer.truncate(start);
     }

@@ -1,13 +1,14 @@
 //! A script from a reader, its answers to a writer.
-ghost use Rattle.std.specs.Prelude.{[], ◌≡◌, ◌≤◌, ◌<◌, ◌+◌, ◌^◌, ℕ, List, length, Some, None, IfOk, IfErr, IfSome, OnOk, Option};
+ghost use Rattle.std.specs.Prelude.{[], ◌≡◌, ◌<◌, ◌+◌, ℕ, List, Some, None, IfOk, IfErr, IfSome, OnOk, Option};
 ghost use Rattle.rev_classes.specs.Limits.{IsWithinLimits};
 ghost use Rattle.rev_script.specs.ByteReader.{given, in_piece, identity};
 ghost use Rattle.rev_script.specs.Lines.{bytes_of, fault_of as line_fault};
 ghost use Rattle.rev_script.specs.Line.{view};
-ghost use Rattle.rev_shell.specs.Run.{IsDone, IsStopped, run_fault, initial};
-ghost use Rattle.rev_shell.specs.Answers.{answer, after};
+ghost use Rattle.rev_shell.specs.Run.{IsDone, IsLeft, IsStopped, run_fault, opened, unmarked, initial};
+ghost use Rattle.rev_shell.specs.Answers.{with_bookmarks, answer, after};
 
 use crate::answer::put_answer;
+use crate::bookmarks::Bookmarks;
 use rev_classes::Config;
 use rev_inverse::Store;
 use rev_output::{Sink, write_all};
@@ -56,30 +57,32 @@ fn fault_at(fault: LineFault, line: u64) -> RunFault
 // Does what a line asks for; the answer is then in `text` and nothing else.
 fn answer_line<A: Allocator + Clone>(
     session: &mut Session<A>,
+    bookmarks: &mut Bookmarks<'_, A>,
     line: Line<A>,
     text: &mut Vec<u8, A>,
 ) -> Result<(), AllocError>
-    ensures text { OnOk result (text.new.items ≡ answer session.old (view line)) }
-    ensures session { OnOk result (session.new ≡ after session.old (view line)) }
+    ensures text { OnOk result (text.new.items ≡ answer (with_bookmarks session.old bookmarks.old) (view line)) }
+    ensures state { OnOk result (with_bookmarks session.new bookmarks.new ≡ after (with_bookmarks session.old bookmarks.old) (view line)) }
 {
     text.clear();
-    put_answer(session, line, text)
+    put_answer(session, bookmarks, line, text)
 }
 
 /// Plays the lines, and writes each answer once the line is done. `text` holds one answer at a time.
 pub fn run_lines<S: Source, K: Sink, A: Allocator + Clone>(
     lines: &mut Lines<S, A>,
     session: &mut Session<A>,
+    bookmarks: &mut Bookmarks<'_, A>,
     text: &mut Vec<u8, A>,
     sink: &mut K,
 ) -> Result<Summary, RunFault>
     requires no_fault { line_fault lines.old ≡ None }
     requires fresh { in_piece (bytes_of lines.old) ≡ [] }
     requires none_given { given (bytes_of lines.old) ≡ 0 }
-    ensures ok { IfOk result (λ sum. IsDone (S.told (bytes_of lines.old).source).remaining (S.told (bytes_of lines.new).source).remaining (S.told (bytes_of lines.new).source).last
-        (K.contents sink.old) (K.contents sink.new) session.old sum) }
+    ensures ok { IfOk result (λ sum. IsLeft (S.told (bytes_of lines.old).source).remaining (S.told (bytes_of lines.new).source).remaining (S.told (bytes_of lines.new).source).last
+        (K.contents sink.old) (K.contents sink.new) (with_bookmarks session.old bookmarks.old) (with_bookmarks session.new bookmarks.new) sum) }
     ensures err { IfErr result (λ e. IsStopped (S.told (bytes_of lines.old).source).remaining (S.told (bytes_of lines.new).source).remaining (S.told (bytes_of lines.new).source).last (K.has_failed sink.new)
-        (K.contents sink.old) (K.contents sink.new) session.old e) }
+        (K.contents sink.old) (K.contents sink.new) (with_bookmarks session.old bookmarks.old) e) }
     ensures same { identity S.told (bytes_of lines.new) ≡ identity S.told (bytes_of lines.old) }
 {
     let mut count: u64 = 0;
@@ -97,7 +100,7 @@ pub fn run_lines<S: Source, K: Sink, A: Allocator + Clone>(
             }
             Some(line) => line,
         };
-        match answer_line(session, line, text) {
+        match answer_line(session, bookmarks, line, text) {
             Err(_) => return Err(RunFault::Memory { line: count + 1 }),
             Ok(()) => {}
         }
@@ -113,10 +116,11 @@ fn two_handles<A: Allocator + Clone>(alloc: &A) -> Result<(A, A), AllocError> {
     Ok((alloc.clone()?, alloc.clone()?))
 }
 
-// The session that a run begins with; no answer where there is no memory.
-fn open_session<A: Allocator + Clone>(alloc: &A, config: &Config) -> Option<Session<A>>
+/// The session that a program's run begins with: an empty store, and no node but the root. None where there is no
+/// memory.
+pub fn open_session<A: Allocator + Clone>(alloc: &A, config: &Config) -> Option<Session<A>>
     requires { IsWithinLimits config.now }
-    ensures { IfSome result (λ session. session ≡ initial config.entry.now) }
+    ensures { IfSome result (λ session. session ≡ opened config.entry.now) }
 {
     let Ok((alloc, other)) = two_handles(alloc) else {
         return None;
@@ -130,8 +134,34 @@ fn open_session<A: Allocator + Clone>(alloc: &A, config: &Config) -> Option<Sess
     Some(session)
 }
 
-/// Runs the script that the reader gives on an empty store, and writes its answers. The answer of a
-/// line is written once all its steps are done.
+/// Runs the script that the reader gives on a session, with no bookmark at first, and writes its answers. The answer of
+/// a line is written once all its steps are done. The session keeps all that was played.
+pub fn run_session<S: Source, K: Sink, A: Allocator + Clone>(
+    alloc: &A,
+    session: &mut Session<A>,
+    reader: &mut S,
+    sink: &mut K,
+) -> Result<Summary, RunFault>
+    ensures ok { IfOk result (λ sum. (marks : List (List ℕ × ℕ)) × IsLeft (S.told reader.old).remaining (S.told reader.new).remaining (S.told reader.new).last
+        (K.contents sink.old) (K.contents sink.new) (unmarked session.old) (with_bookmarks session.new marks) sum) }
+    ensures err { IfErr result (λ e. IsStopped (S.told reader.old).remaining (S.told reader.new).remaining (S.told reader.new).last (K.has_failed sink.new)
+        (K.contents sink.old) (K.contents sink.new) (unmarked session.old) e) }
+{
+    let Ok((handle, other)) = two_handles(alloc) else {
+        return Err(RunFault::Memory { line: 0 });
+    };
+    let mut bookmarks = Bookmarks::new(alloc);
+    let mut lines = Lines::over(handle, reader);
+    let mut text = Vec::new(other);
+    let ended = run_lines(&mut lines, session, &mut bookmarks, &mut text, sink);
+    let _reader = lines.into_source();
+    match ended {
+        Err(e) => Err(e),
+        Ok(sum) => Ok(sum),
+    }
+}
+
+/// Runs the script that the reader gives on an empty store, and writes its answers, as `run_session` does.
 pub fn run<S: Source, K: Sink, A: Allocator + Clone>(
     alloc: &A,
     config: &Config,
@@ -147,14 +177,7 @@ pub fn run<S: Source, K: Sink, A: Allocator + Clone>(
     let Some(mut session) = open_session(alloc, config) else {
         return Err(RunFault::Memory { line: 0 });
     };
-    let Ok((handle, other)) = two_handles(alloc) else {
-        return Err(RunFault::Memory { line: 0 });
-    };
-    let mut lines = Lines::over(handle, reader);
-    let mut text = Vec::new(other);
-    let ended = run_lines(&mut lines, &mut session, &mut text, sink);
-    let _reader = lines.into_source();
-    match ended {
+    match run_session(alloc, &mut session, reader, sink) {
         Err(e) => Err(e),
         Ok(sum) => Ok(sum),
     }

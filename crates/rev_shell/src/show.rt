@@ -1,5 +1,5 @@
 //! What a store shows to the debug commands.
-ghost use Rattle.std.specs.Prelude.{◌≡◌, ◌++◌, List, ℕ, codes, OnOk, IfOk, length, true, is_some, Some};
+ghost use Rattle.std.specs.Prelude.{◌≡◌, ◌++◌, codes, OnOk, true, is_some, Some};
 ghost use Rattle.rev_model.specs.Sound.{Sound};
 ghost use Rattle.rev_model.specs.State.{item_at, find, counter_of, free_of, queue_of};
 ghost use Rattle.rev_model.specs.Move.{is_class};

@@ -1,5 +1,5 @@
 //! The texts of answers. Each function writes behind what the answer holds.
-ghost use Rattle.std.specs.Prelude.{◌≡◌, ◌++◌, List, ℕ, codes, decimal, OnOk, length};
+ghost use Rattle.std.specs.Prelude.{◌≡◌, ◌++◌, decimal, OnOk};
 ghost use Rattle.rev_shell.specs.Texts.{output, bad_text, outcome_text, cas_text, value_text, queue_text, bits_text, chunk_text, page_text, flush_text, free_text, mover_text, clock_text, pending_text, node_text};
 
 use itoa::Buffer;

@@ -1,2 +1,2 @@
+pub mod Exchange
 pub mod Plain
-pub mod Causes

@@ -1,8 +1,2 @@
 -- A step as contracts see it.
-use Rattle.rev_model.specs.Actor as actor
-use Rattle.rev_steps.specs.declared.Step.{Step}
-use Rattle.rev_steps.specs.declared.Step.TheVariants as steps
-pub use Rattle.rev_commands.specs.Plain.{plain_client, plain_payload}
-
-abbrev pub plain_step : {A : Type 0} → Step A → actor.Step
-plain_step (steps.Client e) = actor.Client (plain_client e)
+pub use Rattle.rev_requests.specs.Plain.{plain_payload, plain_verb, plain_side, plain_sum, amount, plain_keyed, plain_client, plain_actor, plain_step}

@@ -2,6 +2,10 @@
 #![tactic(auto)]
 
 #[cfg(test)]
+mod actor_rows;
+#[cfg(test)]
+mod actor_scripts;
+#[cfg(test)]
 mod classes;
 #[cfg(test)]
 mod programs;
@@ -15,3 +19,5 @@ mod short_scripts;
 mod stores;
 #[cfg(test)]
 mod streams;
+#[cfg(test)]
+mod trees;

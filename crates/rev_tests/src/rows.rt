@@ -12,8 +12,18 @@ pub struct Row {
     pub name: &'static str,
     pub pages: u32,
     pub bump: u32,
+    pub temp_ttl: i32,
     pub exchanges: &'static [Exchange],
 }
+
+/// No lines, with the options that most rows have.
+pub const ROW: Row = Row {
+    name: "",
+    pages: 64,
+    bump: 64,
+    temp_ttl: -1,
+    exchanges: &[],
+};
 
 // A line without a data block.
 macro_rules! says {
@@ -37,14 +47,15 @@ macro_rules! sets {
     };
 }
 
-const STORED: &str = "STORED\r\n";
+pub(crate) use says;
+pub(crate) use sets;
+
+pub const STORED: &str = "STORED\r\n";
 
 /// Items of a few bytes.
 pub static SMALL_ITEMS: [Row; 4] = [
     Row {
         name: "a hit sets FETCHED, and two steps back undo the hit and the set",
-        pages: 64,
-        bump: 64,
         exchanges: &[
             sets!("set a 0 0 1", 1, STORED),
             says!("get a", "VALUE a 0 1\r\nx\r\nEND\r\n"),
@@ -54,11 +65,11 @@ pub static SMALL_ITEMS: [Row; 4] = [
             says!(":back", "NODE 0\r\n"),
             says!(":item a", "NOITEM\r\n"),
         ],
+        ..ROW
     },
     Row {
         name: "a class without a page gets one past the limit",
         pages: 1,
-        bump: 64,
         exchanges: &[
             sets!("set a 0 0 150", 150, STORED),
             sets!("set b 0 0 150", 150, STORED),
@@ -69,11 +80,10 @@ pub static SMALL_ITEMS: [Row; 4] = [
             says!(":back", "NODE 4\r\n"),
             says!(":pages", "PAGE 0 5\r\nEND\r\n"),
         ],
+        ..ROW
     },
     Row {
         name: "the highest slot of a new page is taken first, and undoing the set unmakes the page",
-        pages: 64,
-        bump: 64,
         exchanges: &[
             sets!("set a 0 0 150", 150, STORED),
             says!(":chunk a", "CHUNK 0:3\r\n"),
@@ -83,11 +93,10 @@ pub static SMALL_ITEMS: [Row; 4] = [
             says!(":free 5", "FREE\r\n"),
             says!(":chunk a", "NOITEM\r\n"),
         ],
+        ..ROW
     },
     Row {
         name: "delete finds an item once, and undoing it puts the item back at its queue's head",
-        pages: 64,
-        bump: 64,
         exchanges: &[
             sets!("set a 0 0 1", 1, STORED),
             says!("delete a", "DELETED\r\n"),
@@ -98,6 +107,7 @@ pub static SMALL_ITEMS: [Row; 4] = [
             says!(":back", "NODE 0\r\n"),
             says!(":back", "ROOT\r\n"),
         ],
+        ..ROW
     },
 ];
 
@@ -105,8 +115,6 @@ pub static SMALL_ITEMS: [Row; 4] = [
 pub static LARGE_ITEMS: [Row; 2] = [
     Row {
         name: "a set that is too large takes the old item out, and a step back brings it again",
-        pages: 64,
-        bump: 64,
         exchanges: &[
             sets!("set a 0 0 964", 964, STORED),
             sets!(
@@ -119,11 +127,10 @@ pub static LARGE_ITEMS: [Row; 2] = [
             says!(":back", "NODE 1\r\n"),
             says!(":item a", "ITEM a 11 hot 0 0 1 1 - 964\r\n"),
         ],
+        ..ROW
     },
     Row {
         name: "each item of the largest class has a page of its own",
-        pages: 64,
-        bump: 64,
         exchanges: &[
             sets!("set a 0 0 964", 964, STORED),
             sets!("set b 0 0 964", 964, STORED),
@@ -133,6 +140,7 @@ pub static LARGE_ITEMS: [Row; 2] = [
             says!(":item a", "ITEM a 11 hot 0 0 1 1 - 964\r\n"),
             says!(":pages", "PAGE 0 11\r\nEND\r\n"),
         ],
+        ..ROW
     },
 ];
 
@@ -140,8 +148,6 @@ pub static LARGE_ITEMS: [Row; 2] = [
 pub static LINES: [Row; 3] = [
     Row {
         name: "a get is a step a key, and noreply drops the answer and not the step",
-        pages: 64,
-        bump: 64,
         exchanges: &[
             sets!("set a 0 0 1", 1, STORED),
             says!(
@@ -153,11 +159,10 @@ pub static LINES: [Row; 3] = [
             says!(":at", "NODE 5\r\n"),
             says!(":item a", "ITEM a 1 hot 0 0 1 2 - 1\r\n"),
         ],
+        ..ROW
     },
     Row {
         name: "bad lines make no step, and each has its text",
-        pages: 64,
-        bump: 64,
         exchanges: &[
             says!("", "ERROR\r\n"),
             says!("frobnicate", "ERROR\r\n"),
@@ -188,11 +193,10 @@ pub static LINES: [Row; 3] = [
             says!("   get   nothing   ", "END\r\n"),
             says!(":at", "NODE 3\r\n"),
         ],
+        ..ROW
     },
     Row {
         name: "the globals and a class's counters",
-        pages: 64,
-        bump: 64,
         exchanges: &[
             says!(
                 ":globals",
@@ -214,5 +218,6 @@ pub static LINES: [Row; 3] = [
                 "COUNTERS evicted 0 reclaimed 0 crawler_reclaimed 0 outofmemory 0 moves_to_cold 0 moves_to_warm 0 moves_within_lru 0\r\n",
             ),
         ],
+        ..ROW
     },
 ];

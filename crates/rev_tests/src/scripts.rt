@@ -17,11 +17,12 @@ const LONG: usize = 4096;
 const FIRST: usize = 40;
 
 /// The configuration of a row.
-fn config_of(row: &Row) -> Config {
+pub fn config_of(row: &Row) -> Config {
     Config {
         page_size: 1024,
         pages: row.pages,
         bump: row.bump,
+        temp_ttl: row.temp_ttl,
         hash_power: 4,
         ..DEFAULTS
     }
@@ -44,7 +45,8 @@ pub fn run_with<I: Read + Drop, O: Write + Drop>(
     }
 }
 
-fn put_exchange(script: &mut Vec<u8>, exchange: &Exchange) -> Result<(), AllocError> {
+/// Adds a line with its data to a script.
+pub fn put_exchange(script: &mut Vec<u8>, exchange: &Exchange) -> Result<(), AllocError> {
     script.extend_from_slice(exchange.line.as_bytes())?;
     script.extend_from_slice(b"\r\n")?;
     if let Some(bytes) = exchange.data {

@@ -2,7 +2,7 @@
 use Rattle.std.proofs.Common.{◌≡◌, ℕ, suc, zero, ◌+◌, ◌-◌, ◌/◌, ◌<◌, ◌≤◌, Bool, true, false, cond, eqb, List, [], ◌∷◌, ◌++◌, length, get_or, refl, ap, sym, ◌∙◌, subst, arith, append_assoc, take, Option, Some, None, ◌⊎◌, inl, inr, ⊎_elim, map}
 use Rattle.std.proofs.lemmas.List.{append-nil, length_push, take-append-le, take_all}
 use Rattle.rev_undotree.specs.Tree.{forks_of}
-use Rattle.rev_undotree.proofs.Walk.{fork_at-map, count-map}
+use Rattle.rev_undotree.proofs.Walk.{fork_at-map, count-map, behind, way_split}
 use Rattle.std.proofs.lemmas.Bool.Decides.{nat_tests}
 use Rattle.rev_undotree.specs.Tree.{PlainNode, PlainBranch, Forks, bare, fork, fork_at, count}
 use Rattle.rev_undotree.specs.Ways.{reach, no_node}
@@ -109,6 +109,25 @@ found_below n b c w x v p at l m e ef ex h = record {
   inside = h.inside;
   numbered = λ q. ap (λ z. number_after (start_at (number_after q p.taken b.run) z h.more) at (reach z h.more).run) (sym e) ∙ h.numbered (number_after q p.taken b.run);
 }
+
+-- found at the end of a way
+no_way : (w : List Junction) → length w < 1 → w ≡ []
+no_way [] h = refl
+no_way (p ∷ ps) h = absurd (omega arith)
+
+pub found_end : (n : ℕ) (b : PlainBranch) (v : List Junction) (k j : ℕ) → length v < 1 → j ≡ suc k → k < length b.run → number_of b.run k ≡ n → Found n b [] v j
+found_end n b v k j h ej l e = found_here n b [] v k j ej l e (no_way v h)
+
+pub found_behind : (n : ℕ) (b c : PlainBranch) (w : List Junction) (d : Junction) (at : ℕ) → 1 ≤ length w → (get_or w 0 d).fork < count b.forks → (get_or w 0 d).taken ≤ length b.run → c ≡ fork_at b.forks (get_or w 0 d).fork → c.from ≡ (get_or w 0 d).taken → Found n c [] (behind w) at → Found n b [] w at
+found_behind n b c w d at o m l e ef h =
+    let p : Junction = get_or w 0 d in
+    record {
+      more = p ∷ h.more;
+      way = way_split w d o ∙ ap (λ z. p ∷ z) h.way;
+      path = (l, m, ap (λ z. z.from) (sym e) ∙ ef, subst (λ z. IsPath z h.more at) e h.path);
+      inside = h.inside;
+      numbered = λ q. ap (λ z. number_after (start_at (number_after q p.taken b.run) z h.more) at (reach z h.more).run) (sym e) ∙ h.numbered (number_after q p.taken b.run);
+    }
 
 -- found nowhere
 missing_forks : (n p : ℕ) (run : List PlainNode) (f : Forks) → ((i : ℕ) → i < count f → IsMissing n (fork_at f i)) → find_forks n p run f ≡ None

@@ -2,7 +2,7 @@
 use Rattle.std.proofs.Common.{◌≡◌, ℕ, suc, zero, ◌<◌, ◌≤◌, Bool, true, false, cond, eqb, List, [], ◌∷◌, ◌++◌, length, refl, ap, sym, ◌∙◌, subst, arith, Option, Some, None, ◌⊎◌, inl, inr, ⊎_elim}
 use Rattle.std.proofs.lemmas.List.{length_push}
 use Rattle.std.proofs.lemmas.Bool.Decides.{nat_tests}
-use Rattle.rev_undotree.specs.Steps.{State, Step, next, outcome_of, Leads, Sound}
+use Rattle.rev_undotree.specs.Steps.{State, Step, next, outcome_of, Undoes, Sound}
 use Rattle.rev_undotree.specs.Tree.{PlainNode, PlainBranch, Forks, bare, fork, fork_at, add_fork, count}
 use Rattle.rev_undotree.specs.Ways.{reach, IsWay, at_end, with_node, with_fork}
 use Rattle.rev_undotree.specs.States.{after, RunHolds, AllAhead, AllBut, base_at, Context, Ends, rewind}
@@ -54,7 +54,7 @@ first_false [] = refl
 first_false (p ∷ ps) = first_false ps
 
 -- a node at the end of the run
-pub grown_push : (root t : State) (b : PlainBranch) (w : List Junction) (k : ℕ) (e : PlainNode) → Stands root t b w k → Proper w k → k ≡ length (reach b w).run → Leads e.undo (next t e.step) t → e.outcome ≡ outcome_of t e.step →
+pub grown_push : (root t : State) (b : PlainBranch) (w : List Junction) (k : ℕ) (e : PlainNode) → Stands root t b w k → Proper w k → k ≡ length (reach b w).run → Undoes e.undo t e.step → e.outcome ≡ outcome_of t e.step →
     Grown root b w k (next t e.step) (at_end (with_node e) b w) w (suc k) e.number e.step true
 grown_push root t b w k e h q l r o =
     let c = reach b w in
@@ -67,7 +67,7 @@ grown_push root t b w k e h q l r o =
     let n : number_after (start_at 0 b w) k c.run ≡ number_after (start_at 0 b w) (length c.run) c.run = ap (λ z. number_after (start_at 0 b w) z c.run) l in
     record {
       stands = rw l (record {
-        holds = Holds-at_end (with_node e) root b w (length c.run) (suc (length c.run)) (λ d. refl) here.holds (ends_push s c e here.holds.ends (subst (λ z. Leads e.undo (next z e.step) z) u r) (subst (λ z. e.outcome ≡ outcome_of z e.step) u o));
+        holds = Holds-at_end (with_node e) root b w (length c.run) (suc (length c.run)) (λ d. refl) here.holds (ends_push s c e here.holds.ends (subst (λ z. Undoes e.undo z e.step) u r) (subst (λ z. e.outcome ≡ outcome_of z e.step) u o));
         now_at = ap (λ z. next z e.step) u ∙ sym (state_at-at_end (with_node e) root b w (suc (length c.run)) y ∙ after-push s c.run e);
       });
       proper = Proper-at w k (suc k) (omega arith) q;
@@ -105,7 +105,7 @@ find-sprout_other n k p e h = rw h refl
 find-sprout_same : (k p : ℕ) (e : PlainNode) → find_in e.number p false (sprout k e) ≡ Some (row p e.step false)
 find-sprout_same k p e = rw (eqb-same e.number) refl
 
-pub grown_split : (root t : State) (b : PlainBranch) (w : List Junction) (k : ℕ) (e : PlainNode) (p : Junction) → length w < 64 → Proper w k → p.taken ≡ k → p.fork ≡ count (reach b w).forks → Stands root t b w k → Proper (w ++ p ∷ []) 1 → Leads e.undo (next t e.step) t → e.outcome ≡ outcome_of t e.step →
+pub grown_split : (root t : State) (b : PlainBranch) (w : List Junction) (k : ℕ) (e : PlainNode) (p : Junction) → length w < 64 → Proper w k → p.taken ≡ k → p.fork ≡ count (reach b w).forks → Stands root t b w k → Proper (w ++ p ∷ []) 1 → Undoes e.undo t e.step → e.outcome ≡ outcome_of t e.step →
     Grown root b w k (next t e.step) (at_end (with_fork (sprout k e)) b w) (w ++ p ∷ []) 1 e.number e.step false
 grown_split root t b w k e p lw qw et ef h q r o =
     let c = reach b w in
@@ -254,22 +254,22 @@ eqb-true n m h = grind (arith, nat_tests)
 
 -- as the code does it
 pub grown_push_code : (root t u : State) (b c : PlainBranch) (w x : List Junction) (k j : ℕ) (e : PlainNode) → u ≡ next t e.step → c ≡ at_end (with_node e) b x → x ≡ w → j ≡ suc k → Proper w k → k ≡ length (reach b w).run →
-    Stands root t b w k → Leads e.undo u t → e.outcome ≡ outcome_of t e.step → Grown root b w k u c w j e.number e.step (eqb k (length (reach b w).run))
-grown_push_code root t u b c w x k j e eu ec ex ej q l h r o = subst (λ z. Grown root b w k u c w j e.number e.step z) (sym (eqb-true k _ l)) (rw (eu, ec, ex, ej) (grown_push root t b w k e h q l (subst (λ z. Leads e.undo z t) eu r) o))
+    Stands root t b w k → Undoes e.undo t e.step → e.outcome ≡ outcome_of t e.step → Grown root b w k u c w j e.number e.step (eqb k (length (reach b w).run))
+grown_push_code root t u b c w x k j e eu ec ex ej q l h r o = subst (λ z. Grown root b w k u c w j e.number e.step z) (sym (eqb-true k _ l)) (rw (eu, ec, ex, ej) (grown_push root t b w k e h q l r o))
 
 pub grown_split_code : (root t u : State) (b c y : PlainBranch) (w x v : List Junction) (k i : ℕ) (e : PlainNode) → u ≡ next t e.step → y ≡ sprout k e → c ≡ at_end (with_fork y) b x → x ≡ w → v ≡ w ++ record { taken = k; fork = i } ∷ [] → i ≡ count (reach b w).forks → Proper w k → length w < 64 → k < length (reach b w).run →
-    Stands root t b w k → Leads e.undo u t → e.outcome ≡ outcome_of t e.step → Grown root b w k u c v 1 e.number e.step (eqb k (length (reach b w).run))
+    Stands root t b w k → Undoes e.undo t e.step → e.outcome ≡ outcome_of t e.step → Grown root b w k u c v 1 e.number e.step (eqb k (length (reach b w).run))
 grown_split_code root t u b c y w x v k i e eu ey ec ex ev ei q lw lk h r o =
     let p : Junction = record { taken = k; fork = i } in
-    let g = grown_split root t b w k e p lw q refl ei h (Proper-fork w p q) (subst (λ z. Leads e.undo z t) eu r) o in
+    let g = grown_split root t b w k e p lw q refl ei h (Proper-fork w p q) r o in
     subst (λ z. Grown root b w k u c v 1 e.number e.step z) (sym (eqb-more k _ lk)) (subst (λ z. Grown root b w k z c v 1 e.number e.step false) (sym eu) (subst (λ z. Grown root b w k (next t e.step) z v 1 e.number e.step false) (sym (ec ∙ ap (λ z. at_end (with_fork z) b x) ey ∙ ap (λ z. at_end (with_fork (sprout k e)) b z) ex)) (subst (λ z. Grown root b w k (next t e.step) (at_end (with_fork (sprout k e)) b w) z 1 e.number e.step false) (sym ev) g)))
 
 -- the states at both ends of a record are sound, so the current state is
 sound_after : (s : State) (k j : ℕ) (run : List PlainNode) → Sound s → RunHolds s run j → Sound (after s k run)
 sound_after s zero j run h r = h
 sound_after s (suc k) j [] h r = h
-sound_after s (suc k) zero (e ∷ es) h r = sound_after (next s e.step) k zero es (leads_sound r.0).1 r.2
-sound_after s (suc k) (suc j) (e ∷ es) h r = sound_after (next s e.step) k j es (leads_sound r.0).0 r.2
+sound_after s (suc k) zero (e ∷ es) h r = sound_after (next s e.step) k zero es (leads_sound r.0.leads).1 r.2
+sound_after s (suc k) (suc j) (e ∷ es) h r = sound_after (next s e.step) k j es (leads_sound r.0.leads).0 r.2
 
 sound_base : (s : State) (b : PlainBranch) (w : List Junction) → Sound s → Context s b w → Sound (base_at s b w)
 sound_base s b [] h c = h

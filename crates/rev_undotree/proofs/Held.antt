@@ -1,16 +1,16 @@
 -- Which nodes are held: those that stand in the tree.
-use Rattle.std.proofs.Common.{◌≡◌, ℕ, suc, zero, ◌<◌, ◌≤◌, Bool, true, false, is_some, List, [], ◌∷◌, ◌++◌, length, get_or, refl, ap, sym, ◌∙◌, subst, arith, Option, Some, None, ◌⊎◌, inl, inr, ⊎_elim, IfSome}
+use Rattle.std.proofs.Common.{◌≡◌, ℕ, suc, zero, ◌<◌, ◌≤◌, Bool, true, false, cond, eqb, is_some, List, [], ◌∷◌, ◌++◌, length, get_or, refl, ap, sym, ◌∙◌, subst, arith, Option, Some, None, ◌⊎◌, inl, inr, ⊎_elim, IfSome}
 use Rattle.rev_undotree.specs.Steps.{State}
-use Rattle.rev_undotree.specs.Tree.{PlainNode, PlainBranch, fork_at}
+use Rattle.rev_undotree.specs.Tree.{PlainNode, PlainBranch, Forks, bare, fork, fork_at}
 use Rattle.rev_undotree.specs.Ways.{reach, no_node}
 use Rattle.rev_undotree.specs.States.{rewind}
-use Rattle.rev_undotree.specs.Rows.{Row, row_of, row, number_after, start_at, first_continues, number_at, find_in, rows_of, Known, KnownRun}
+use Rattle.rev_undotree.specs.Rows.{Row, row_of, row, number_after, start_at, first_continues, number_at, find_in, find_run, find_forks, or_else, rows_of, Known, KnownRun}
 use Rattle.rev_undotree.specs.Positions.{SessionState, Kept, Moved, Proper}
 use Rattle.rev_undotree.specs.Paths.{IsPath}
 use Rattle.rev_undotree.specs.Finds.{is_held, Rises, Placed, IsMissing}
-use Rattle.rev_undotree.proofs.Rows.{Known-fork}
+use Rattle.rev_undotree.proofs.Rows.{Known-fork, or_else-none}
 use Rattle.rev_undotree.proofs.Positions.{Proper-zero, moved_state, number_at-same}
-use Rattle.rev_undotree.proofs.Growth.{row_of-last, row_of-older, rows_of-suc, length_rows}
+use Rattle.rev_undotree.proofs.Growth.{row_of-last, row_of-older, rows_of-suc, length_rows, none_above}
 use Rattle.rev_undotree.proofs.Finds.{less_or_same}
 use Rattle.rev_undotree.proofs.Fits.{row_of-within, rises_known}
 use Rattle.rev_undotree.specs.declared.junction.Junction.{Junction}
@@ -91,3 +91,31 @@ pub went_state : (root t u : State) (b c : PlainBranch) (w v x y : List Junction
     ◌≡◌ {A = SessionState} (record { root = rewind c v k u; rows = rows_of issued c; current = number_at c v k }) (record { root = root; rows = rows_of issued b; current = n })
 went_state root t u b c w v x y j k at issued n m q ex ev ek =
     moved_state root t u b c w v j k issued n m (sym (number_at-same b c v k m.same ∙ ap (λ z. number_at b z k) (ev ∙ ex) ∙ ap (λ z. number_at b y z) ek ∙ q.numbered))
+
+-- a number that was not given out is missing, wherever the search for it began
+none_either : (b : Bool) (x y : Row) (o : Option Row) → cond b (Some x) o ≡ None → cond b (Some y) o ≡ None
+none_either true x y o h = cc
+none_either false x y o h = h
+
+none_run_behind : (n p q : ℕ) (c d : Bool) (run : List PlainNode) → find_run n p c run ≡ None → find_run n q d run ≡ None
+none_run_behind n p q c d [] h = refl
+none_run_behind n p q c d (e ∷ es) h = none_either (eqb n e.number) (row p e.step c) (row q e.step d) (find_run n e.number true es) h
+
+or_else_both : (o r : Option Row) → o ≡ None → r ≡ None → or_else o r ≡ None
+or_else_both o r h k = ap (λ z. or_else z r) h ∙ k
+
+none_forks_behind : (n p q : ℕ) (run : List PlainNode) (f : Forks) → find_forks n p run f ≡ None → find_forks n q run f ≡ None
+none_forks_behind n p q run bare h = refl
+none_forks_behind n p q run (fork f r i m) h =
+    let a = or_else-none (or_else (find_run n (number_after p f run) false r) (find_forks n (number_after p f run) r i)) (find_forks n p run m) h in
+    let b = or_else-none (find_run n (number_after p f run) false r) (find_forks n (number_after p f run) r i) a.0 in
+    or_else_both (or_else (find_run n (number_after q f run) false r) (find_forks n (number_after q f run) r i)) (find_forks n q run m)
+    (or_else_both (find_run n (number_after q f run) false r) (find_forks n (number_after q f run) r i)
+    (none_run_behind n (number_after p f run) (number_after q f run) false false r b.0) (none_forks_behind n (number_after p f run) (number_after q f run) r i b.1))
+    (none_forks_behind n p q run m a.1)
+
+pub kept_fewer : (root t : State) (b : PlainBranch) (w : List Junction) (k issued n : ℕ) → Kept root t b w k issued → issued < n → IsMissing n b
+kept_fewer root t b w k issued n h l = λ p c.
+    let e = length_rows issued b in
+    let a = or_else-none (find_run n 0 true b.run) (find_forks n 0 b.run b.forks) (none_above (rows_of issued b) n 0 true b (omega (arith, e, l)) h.known) in
+    or_else_both (find_run n p c b.run) (find_forks n p b.run b.forks) (none_run_behind n 0 p true c b.run a.0) (none_forks_behind n 0 p b.run b.forks a.1)

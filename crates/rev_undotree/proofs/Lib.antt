@@ -19,3 +19,4 @@ pub mod Subs
 pub mod Crops
 pub mod Prunes
 pub mod Trims
+pub mod Leads

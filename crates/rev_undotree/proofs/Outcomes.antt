@@ -35,7 +35,7 @@ out_but k s run bare l h o u = tt
 out_but zero s run (fork f r i m) l h o u = (o, u, out_ahead s run m h)
 out_but (suc k) s run (fork f r i m) l h o u = (out_run (after s f run) r 0 h.1, out_ahead (after s f run) r i h.2, out_but k s run m (omega (arith, l)) h.3 o u)
 
-out_context : (s : State) (b : PlainBranch) (w : List Junction) (here : ℕ) → Context s b w → Ends (base_at s b w) (reach b w) here → OutRun s b.run × OutForks s b.run b.forks
+pub out_context : (s : State) (b : PlainBranch) (w : List Junction) (here : ℕ) → Context s b w → Ends (base_at s b w) (reach b w) here → OutRun s b.run × OutForks s b.run b.forks
 out_context s b [] here h e = (out_run s b.run here e.1, out_ahead s b.run b.forks e.2)
 out_context s b (p ∷ ps) here h e =
     let c = fork_at b.forks p.fork in
@@ -53,7 +53,7 @@ out_get s [] k l h = absurd (omega (arith, l))
 out_get s (e ∷ es) zero l h = h.0
 out_get s (e ∷ es) (suc k) l h = out_get (next s e.step) es k (omega (arith, l)) h.1
 
-out_path : (s : State) (b : PlainBranch) (w : List Junction) (k : ℕ) → OutRun s b.run → OutForks s b.run b.forks → IsPath b w (suc k) → (get_or (reach b w).run k no_node).outcome ≡ outcome_of (state_at s b w k) (get_or (reach b w).run k no_node).step
+pub out_path : (s : State) (b : PlainBranch) (w : List Junction) (k : ℕ) → OutRun s b.run → OutForks s b.run b.forks → IsPath b w (suc k) → (get_or (reach b w).run k no_node).outcome ≡ outcome_of (state_at s b w k) (get_or (reach b w).run k no_node).step
 out_path s b [] k o u q = out_get s b.run k (omega (arith, q)) o
 out_path s b (p ∷ ps) k o u q =
     let c = fork_at b.forks p.fork in

@@ -1,7 +1,7 @@
 -- How the states and records of a tree change.
 use Rattle.std.proofs.Common.{◌≡◌, ℕ, suc, zero, ◌<◌, ◌≤◌, List, [], ◌∷◌, ◌++◌, length, get_or, set, refl, ap, sym, ◌∙◌, subst, arith}
 use Rattle.std.proofs.lemmas.List.{length-set, length-append}
-use Rattle.rev_undotree.specs.Steps.{State, PlainRecord, next, outcome_of, Fits, turned, Leads}
+use Rattle.rev_undotree.specs.Steps.{State, Step, PlainRecord, next, outcome_of, Fits, turned, Leads, Recalls, Undoes, Redoes}
 use Rattle.rev_undotree.specs.Tree.{PlainNode, PlainBranch, Forks, bare, fork, fork_at, put_fork, add_fork, count}
 use Rattle.rev_undotree.specs.Ways.{reach, IsWay, at_end, undo_of, with_undo, with_node, no_node}
 use Rattle.rev_undotree.specs.States.{after, RunHolds, AllAhead, AllBut, base_at, Context, Ends, state_at, Holds, rewind_run, rewind}
@@ -15,6 +15,16 @@ leads-back r t s h = record {
   fits_back = subst (λ z. Fits z.1 t) (sym h.back) h.fits;
   back = ap (λ z. turned z.1 t) h.back ∙ ap (λ z. let p : State × PlainRecord = (z, (turned r t).1) in p) h.there;
 }
+
+-- a record that is turned over keeps what it tells
+pub undoes-turned : (r : PlainRecord) (s : State) (e : Step) → Undoes r s e → Redoes (turned r (next s e)).1 s e
+undoes-turned r s e h = record {
+  leads = leads-back r (next s e) s h.leads;
+  recalls = subst (λ (z : State × PlainRecord). Recalls z.1 s e) (sym h.leads.back) h.recalls;
+}
+
+pub redoes-turned : (r : PlainRecord) (s : State) (e : Step) → Redoes r s e → Undoes (turned r s).1 s e
+redoes-turned r s e h = record { leads = leads-back r s (next s e) h.leads; recalls = h.recalls }
 
 abbrev pub node_with : PlainNode → PlainRecord → PlainNode
 node_with e r = record e { undo = r }
@@ -39,18 +49,18 @@ AllAhead-over s t run more (fork f r i m) e l h =
 pub run_back : (s : State) (run : List PlainNode) (k : ℕ) → k < length run → RunHolds s run (suc k) →
     Leads (undo_of run k) (after s (suc k) run) (after s k run) × RunHolds s (set run k (node_with (get_or run k no_node) (turned (undo_of run k) (after s (suc k) run)).1)) k
 run_back s [] k l h = absurd (omega arith)
-run_back s (e ∷ es) zero l h = (h.0, (leads-back e.undo (next s e.step) s h.0, h.1, h.2))
+run_back s (e ∷ es) zero l h = (h.0.leads, (undoes-turned e.undo s e.step h.0, h.1, h.2))
 run_back s (e ∷ es) (suc k) l h =
     let p = run_back (next s e.step) es k (omega arith) h.2 in (p.0, (h.0, h.1, p.1))
 
 pub run_forth : (s : State) (run : List PlainNode) (k : ℕ) → k < length run → RunHolds s run k →
     Leads (undo_of run k) (after s k run) (after s (suc k) run) × RunHolds s (set run k (node_with (get_or run k no_node) (turned (undo_of run k) (after s k run)).1)) (suc k)
 run_forth s [] k l h = absurd (omega arith)
-run_forth s (e ∷ es) zero l h = (h.0, (leads-back e.undo s (next s e.step) h.0, h.1, h.2))
+run_forth s (e ∷ es) zero l h = (h.0.leads, (redoes-turned e.undo s e.step h.0, h.1, h.2))
 run_forth s (e ∷ es) (suc k) l h =
     let p = run_forth (next s e.step) es k (omega arith) h.2 in (p.0, (h.0, h.1, p.1))
 
-pub run_push : (s : State) (run : List PlainNode) (e : PlainNode) → RunHolds s run (length run) → Leads e.undo (next (after s (length run) run) e.step) (after s (length run) run) → e.outcome ≡ outcome_of (after s (length run) run) e.step → RunHolds s (run ++ e ∷ []) (suc (length run))
+pub run_push : (s : State) (run : List PlainNode) (e : PlainNode) → RunHolds s run (length run) → Undoes e.undo (after s (length run) run) e.step → e.outcome ≡ outcome_of (after s (length run) run) e.step → RunHolds s (run ++ e ∷ []) (suc (length run))
 run_push s [] e h l o = (l, o, tt)
 run_push s (d ∷ ds) e h l o = (h.0, h.1, run_push (next s d.step) ds e h.2 l o)
 
@@ -71,7 +81,7 @@ ends_forth s b k g h =
     let l = length-set b.run k (node_with (get_or b.run k no_node) (turned (undo_of b.run k) (after s k b.run)).1) in
     (p.0, (omega (arith, g, l), p.1, AllAhead-over s s b.run _ b.forks (λ j g. sym (after-set s b.run k j _)) (omega (arith, l)) h.2))
 
-pub ends_push : (s : State) (b : PlainBranch) (e : PlainNode) → Ends s b (length b.run) → Leads e.undo (next (after s (length b.run) b.run) e.step) (after s (length b.run) b.run) → e.outcome ≡ outcome_of (after s (length b.run) b.run) e.step → Ends s (with_node e b) (suc (length b.run))
+pub ends_push : (s : State) (b : PlainBranch) (e : PlainNode) → Ends s b (length b.run) → Undoes e.undo (after s (length b.run) b.run) e.step → e.outcome ≡ outcome_of (after s (length b.run) b.run) e.step → Ends s (with_node e b) (suc (length b.run))
 ends_push s b e h l o =
     let n = length-append b.run (e ∷ []) in
     (omega (arith, n), run_push s b.run e h.1 l o, AllAhead-over s s b.run _ b.forks (λ j g. sym (after-append s b.run (e ∷ []) j g)) (omega (arith, n)) h.2)
@@ -195,7 +205,7 @@ rewind_run-after s [] zero l h = refl
 rewind_run-after s [] (suc k) l h = refl
 rewind_run-after s (e ∷ es) zero l h = refl
 rewind_run-after s (e ∷ es) (suc k) l h =
-    ap (λ z. (turned e.undo z).0) (rewind_run-after (next s e.step) es k (omega arith) h.2) ∙ h.0.there
+    ap (λ z. (turned e.undo z).0) (rewind_run-after (next s e.step) es k (omega arith) h.2) ∙ h.0.leads.there
 
 pub rewind-state_at : (s : State) (b : PlainBranch) (w : List Junction) (here : ℕ) → Context s b w → Ends (base_at s b w) (reach b w) here → rewind b w here (state_at s b w here) ≡ s
 rewind-state_at s b [] here h e = rewind_run-after s b.run here e.0 e.1

@@ -2,8 +2,11 @@
 use Rattle.std.proofs.Common.{◌≡◌, ℕ, suc, zero, ◌-◌, ◌<◌, ◌≤◌, true, false, cond, nat_le, List, [], ◌∷◌, ◌++◌, length, take, drop, get_or, slice_get, refl, ap, sym, ◌∙◌, subst, arith, Option, Some, ◌⊎◌, inl, inr, ⊎_elim}
 use Rattle.std.proofs.lemmas.List.{append-nil}
 use Rattle.std.proofs.lemmas.Bool.Decides.{nat_tests}
+use Rattle.rev_model.specs.Actor.{step as played_step}
+use Rattle.rev_model.specs.Causes.{step_removals}
 use Rattle.rev_model.specs.Undo.{LeadsBack}
-use Rattle.rev_undotree.specs.Steps.{State, Sound, next, Leads}
+use Rattle.rev_changes.specs.Telling.{TellsAll}
+use Rattle.rev_undotree.specs.Steps.{State, PlainRecord, Step, Sound, next, outcome_of, Undoes}
 use Rattle.rev_undotree.specs.Tree.{PlainNode, PlainBranch, fork_at}
 use Rattle.rev_undotree.specs.Ways.{reach, undo_of, no_node}
 use Rattle.rev_undotree.specs.States.{after, RunHolds, base_at, Context, Ends, state_at}
@@ -12,7 +15,7 @@ use Rattle.rev_undotree.specs.Positions.{Kept, Proper, Inner, Below, along, fork
 use Rattle.rev_undotree.specs.Paths.{IsPath}
 use Rattle.rev_undotree.specs.Machine.{lineage}
 use Rattle.rev_undotree.specs.Trails.{cut, Trailed}
-use Rattle.rev_undotree.proofs.Turns.{leads_sound, leads_moves}
+use Rattle.rev_undotree.proofs.Turns.{leads_sound, leads_moves, undoes_tells, next_step}
 use Rattle.rev_undotree.proofs.Positions.{Proper-zero}
 use Rattle.rev_undotree.proofs.Moves.{depth_below}
 use Rattle.rev_undotree.proofs.Spots.{Along, Off, step_of, Tree, path_less, path_within}
@@ -20,7 +23,7 @@ use Rattle.rev_undotree.proofs.Finds.{number_after-get}
 use Rattle.rev_undotree.proofs.Held.{path_row, goes}
 use Rattle.rev_undotree.proofs.Rows.{at-zero}
 use Rattle.rev_undotree.proofs.Machine.{kept_tree, kept_path}
-use Rattle.rev_undotree.proofs.Outcomes.{at_path}
+use Rattle.rev_undotree.proofs.Outcomes.{at_path, out_context, out_path}
 use Rattle.rev_undotree.proofs.Trips.{lineage_below, lineage_depth, row_below, path_below}
 use Rattle.rev_undotree.specs.declared.junction.Junction.{Junction}
 
@@ -144,25 +147,53 @@ pub lineage_cut : (rows : List (Option Row)) (b : PlainBranch) (w : List Junctio
 lineage_cut rows b w k t g o = cut_fuel rows b t (suc (number_at b w k)) w k (omega arith) g o
 
 -- the records on the way point back
-run_leads : (s : State) (run : List PlainNode) (k j : ℕ) → j < k → j < length run → RunHolds s run k → Leads (undo_of run j) (after s (suc j) run) (after s j run)
-run_leads s [] k j l m h = absurd (omega (arith, m))
-run_leads s (e ∷ es) zero j l m h = absurd (omega (arith, l))
-run_leads s (e ∷ es) (suc k) zero l m h = h.0
-run_leads s (e ∷ es) (suc k) (suc j) l m h = run_leads (next s e.step) es k j (omega (arith, l)) (omega (arith, m)) h.2
+abbrev step_at : List PlainNode → ℕ → Step
+step_at run j = (get_or run j no_node).step
 
-abbrev LeadsAt : State → PlainBranch → Position → Type 0
-LeadsAt s b z = (j : ℕ) → z.1 ≡ suc j → Leads (undo_of (reach b z.0).run j) (state_at s b z.0 (suc j)) (state_at s b z.0 j)
+run_undoes : (s : State) (run : List PlainNode) (k j : ℕ) → j < k → j < length run → RunHolds s run k → Undoes (undo_of run j) (after s j run) (step_at run j)
+run_undoes s [] k j l m h = absurd (omega (arith, m))
+run_undoes s (e ∷ es) zero j l m h = absurd (omega (arith, l))
+run_undoes s (e ∷ es) (suc k) zero l m h = h.0
+run_undoes s (e ∷ es) (suc k) (suc j) l m h = run_undoes (next s e.step) es k j (omega (arith, l)) (omega (arith, m)) h.2
 
-pub leads_cut : (s : State) (b : PlainBranch) (w : List Junction) (k d : ℕ) → Context s b w → Ends (base_at s b w) (reach b w) k → d ≤ depth w k → LeadsAt s b (cut w d)
-leads_cut s b [] k d h e l = λ j ej. let n = e.0 in run_leads s b.run k j (omega (arith, l, ej)) (omega (arith, l, ej, n)) e.1
-leads_cut s b (p ∷ ps) k d h e l = ⊎_elim
-    (λ g. subst (λ z. LeadsAt s b z) (sym (cut_near p ps d g)) (λ j ej. let n = h.0 in run_leads s b.run p.taken j (omega (arith, g, ej)) (omega (arith, g, ej, n)) h.1))
-    (λ g. subst (λ z. LeadsAt s b z) (sym (cut_far p ps d g)) (leads_cut (after s p.taken b.run) (fork_at b.forks p.fork) ps k (d - p.taken) h.5 e (omega (arith, l, g))))
+after_next : (s : State) (run : List PlainNode) (j : ℕ) → j < length run → after s (suc j) run ≡ next (after s j run) (step_at run j)
+after_next s [] j l = absurd (omega (arith, l))
+after_next s (e ∷ es) zero l = refl
+after_next s (e ∷ es) (suc j) l = after_next (next s e.step) es j (omega (arith, l))
+
+abbrev UndoesAt : State → PlainBranch → Position → Type 0
+UndoesAt s b z = (j : ℕ) → z.1 ≡ suc j → Undoes (undo_of (reach b z.0).run j) (state_at s b z.0 j) (step_at (reach b z.0).run j)
+
+pub undoes_cut : (s : State) (b : PlainBranch) (w : List Junction) (k d : ℕ) → Context s b w → Ends (base_at s b w) (reach b w) k → d ≤ depth w k → UndoesAt s b (cut w d)
+undoes_cut s b [] k d h e l = λ j ej. let n = e.0 in run_undoes s b.run k j (omega (arith, l, ej)) (omega (arith, l, ej, n)) e.1
+undoes_cut s b (p ∷ ps) k d h e l = ⊎_elim
+    (λ g. subst (λ z. UndoesAt s b z) (sym (cut_near p ps d g)) (λ j ej. let n = h.0 in run_undoes s b.run p.taken j (omega (arith, g, ej)) (omega (arith, g, ej, n)) h.1))
+    (λ g. subst (λ z. UndoesAt s b z) (sym (cut_far p ps d g)) (undoes_cut (after s p.taken b.run) (fork_at b.forks p.fork) ps k (d - p.taken) h.5 e (omega (arith, l, g))))
     (split_le d p.taken)
+
+-- what a record that points back shows, from the state s before its step and the state t after it
+record Shown (r : PlainRecord) (s t : State) (e : Step) : Type 0 where
+  before : Sound s
+  sound : Sound t
+  stepped : t ≡ (played_step s e).0
+  leads : LeadsBack r.moves t s
+  told : TellsAll r t (step_removals s e)
+
+shown_next : (r : PlainRecord) (s : State) (e : Step) → Undoes r s e → Shown r s (next s e) e
+shown_next r s e h = record {
+  before = (leads_sound h.leads).1;
+  sound = (leads_sound h.leads).0;
+  stepped = next_step s e;
+  leads = leads_moves h.leads;
+  told = undoes_tells h;
+}
+
+shown_from : (r : PlainRecord) (s t u : State) (e : Step) → s ≡ u → t ≡ next u e → Undoes r u e → Shown r s t e
+shown_from r s t u e es et h = subst (λ z. Shown r z t e) (sym es) (subst (λ z. Shown r u z e) (sym et) (shown_next r u e h))
 
 -- what trail(d) shows
 pub trailed : (root t : State) (b : PlainBranch) (w v x : List Junction) (k d i j issued : ℕ) (e : PlainNode) (c : PlainBranch) → Kept root t b w k issued → 0 < d → d ≤ depth w k → cut w d ≡ (v, i) → i ≡ suc j → x ≡ v → c ≡ reach b x → e ≡ get_or c.run j no_node →
-    Trailed (record { root = root; rows = rows_of issued b; current = number_at b w k }) d e.number e.step e.undo
+    Trailed (record { root = root; rows = rows_of issued b; current = number_at b w k }) d e.number e.step e.outcome e.undo
 trailed root t b w v x k d i j issued e c h low high ec ei ex er en =
     let rows = rows_of issued b in
     let tree = kept_tree root t b w k issued h in
@@ -173,17 +204,26 @@ trailed root t b w v x k d i j issued e c h low high ec ei ex er en =
     let number : number_at b v (suc j) ≡ e.number = number_after-get (start_at 0 b v) j (reach b v).run (path_within b v (suc j) there) ∙ sym (ap (λ (z : PlainNode). z.number) node) in
     let here = at_path root root rows h.falls 0 true b v (suc j) there (at-zero root rows) h.known in
     let up = at_path root root rows h.falls 0 true b v j above (at-zero root rows) h.known in
-    let lead = subst (λ z. LeadsAt root b z) ec (leads_cut root b w k d h.stands.holds.context h.stands.holds.ends high) j ei in
+    let run = (reach b v).run in
+    let undoes = subst (λ z. UndoesAt root b z) ec (undoes_cut root b w k d h.stands.holds.context h.stands.holds.ends high) j ei in
+    let after = after_next (base_at root b v) run j (path_within b v (suc j) there) in
+    let shown = shown_from (undo_of run j) (at root rows (number_at b v j)) (at root rows (number_at b v (suc j))) (state_at root b v j) (step_at run j) up (here ∙ after) undoes in
+    let outcomes = out_context root b w k h.stands.holds.context h.stands.holds.ends in
+    let answer = out_path root b v j outcomes.0 outcomes.1 there ∙ ap (λ z. outcome_of z (step_at run j)) (sym up) in
+    let all = subst (λ z. Shown e.undo (at root rows (number_at b v j)) (at root rows z) e.step) number
+    (subst (λ (z : PlainNode). Shown z.undo (at root rows (number_at b v j)) (at root rows (number_at b v (suc j))) z.step) (sym node) shown) in
     record {
       row = row (number_at b v j) (get_or (reach b v).run j no_node).step (goes j (first_continues true v));
       numbered = lineage_cut rows b w k tree path h.proper d low high ∙ ap (λ (z : Position). Some (number_at b z.0 z.1)) ec ∙ ap (λ z. Some (number_at b v z)) ei ∙ ap Some number;
       known = subst (λ z. row_of rows z ≡ Some (row (number_at b v j) (get_or (reach b v).run j no_node).step (goes j (first_continues true v)))) number (path_row rows b v j there h.known);
       played = ap (λ (z : PlainNode). z.step) node;
-      sound = subst (λ z. Sound (at root rows z)) number (subst Sound (sym here) (leads_sound lead).0);
-      leads = subst (λ z. LeadsBack e.undo.moves (at root rows z) (at root rows (number_at b v j))) number
-          (subst (λ (z : PlainNode). LeadsBack z.undo.moves (at root rows (number_at b v (suc j))) (at root rows (number_at b v j))) (sym node)
-          (subst (λ z. LeadsBack (undo_of (reach b v).run j).moves z (at root rows (number_at b v j))) (sym here)
-          (subst (λ z. LeadsBack (undo_of (reach b v).run j).moves (state_at root b v (suc j)) z) (sym up) (leads_moves lead))));
+      falls = h.falls;
+      answered = subst (λ (z : PlainNode). z.outcome ≡ outcome_of (at root rows (number_at b v j)) z.step) (sym node) answer;
+      before = all.before;
+      sound = all.sound;
+      stepped = all.stepped;
+      leads = all.leads;
+      told = all.told;
     }
 
 -- the way cut in a loop

@@ -1,12 +1,14 @@
 -- What the contracts of `apply` and `turn` say of a record.
-use Rattle.std.proofs.Common.{◌≡◌, ap, ◌∙◌, subst}
+use Rattle.std.proofs.Common.{◌≡◌, refl, ap, ◌∙◌, subst}
 use Rattle.std.specs.Prelude.{reverse}
 use Rattle.std.proofs.lemmas.List.{reverse-reverse}
 use Rattle.rev_model.specs.State.{WellFormed}
 use Rattle.rev_model.specs.Move as moves
 use Rattle.rev_model.specs.Actor as actor
+use Rattle.rev_model.specs.Causes.{step_removals}
 use Rattle.rev_model.specs.Undo.{LeadsBack, turns_back}
-use Rattle.rev_undotree.specs.Steps.{State, Step, Outcome, PlainRecord, Sound, next, outcome_of, Fits, turned, Leads}
+use Rattle.rev_changes.specs.Telling.{TellsAll}
+use Rattle.rev_undotree.specs.Steps.{State, Step, Outcome, PlainRecord, Sound, next, outcome_of, Fits, turned, Leads, Recalls, Undoes}
 
 -- what a turn needs
 pub fits_moves : (r : PlainRecord) (s : State) → Fits r s → moves.Fits r.moves s
@@ -64,3 +66,25 @@ leads_sound h = (h.fits.0, h.fits_back.0)
 pub leads_moves : {r : PlainRecord} {t s : State} → Leads r t s → LeadsBack r.moves t s
 unfolding Fits turned
 leads_moves h = record { fits = h.fits.1; there = h.there }
+
+-- what the contract of `apply` says of the record
+recalls_applied : (r : PlainRecord) (s : State) (e : Step) → TellsAll r (next s e) (step_removals s e) → Recalls r s e
+unfolding Recalls
+recalls_applied r s e h = h
+
+pub undoes_applied : (r : PlainRecord) (s u : State) (e : Step) (o : Outcome) → Sound u → Sound s → (u, o) ≡ actor.step s e → LeadsBack r.moves u s → TellsAll r u (step_removals s e) → Undoes r s e
+undoes_applied r s u e o hu hs h l t =
+    let n = step_next s u e o h in
+    record {
+      leads = subst (λ z. Leads r z s) n (leads_applied r u s hu hs l);
+      recalls = recalls_applied r s e (subst (λ z. TellsAll r z (step_removals s e)) n t);
+    }
+
+-- what a record tells
+pub undoes_tells : {r : PlainRecord} {s : State} {e : Step} → Undoes r s e → TellsAll r (next s e) (step_removals s e)
+unfolding Recalls
+undoes_tells h = h.recalls
+
+pub next_step : (s : State) (e : Step) → next s e ≡ (actor.step s e).0
+unfolding next
+next_step s e = refl

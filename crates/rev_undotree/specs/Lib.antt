@@ -13,3 +13,4 @@ pub mod Trips
 pub mod Children
 pub mod Trails
 pub mod Prunes
+pub mod Index

@@ -1,7 +1,7 @@
 -- The states along a tree, which nobody holds, and the direction of its records.
 use Rattle.std.specs.Prelude.{◌≡◌, ℕ, ◌<◌, ◌≤◌, List, [], ◌∷◌, length}
 use Rattle.std.proofs.Common.{suc, zero}
-use Rattle.rev_undotree.specs.Steps.{State, next, outcome_of, turned, Leads}
+use Rattle.rev_undotree.specs.Steps.{State, next, outcome_of, turned, Undoes, Redoes}
 use Rattle.rev_undotree.specs.Tree.{PlainNode, PlainBranch, Forks, bare, fork, count, fork_at}
 use Rattle.rev_undotree.specs.Ways.{reach}
 use Rattle.rev_undotree.specs.declared.junction.Junction.{Junction}
@@ -15,8 +15,8 @@ after s (suc k) (e ∷ es) = after (next s e.step) k es
 -- of a run that begins at s, the first k records point back and the others forward
 abbrev pub RunHolds : State → List PlainNode → ℕ → Type 0
 RunHolds s [] k = Unit {0}
-RunHolds s (e ∷ es) zero = Leads e.undo s (next s e.step) × (e.outcome ≡ outcome_of s e.step) × RunHolds (next s e.step) es zero
-RunHolds s (e ∷ es) (suc k) = Leads e.undo (next s e.step) s × (e.outcome ≡ outcome_of s e.step) × RunHolds (next s e.step) es k
+RunHolds s (e ∷ es) zero = Redoes e.undo s e.step × (e.outcome ≡ outcome_of s e.step) × RunHolds (next s e.step) es zero
+RunHolds s (e ∷ es) (suc k) = Undoes e.undo s e.step × (e.outcome ≡ outcome_of s e.step) × RunHolds (next s e.step) es k
 
 -- every record of the forks of a run points forward
 abbrev pub AllAhead : State → List PlainNode → Forks → Type 0

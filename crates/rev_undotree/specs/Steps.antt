@@ -6,6 +6,8 @@ pub use Rattle.rev_model.specs.Actor.{Step}
 pub use Rattle.rev_moves.specs.Record.{PlainRecord}
 pub use Rattle.rev_model.specs.declared.Outcome.{Outcome}
 use Rattle.rev_model.specs.Actor as actor
+use Rattle.rev_model.specs.Causes.{step_removals}
+use Rattle.rev_changes.specs.Telling.{TellsAll}
 use Rattle.rev_model.specs.Move as moves
 
 -- the state that a step leaves
@@ -30,3 +32,17 @@ pub record Leads (r : PlainRecord) (t s : State) : Type 0 where
   pub there : (turned r t).0 ≡ s
   pub fits_back : Fits (turned r t).1 s
   pub back : turned (turned r t).1 s ≡ (t, r)
+
+-- the record of a step that was played at s tells which keys the step took out of the index, each with its cause
+unfoldable pub Recalls : PlainRecord → State → Step → Type 0
+Recalls r s e = TellsAll r (next s e) (step_removals s e)
+
+-- the record of a step that was played at s points back: it leads to s, and tells what the step took out of the index
+pub record Undoes (r : PlainRecord) (s : State) (e : Step) : Type 0 where
+  pub leads : Leads r (next s e) s
+  pub recalls : Recalls r s e
+
+-- the record of a step that was played at s points forward: it leads from s, and what it becomes tells that
+pub record Redoes (r : PlainRecord) (s : State) (e : Step) : Type 0 where
+  pub leads : Leads r s (next s e)
+  pub recalls : Recalls (turned r s).1 s e

@@ -171,6 +171,29 @@ impl<A: Allocator> Branch<A> {
         None
     }
 
+    /// Where the node `number` stands in the run at the end of `way`, if `way` is one of the tree and the run has it.
+    pub fn spot(&self, way: &[Junction], number: u32) -> Option<usize>
+        requires { Rises self.now }
+        ensures { IfSome result (λ at. Found number self.now [] way.now at) }
+    {
+        match way {
+            [] => match self.seek(number) {
+                Some(at) => Some(at + 1),
+                None => None,
+            },
+            [junction, rest @ ..] => {
+                if junction.taken > self.len() || junction.fork >= self.fork_count() {
+                    return None;
+                }
+                let child = &self.forks[junction.fork];
+                if child.from != junction.taken {
+                    return None;
+                }
+                child.spot(rest, number)
+            }
+        }
+    }
+
     /// Where the node `number` stands below the end of `way`, which then leads there.
     pub fn locate(&self, number: u32, way: &mut ArrayVec<Junction, 64>) -> Option<usize>
         requires room { length way.old.items ≤ 64 }
@@ -202,7 +225,7 @@ impl<A: Allocator> Branch<A> {
     }
 
     /// The number of the next node of the run.
-    fn next_at(&self, here: usize) -> Option<u32>
+    pub fn next_at(&self, here: usize) -> Option<u32>
         ensures { result ≡ next_number here self.now.run }
     {
         if here >= self.len() {

@@ -3,6 +3,7 @@
 #![tactic(auto)]
 
 pub mod branch;
+pub mod index;
 pub mod junction;
 pub mod position;
 pub mod session;

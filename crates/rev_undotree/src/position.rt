@@ -1,6 +1,6 @@
 //! A store that stands at a position of a tree.
-ghost use Rattle.std.specs.Prelude.{◌≡◌, ◌<◌, ◌≤◌, ◌^◌, ◌+◌, ◌++◌, ◌∷◌, [], ◌↔◌, ◌⊎◌, eqb, IsTrue, OnOk, OnErr, IfErr, IfSome, IfNone, length, take};
-ghost use Rattle.rev_undotree.specs.Steps.{State, next, outcome_of, Leads};
+ghost use Rattle.std.specs.Prelude.{◌≡◌, ℕ, ◌-◌, Some, ◌<◌, ◌≤◌, ◌^◌, ◌+◌, ◌++◌, ◌∷◌, [], ◌↔◌, ◌⊎◌, eqb, IsTrue, OnOk, OnErr, IfErr, IfSome, IfNone, length, take};
+ghost use Rattle.rev_undotree.specs.Steps.{State, next, outcome_of, Undoes};
 ghost use Rattle.rev_undotree.specs.Ways.{reach, IsWay};
 ghost use Rattle.rev_undotree.specs.Rows.{number_at};
 ghost use Rattle.rev_undotree.specs.Tree.{count, fork_at};
@@ -9,9 +9,11 @@ ghost use Rattle.rev_undotree.specs.Paths.{IsPath, IsOnWay};
 ghost use Rattle.rev_undotree.specs.Finds.{Rises, Fitted, Placed, IsMissing};
 ghost use Rattle.rev_undotree.specs.Positions.{Stands, Moved, Grown, Proper, Below, depth};
 ghost use Rattle.rev_undotree.specs.Trails.{cut};
+ghost use Rattle.rev_undotree.specs.Children.{next_number};
 ghost use Rattle.rev_undotree.specs.Trips.{Trip};
 
 use crate::branch::{Branch, Node};
+use crate::index::Index;
 use crate::junction::Junction;
 use arrayvec::ArrayVec;
 use rev_inverse::Store;
@@ -25,6 +27,7 @@ pub const MAX_NESTING: usize = 64;
 pub struct Position<A: Allocator> {
     pub store: Store<A>,
     pub base: Branch<A>,
+    pub index: Index<A>,
     pub way: ArrayVec<Junction, MAX_NESTING>,
     pub here: usize,
 }
@@ -109,8 +112,15 @@ impl<A: Allocator> Position<A> {
         self.base.reach(way).number(here - 1)
     }
 
-    /// Where node `number` stands, if the tree has it.
-    pub fn find(&self, number: u32, way: &mut ArrayVec<Junction, MAX_NESTING>) -> Option<usize>
+    /// Where node `number` stands, if the tree has it, which has no number over `issued`. The index knows where a node
+    /// stands that is held; for one that was taken out every branch is searched.
+    pub fn find(
+        &self,
+        number: u32,
+        issued: u32,
+        way: &mut ArrayVec<Junction, MAX_NESTING>,
+    ) -> Option<usize>
+        requires fewer { issued < number → IsMissing number self.now.base }
         requires empty { way.old.items ≡ [] }
         requires rises { Rises self.now.base }
         requires fitted { Fitted self.now.base.forks self.now.base.run 64 0 0 }
@@ -120,6 +130,14 @@ impl<A: Allocator> Position<A> {
     {
         if number == 0 {
             return Some(0);
+        }
+        if number > issued {
+            return None;
+        }
+        self.index.lead(number, way);
+        match self.base.spot(way.as_slice(), number) {
+            Some(at) => return Some(at),
+            None => way.clear(),
         }
         self.base.locate(number, way)
     }
@@ -177,6 +195,34 @@ impl<A: Allocator> Position<A> {
         self.is_last()
     }
 
+    // Where a node that is played below the position leaves the run, if it does.
+    fn next_fork(&self) -> Option<Junction>
+        requires { IsWay self.now.base self.now.way.items }
+        ensures none { IfNone result (self.now.here ≡ length (reach self.now.base self.now.way.items).run) }
+        ensures some { IfSome result (λ j. j ≡ record { taken = self.now.here; fork = count (reach self.now.base self.now.way.items).forks }) }
+    {
+        if self.is_last() {
+            return None;
+        }
+        Some(Junction {
+            taken: self.here,
+            fork: self.base.reach(self.way.as_slice()).fork_count(),
+        })
+    }
+
+    // The number of the node at the position, 0 for the root.
+    fn last_number(&self) -> u32
+        requires { IsWay self.now.base self.now.way.items }
+        ensures root { self.now.here ≡ 0 → result ≡ 0 }
+        ensures node { (n : ℕ) → 0 < self.now.here → next_number (self.now.here - 1) (reach self.now.base self.now.way.items).run ≡ Some n → result ≡ n }
+    {
+        if self.here == 0 {
+            return 0;
+        }
+        let branch = self.base.reach(self.way.as_slice());
+        branch.next_at(self.here - 1).unwrap_or(0)
+    }
+
     /// Adds a node below the position and moves to it, or hands it back. The store stands there already.
     pub fn grow(&mut self, alloc: &A, node: Node<A>) -> Result<(), AllocFailed<Node<A>>>
     where
@@ -184,7 +230,32 @@ impl<A: Allocator> Position<A> {
         requires way { IsWay self.old.base self.old.way.items }
         requires proper { Proper self.old.way.items self.old.here }
         requires room { (self.old.here ≡ length (reach self.old.base self.old.way.items).run) ⊎ (length self.old.way.items < 64) }
-        ensures ok { OnOk result ((root before : State) → Stands root before self.old.base self.old.way.items self.old.here → self.old.store ≡ next before node.step → Leads node.undo self.old.store before → node.outcome ≡ outcome_of before node.step → Grown root self.old.base self.old.way.items self.old.here self.new.store self.new.base self.new.way.items self.new.here node.number node.step (eqb self.old.here (length (reach self.old.base self.old.way.items).run))) }
+        ensures ok { OnOk result ((root before : State) → Stands root before self.old.base self.old.way.items self.old.here → self.old.store ≡ next before node.step → Undoes node.undo before node.step → node.outcome ≡ outcome_of before node.step → Grown root self.old.base self.old.way.items self.old.here self.new.store self.new.base self.new.way.items self.new.here node.number node.step (eqb self.old.here (length (reach self.old.base self.old.way.items).run))) }
+        ensures err { OnErr result ((self.new.store ≡ self.old.store) × (self.new.base ≡ self.old.base) × (self.new.way ≡ self.old.way) × (self.new.here ≡ self.old.here)) }
+        ensures returned { IfErr result (λ e. e.value ≡ node) }
+    {
+        let parent = self.last_number();
+        let fork = self.next_fork();
+        if self.index.note(parent, fork).is_err() {
+            return Err(AllocFailed { value: node });
+        }
+        match self.hang(alloc, node) {
+            Ok(()) => Ok(()),
+            Err(refused) => {
+                self.index.forget(fork.is_some());
+                Err(refused)
+            }
+        }
+    }
+
+    // Adds a node to the tree below the position and moves to it, or hands it back.
+    fn hang(&mut self, alloc: &A, node: Node<A>) -> Result<(), AllocFailed<Node<A>>>
+    where
+        A: Clone,
+        requires way { IsWay self.old.base self.old.way.items }
+        requires proper { Proper self.old.way.items self.old.here }
+        requires room { (self.old.here ≡ length (reach self.old.base self.old.way.items).run) ⊎ (length self.old.way.items < 64) }
+        ensures ok { OnOk result ((root before : State) → Stands root before self.old.base self.old.way.items self.old.here → self.old.store ≡ next before node.step → Undoes node.undo before node.step → node.outcome ≡ outcome_of before node.step → Grown root self.old.base self.old.way.items self.old.here self.new.store self.new.base self.new.way.items self.new.here node.number node.step (eqb self.old.here (length (reach self.old.base self.old.way.items).run))) }
         ensures err { OnErr result ((self.new.store ≡ self.old.store) × (self.new.base ≡ self.old.base) × (self.new.way ≡ self.old.way) × (self.new.here ≡ self.old.here)) }
         ensures returned { IfErr result (λ e. e.value ≡ node) }
     {

@@ -11,6 +11,7 @@ ghost use Rattle.rev_undotree.specs.Prunes.{pruned, is_below};
 ghost use Rattle.rev_undotree.specs.Faults.{IsFault, TooManyNodes, TooDeep};
 
 use crate::branch::{Branch, Node};
+use crate::index::Index;
 use crate::junction::Junction;
 use crate::position::{Position, above, is_on_way};
 use arrayvec::ArrayVec;
@@ -109,6 +110,9 @@ impl<A: Allocator + Clone> Session<A> {
         ensures ok { IfOk result (λ s. s ≡ record { root = store; rows = []; current = 0 }) }
         ensures err { IfErr result (λ e. e.1 ≡ store) }
     {
+        let Ok(index) = Index::new(&alloc) else {
+            return Err((AllocError, store));
+        };
         let Ok(base) = Branch::root(&alloc) else {
             return Err((AllocError, store));
         };
@@ -116,6 +120,7 @@ impl<A: Allocator + Clone> Session<A> {
             position: Position {
                 store,
                 base,
+                index,
                 way: ArrayVec::new(),
                 here: 0,
             },
@@ -201,10 +206,13 @@ impl<A: Allocator + Clone> Session<A> {
         self.position.depth()
     }
 
-    /// The node at `depth` of the way to the current node, from 1, with its step and its record, which leads back to its
-    /// parent.
-    pub fn trail<'a>(&'a self, depth: usize) -> Option<(NodeId, &'a Step<A>, &'a Record<A>)>
-        ensures some { IfSome result (λ x. Trailed self.now depth x.0.0 (plain_step x.1.now) x.2.now) }
+    /// The node at `depth` of the way to the current node, from 1, with its step, the step's outcome, and its record, which
+    /// leads back to its parent and tells which keys the step took out of the index, each with its cause.
+    pub fn trail<'a>(
+        &'a self,
+        depth: usize,
+    ) -> Option<(NodeId, &'a Step<A>, Outcome, &'a Record<A>)>
+        ensures some { IfSome result (λ x. Trailed self.now depth x.0.0 (plain_step x.1.now) x.2 x.3.now) }
         ensures none { IsNone result ↔ ((depth ≡ 0) ⊎ (length (lineage self.now.rows self.now.current) < depth)) }
     {
         if depth == 0 {
@@ -219,7 +227,7 @@ impl<A: Allocator + Clone> Session<A> {
             .base
             .reach(&self.position.way[..level])
             .node(at - 1);
-        Some((NodeId(node.number), &node.step, &node.undo))
+        Some((NodeId(node.number), &node.step, node.outcome, &node.undo))
     }
 
     /// The parent of a node that is held, none for the root.
@@ -230,7 +238,7 @@ impl<A: Allocator + Clone> Session<A> {
             return None;
         }
         let mut way = ArrayVec::new();
-        match self.position.find(node.0, &mut way) {
+        match self.position.find(node.0, self.issued, &mut way) {
             Some(at) => {
                 let here = above(&mut way, at);
                 Some(NodeId(self.position.number_at(way.as_slice(), here)))
@@ -248,7 +256,7 @@ impl<A: Allocator + Clone> Session<A> {
             return None;
         }
         let mut way = ArrayVec::new();
-        match self.position.find(node.0, &mut way) {
+        match self.position.find(node.0, self.issued, &mut way) {
             Some(at) => Some(self.position.base.reach(way.as_slice()).step_at(at - 1)),
             None => None,
         }
@@ -259,7 +267,7 @@ impl<A: Allocator + Clone> Session<A> {
         ensures { option_map (λ n. n.0) result ≡ slice_get (children self.now.rows node.0) index }
     {
         let mut way = ArrayVec::new();
-        match self.position.find(node.0, &mut way) {
+        match self.position.find(node.0, self.issued, &mut way) {
             Some(at) => match self.position.base.reach(way.as_slice()).child(at, index) {
                 Some(number) => Some(NodeId(number)),
                 None => None,
@@ -302,7 +310,7 @@ impl<A: Allocator + Clone> Session<A> {
         ensures err { OnErr result (self.new ≡ self.old) }
     {
         let mut way = ArrayVec::new();
-        match self.position.find(node.0, &mut way) {
+        match self.position.find(node.0, self.issued, &mut way) {
             Some(at) => Ok(self.position.go(way.as_slice(), at)),
             None => Err(NoNode),
         }
@@ -318,7 +326,7 @@ impl<A: Allocator + Clone> Session<A> {
         ensures path { (result ≡ Err PruneFault.OnPath) ↔ (is_below self.old.rows node.0 self.old.current ≡ true) }
     {
         let mut way = ArrayVec::new();
-        match self.position.find(node.0, &mut way) {
+        match self.position.find(node.0, self.issued, &mut way) {
             None => Err(PruneFault::NoNode),
             Some(at) => {
                 if node.0 == 0 {

@@ -6,7 +6,8 @@ use Rattle.rev_model.specs.Places.{IsClass}
 use Rattle.rev_moves.specs.Record.{PlainRecord}
 use Rattle.rev_changes.specs.Taking.{paired}
 use Rattle.rev_changes.specs.Telling.{Tells, tells_more, tells_then}
-use Rattle.rev_maintainer.specs.Causes.{squeeze_removals, room_removals_by, later_removals, given_removals}
+use Rattle.rev_model.specs.Causes.{squeeze_removals, room_removals_by}
+use Rattle.rev_maintainer.specs.Causes.{later_removals, given_removals}
 use Rattle.rev_maintainer.specs.Rooming.{same_pages_squeezed, same_page_of, next_need, later_room, given_room, room_need, need_some, need_least}
 use Rattle.rev_maintainer.proofs.room.+room_by.Goals as goal
 

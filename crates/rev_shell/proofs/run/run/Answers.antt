@@ -3,6 +3,3 @@ use Rattle.rev_shell.proofs.run.run.Goals as goal
 
 pub returns-in_default-clause-err : goal.returns-in_default-clause-err
 returns-in_default-clause-err g c = nothing_read _ _ _ _ _
-
-pub returns-in_default-two_handles-clause-err : goal.returns-in_default-two_handles-clause-err
-returns-in_default-two_handles-clause-err g c = nothing_read _ _ _ _ _

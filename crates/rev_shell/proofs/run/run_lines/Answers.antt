@@ -42,7 +42,7 @@ lines-preserved g c =
     let f = rw a at c.in-Ok-write_all.ensures.ok in (
       c.in-Ok.ensures.good,
       omega (arith, takes_byte n.0 _ _ n.2, n.1.count, i.1),
-      progress g.S.Source.told _ _ _ _ _ _ _ _ _ c.requires.fresh c.requires.none_given i.2 _ _ w n c.in-Ok-answer_line.ensures.session f,
+      progress g.S.Source.told _ _ _ _ _ _ _ _ _ c.requires.fresh c.requires.none_given i.2 _ _ w n c.in-Ok-answer_line.ensures.state f,
     )
 
 pub lines-smaller : goal.lines-smaller

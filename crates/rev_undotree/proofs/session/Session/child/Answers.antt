@@ -1,10 +1,13 @@
 use Rattle.std.proofs.Common.{ap, sym, ◌∙◌, slice_get}
 use Rattle.rev_undotree.specs.Children.{children_at}
-use Rattle.rev_undotree.proofs.Held.{kept_rises}
+use Rattle.rev_undotree.proofs.Held.{kept_rises, kept_fewer}
 use Rattle.rev_undotree.proofs.Spots.{path_way}
 use Rattle.rev_undotree.proofs.Machine.{kept_tree}
 use Rattle.rev_undotree.proofs.Children.{missing_children, placed_child}
 use Rattle.rev_undotree.proofs.session.Session.child.Goals as goal
+
+pub find-requires-clause-fewer : goal.find-requires-clause-fewer
+find-requires-clause-fewer g c = kept_fewer _ _ _ _ _ _ _ c.self.invariant
 
 pub find-requires-clause-rises : goal.find-requires-clause-rises
 find-requires-clause-rises g c = kept_rises _ _ _ _ _ _ c.self.invariant

@@ -2,9 +2,12 @@ use Rattle.std.proofs.Common.{sym, refl, subst}
 use Rattle.rev_undotree.specs.Paths.{IsPath}
 use Rattle.rev_undotree.specs.Positions.{Proper}
 use Rattle.rev_undotree.proofs.Positions.{moved_kept}
-use Rattle.rev_undotree.proofs.Held.{placed_held, missing_held, kept_rises, went_state}
+use Rattle.rev_undotree.proofs.Held.{placed_held, missing_held, kept_rises, kept_fewer, went_state}
 use Rattle.rev_undotree.proofs.Trips.{depth_few, go_distance}
 use Rattle.rev_undotree.proofs.session.Session.go.Goals as goal
+
+pub find-requires-clause-fewer : goal.find-requires-clause-fewer
+find-requires-clause-fewer g c = kept_fewer _ _ _ _ _ _ _ c.self.invariant
 
 pub find-requires-clause-rises : goal.find-requires-clause-rises
 find-requires-clause-rises g c = kept_rises _ _ _ _ _ _ c.self.invariant

@@ -1,8 +1,12 @@
+use Rattle.std.proofs.Common.{arith}
 use Rattle.rev_undotree.proofs.Growth.{open_kept, open_state}
 use Rattle.rev_undotree.proofs.session.Session.open.Goals as goal
 
 pub invariant_of-result : goal.invariant_of-result
-invariant_of-result g c = open_kept c.args.store c.in-Ok.base c.new.result.items c.requires c.in-Ok.ensures c.new.ensures
+invariant_of-result g c = open_kept c.args.store c.in-Ok-root.base c.new-2.result.items c.requires c.in-Ok-root.ensures c.new-2.ensures
 
 pub returns-clause-ok : goal.returns-clause-ok
-returns-clause-ok g c = open_state c.args.store c.in-Ok.base c.new.result.items c.in-Ok.ensures c.new.ensures
+returns-clause-ok g c = open_state c.args.store c.in-Ok-root.base c.new-2.result.items c.in-Ok-root.ensures c.new-2.ensures
+
+pub new-requires-2 : goal.new-requires-2
+new-requires-2 g c = omega arith

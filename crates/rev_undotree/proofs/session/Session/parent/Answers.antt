@@ -1,7 +1,10 @@
-use Rattle.rev_undotree.proofs.Held.{kept_rises}
+use Rattle.rev_undotree.proofs.Held.{kept_rises, kept_fewer}
 use Rattle.rev_undotree.proofs.Machine.{kept_tree}
 use Rattle.rev_undotree.proofs.Trips.{placed_inside, placed_parent, missing_parent, path_below}
 use Rattle.rev_undotree.proofs.session.Session.parent.Goals as goal
+
+pub find-requires-clause-fewer : goal.find-requires-clause-fewer
+find-requires-clause-fewer g c = kept_fewer _ _ _ _ _ _ _ c.self.invariant
 
 pub find-requires-clause-rises : goal.find-requires-clause-rises
 find-requires-clause-rises g c = kept_rises _ _ _ _ _ _ c.self.invariant

@@ -1,7 +1,7 @@
 use Rattle.std.proofs.Common.{◌+◌, length, arith, ap, ◌∙◌, sym, refl, add-one, eqb}
 use Rattle.rev_undotree.specs.Steps.{outcome_of}
 use Rattle.rev_steps.specs.Plain.{plain_step}
-use Rattle.rev_undotree.proofs.Turns.{step_next, step_outcome, leads_applied}
+use Rattle.rev_undotree.proofs.Turns.{step_next, step_outcome, undoes_applied}
 use Rattle.rev_undotree.specs.Ways.{reach}
 use Rattle.rev_undotree.proofs.Positions.{stands_way, stands_at}
 use Rattle.rev_undotree.proofs.Growth.{kept_sound, length_rows, play_kept, play_state}
@@ -22,13 +22,13 @@ invariant_of-self-in-Ok-grow g c =
     let i = c.self.inside.position in
     let n = c.grow.new.self in
     play_kept _ i.store n.store i.base n.base i.way.items n.way.items i.here n.here c.self.inside.issued (c.self.inside.issued + 1) (plain_step c.args.step) c.self.invariant (let f = c.self.invariant.few in omega (arith, f)) (add-one c.self.inside.issued)
-    (eqb i.here (length (reach i.base i.way.items).run)) (c.in-Ok-grow.ensures.ok _ i.store c.self.invariant.stands (step_next _ _ _ _ c.in-Ok.ensures.step) (leads_applied _ _ _ c.in-Ok.ensures.sound (kept_sound _ _ _ _ _ _ c.self.invariant) c.in-Ok.ensures.leads) (step_outcome _ _ _ _ c.in-Ok.ensures.step))
+    (eqb i.here (length (reach i.base i.way.items).run)) (c.in-Ok-grow.ensures.ok _ i.store c.self.invariant.stands (step_next _ _ _ _ c.in-Ok.ensures.step) (undoes_applied _ _ _ _ _ c.in-Ok.ensures.sound (kept_sound _ _ _ _ _ _ c.self.invariant) c.in-Ok.ensures.step c.in-Ok.ensures.leads c.in-Ok.ensures.told) (step_outcome _ _ _ _ c.in-Ok.ensures.step))
 
 pub returns-in-Ok-grow-clause-ok : goal.returns-in-Ok-grow-clause-ok
 returns-in-Ok-grow-clause-ok g c =
     let i = c.self.inside.position in
     let n = c.grow.new.self in
-    let m = c.in-Ok-grow.ensures.ok _ i.store c.self.invariant.stands (step_next _ _ _ _ c.in-Ok.ensures.step) (leads_applied _ _ _ c.in-Ok.ensures.sound (kept_sound _ _ _ _ _ _ c.self.invariant) c.in-Ok.ensures.leads) (step_outcome _ _ _ _ c.in-Ok.ensures.step) in
+    let m = c.in-Ok-grow.ensures.ok _ i.store c.self.invariant.stands (step_next _ _ _ _ c.in-Ok.ensures.step) (undoes_applied _ _ _ _ _ c.in-Ok.ensures.sound (kept_sound _ _ _ _ _ _ c.self.invariant) c.in-Ok.ensures.step c.in-Ok.ensures.leads c.in-Ok.ensures.told) (step_outcome _ _ _ _ c.in-Ok.ensures.step) in
     let k = goes_on_is c.self.inside.issued i.base i.way.items i.here (kept_tree _ _ _ _ _ _ c.self.invariant) (kept_path _ _ _ _ _ _ c.self.invariant) c.self.invariant.proper in
     rw (← c.self.view_is) (play_state _ i.store n.store i.base n.base i.way.items n.way.items i.here n.here c.self.inside.issued (c.self.inside.issued + 1) (plain_step c.args.step) c.self.invariant (add-one c.self.inside.issued) (eqb i.here (length (reach i.base i.way.items).run)) _ k m)
 

@@ -2,9 +2,12 @@ use Rattle.std.proofs.Common.{refl, arith}
 use Rattle.std.proofs.lemmas.Bool.{false≢true}
 use Rattle.rev_undotree.proofs.Spots.{path_way}
 use Rattle.rev_undotree.proofs.Trips.{placed_inside}
-use Rattle.rev_undotree.proofs.Held.{kept_rises, placed_held, missing_held}
+use Rattle.rev_undotree.proofs.Held.{kept_rises, kept_fewer, placed_held, missing_held}
 use Rattle.rev_undotree.proofs.Prunes.{below_held, below_root, held_false, true_false, prune_kept, prune_state, on_path_below, off_path_below}
 use Rattle.rev_undotree.proofs.session.Session.prune.Goals as goal
+
+pub find-requires-clause-fewer : goal.find-requires-clause-fewer
+find-requires-clause-fewer g c = kept_fewer _ _ _ _ _ _ _ c.self.invariant
 
 pub find-requires-clause-rises : goal.find-requires-clause-rises
 find-requires-clause-rises g c = kept_rises _ _ _ _ _ _ c.self.invariant

@@ -1,9 +1,12 @@
 use Rattle.std.proofs.Common.{◌∙◌, arith, ◌-◌}
-use Rattle.rev_undotree.proofs.Held.{kept_rises}
+use Rattle.rev_undotree.proofs.Held.{kept_rises, kept_fewer}
 use Rattle.rev_undotree.proofs.Spots.{path_way, path_within}
 use Rattle.rev_undotree.proofs.Trips.{placed_inside, missing_row}
 use Rattle.rev_undotree.proofs.Outcomes.{placed_row, step_read, outcome_read}
 use Rattle.rev_undotree.proofs.session.Session.row.Goals as goal
+
+pub find-requires-clause-fewer : goal.find-requires-clause-fewer
+find-requires-clause-fewer g c = kept_fewer _ _ _ _ _ _ _ c.self.invariant
 
 pub find-requires-clause-rises : goal.find-requires-clause-rises
 find-requires-clause-rises g c = kept_rises _ _ _ _ _ _ c.self.invariant

@@ -1,0 +1,4 @@
+pub mod MoveLaws
+pub mod Nodes
+pub mod Climbs
+pub mod Searches

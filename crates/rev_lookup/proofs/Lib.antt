@@ -1,0 +1,2 @@
+mod Hitting
+mod Leaving

@@ -1,0 +1,12 @@
+use Rattle.std.specs.Prelude.{length}
+use Rattle.std.proofs.Common.{ap, arith}
+use Rattle.rev_model.specs.Undo.{leads_none}
+use Rattle.rev_moves.specs.Record.{PlainRecord}
+use Rattle.rev_maintainer.specs.Bumping.{need_most}
+use Rattle.rev_maintainer.proofs.bumping.bump.Goals as goal
+
+pub returns-clause-leads : goal.returns-clause-leads
+returns-clause-leads g c = c.bump_in-outcome.ensures.leads c.args.store.now (rw c.in_ok-undo.ensures (leads_none c.args.store.now))
+
+pub returns-clause-few : goal.returns-clause-few
+returns-clause-few g c = omega (arith, c.bump_in-outcome.ensures.made, need_most c.args.store.now, ap (λ (r : PlainRecord). length r.moves) c.in_ok-undo.ensures)

@@ -1,0 +1,5 @@
+use Rattle.rev_model.specs.Undo.{leads_none}
+use Rattle.rev_mover.proofs.finishing.finish.Goals as goal
+
+pub returns-clause-leads : goal.returns-clause-leads
+returns-clause-leads g c = c.hand_over.ensures.leads c.args.store.now (rw c.in_ok-undo.ensures (leads_none c.args.store.now))

@@ -1,0 +1,5 @@
+mod Digits
+mod Lives
+mod Renaming
+mod Plans
+mod Needs

@@ -1,0 +1,4 @@
+pub mod Numbers
+pub mod Living
+pub mod Rewriting
+pub mod Drafts
