@@ -1,5 +1,3 @@
 mod Digits
-mod Lives
-mod Renaming
 mod Plans
 mod Needs

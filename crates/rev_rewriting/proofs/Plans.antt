@@ -1,21 +1,21 @@
 -- That a draft of the key's live item is the plan to rewrite it, and that the plans are those of the commands.
-use Rattle.std.specs.Prelude.{ℕ, ◌≡◌, cond, List, [], ◌++◌, None, Some, Bool, true, false, refl}
+use Rattle.std.specs.Prelude.{ℕ, ◌≡◌, ◌<◌, cond, List, [], ◌++◌, Option, None, Some, length, Bool, true, false, refl}
 use Rattle.std.proofs.Common.{sym, ◌∙◌, ap, subst, IfOk, Result}
 use Rattle.std.proofs.lemmas.Result.{IfOk-weaker}
 use Rattle.std.specs.Fmt.{decimal}
 use Rattle.rev_items.specs.Plain.{PlainItem}
-use Rattle.rev_items.specs.Rules.{footprint_of}
-use Rattle.rev_model.specs.State.{State}
+use Rattle.rev_items.specs.Rules.{footprint, footprint_of}
+use Rattle.rev_classes.specs.Sizes.{class_from}
+use Rattle.rev_model.specs.State.{State, Fixed}
 use Rattle.rev_model.specs.Words.{class_of, new_item}
 use Rattle.rev_model.specs.declared.Outcome.{Outcome}
 use Rattle.rev_model.specs.declared.Outcome.TheVariants.{TooLarge, NotStored, NotFound, NotNumber, Stored, Number}
 use Rattle.rev_model.specs.Client.{Payload, Bytes, Skipped, Side, Sum, bytes_of, class_for, rewritten, rewritten_class, lookup, count_as, join, join_found, joined, count, count_found, is_number, digits_from, summed}
 use Rattle.rev_model.specs.Causes.{look_removals, rewrite_in_removals, rewritten_removals, rewrite_removals, join_removals, join_found_removals, count_removals, count_found_removals}
 use Rattle.rev_model.specs.Track.{Removal}
-use Rattle.rev_rewriting.proofs.Lives.{Lives}
+use Rattle.rev_rewriting.specs.Living.{Lives}
 use Rattle.rev_rewriting.specs.Numbers.{number_in}
-use Rattle.rev_rewriting.specs.Rewriting.{rewritten_in}
-use Rattle.rev_rewriting.proofs.Renaming.{rewritten_fits}
+use Rattle.rev_rewriting.specs.Rewriting.{rewritten_in, rewritten_fits}
 use Rattle.rev_rewriting.specs.Drafts.{Drafted, Renews, IsDraft, IsPlan}
 use Rattle.rev_rewriting.specs.declared.plan.Draft.{Draft}
 use Rattle.rev_rewriting.specs.declared.plan.Plan.{Plan}

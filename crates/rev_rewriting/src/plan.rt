@@ -1,5 +1,5 @@
-//! What a command is to do, planned before the first change, and the new item for it.
-ghost use Rattle.std.specs.Prelude.{◌≡◌, ◌+◌, ◌++◌, ◌≤◌, length, option_copied, IfOk};
+//! The new item, which is made before the step's first change.
+ghost use Rattle.std.specs.Prelude.{◌≡◌, ℕ, ◌+◌, ◌++◌, ◌≤◌, length, option_copied, None, Some, IfOk};
 ghost use Rattle.rev_model.specs.Client.{Bytes, join, count};
 ghost use Rattle.rev_model.specs.Sound.{Sound};
 ghost use Rattle.rev_requests.specs.Plain.{plain_payload, plain_side, plain_sum, amount};

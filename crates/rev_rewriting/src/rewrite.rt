@@ -1,4 +1,4 @@
-//! How a plan is carried out.
+//! What a plan is carried out by.
 ghost use Rattle.std.specs.Prelude.{◌≡◌, ◌≤◌, length, [], IfOk, OnOk, OnErr};
 ghost use Rattle.rev_model.specs.Sound.{Sound};
 ghost use Rattle.rev_model.specs.Undo.{LeadsBack};

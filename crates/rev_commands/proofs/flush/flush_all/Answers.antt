@@ -6,8 +6,7 @@ use Rattle.rev_model.specs.Client.{flush_at, flush_moment}
 use Rattle.rev_model.specs.declared.Globals.{Globals}
 use Rattle.rev_model.specs.declared.Outcome.TheVariants.{Okay}
 use Rattle.rev_changes.specs.Rest.{Rest, rest_of, sound_of}
-use Rattle.rev_commands.specs.Flushing.{flushed}
-use Rattle.rev_commands.proofs.Flushes.{flushed_at, rest-flushed}
+use Rattle.rev_commands.specs.Flushing.{flushed, flushed_at, rest-flushed}
 use Rattle.rev_commands.proofs.flush.flush_all.Goals as goal
 
 pub returns-clause-step : goal.returns-clause-step

@@ -2,7 +2,7 @@ use Rattle.std.specs.Prelude.{ℕ, List, ◌++◌}
 use Rattle.std.proofs.Common.{sym, ◌∙◌, ap}
 use Rattle.rev_model.specs.Client.{Bytes, Appends, Prepends, joined}
 use Rattle.rev_requests.specs.Plain.{plain_side, plain_payload}
-use Rattle.rev_rewriting.proofs.Lives.{lives}
+use Rattle.rev_rewriting.specs.Living.{lives}
 use Rattle.rev_rewriting.proofs.Plans.{joins_ok}
 use Rattle.rev_rewriting.proofs.plan.plan_join.Goals as goal
 
@@ -14,7 +14,7 @@ returns-in-Append g c =
     (ap (λ (v : List ℕ). Bytes (v ++ c.deref.result.now)) c.value.ensures
     ∙ ap (λ (v : List ℕ). Bytes (i.value ++ v)) c.deref.ensures.value
     ∙ sym (ap (λ d. joined (plain_side d) i.value (plain_payload c.args.payload.now)) c.in-Append.is
-    ∙ ap (λ p. joined Appends i.value (plain_payload p)) c.in-Bytes.is))
+      ∙ ap (λ p. joined Appends i.value (plain_payload p)) c.in-Bytes.is))
     c.plan_data.ensures
 
 pub returns-in-Prepend : goal.returns-in-Prepend
@@ -25,5 +25,5 @@ returns-in-Prepend g c =
     (ap (λ (v : List ℕ). Bytes (v ++ c.value-in-Prepend.result.now)) c.deref-in-Prepend.ensures.value
     ∙ ap (λ (v : List ℕ). Bytes (c.in-Bytes.bytes.items ++ v)) c.value-in-Prepend.ensures
     ∙ sym (ap (λ d. joined (plain_side d) i.value (plain_payload c.args.payload.now)) c.in-Prepend.is
-    ∙ ap (λ p. joined Prepends i.value (plain_payload p)) c.in-Bytes.is))
+      ∙ ap (λ p. joined Prepends i.value (plain_payload p)) c.in-Bytes.is))
     c.plan_data-in-Prepend.ensures
