@@ -11,7 +11,7 @@ use rev_items::Key;
 use rev_output::ToWrite;
 use rev_script::source::FromRead;
 use rev_shell::run::{RunFault, run};
-use rev_steps::{KeyCommand, StoreVerb};
+use rev_steps::{KeyCommand, Step, StoreVerb};
 use rev_undotree::{PlayFault, Session};
 use std::alloc::Global;
 use std::process::Abort;
@@ -70,7 +70,10 @@ static CASES: [Case; 5] = [
     },
     Case {
         name: "the first fork of the root",
-        before: &[Turn::Play(Command::Store(StoreVerb::Set, "a", 1)), Turn::Back],
+        before: &[
+            Turn::Play(Command::Store(StoreVerb::Set, "a", 1)),
+            Turn::Back,
+        ],
         command: Command::Store(StoreVerb::Set, "b", 1),
     },
     Case {
@@ -111,34 +114,62 @@ fn take_turn<'a>(
     }
 }
 
+// A session on which these turns were taken.
+fn session_after<'a>(heap: &'a LocalHeap, turns: &[Turn]) -> Result<Session<&'a LocalHeap>, Fail> {
+    let Ok(mut session) = Session::open(heap, Store::open(heap, SMALL)?) else {
+        return Err(Fail::new("no session"));
+    };
+    for turn in turns {
+        take_turn(heap, &mut session, *turn)?;
+    }
+    Ok(session)
+}
+
+// Why a play was refused, and whether the step that was handed back is as it was.
+fn refusal<'a>(
+    session: &mut Session<&'a LocalHeap>,
+    step: Step<&'a LocalHeap>,
+    like: &Step<&'a LocalHeap>,
+) -> Option<(PlayFault, bool)> {
+    match session.play(step) {
+        Ok(_) => None,
+        Err((fault, step)) => Some((fault, step.is_same(like))),
+    }
+}
+
+// Plays the command with so many bytes left, and tells the refusal.
+fn try_play<'a>(
+    alloc: Global,
+    heap: &'a LocalHeap,
+    session: &mut Session<&'a LocalHeap>,
+    command: Command,
+    left: usize,
+) -> Result<Option<(PlayFault, bool)>, Fail> {
+    let step = step_of(heap, command)?;
+    let like = step_of(heap, command)?;
+    let _ballast = fill(alloc, heap, left)?;
+    Ok(refusal(session, step, &like))
+}
+
 // Plays the case's command with so many bytes left. A session that was refused memory tells what it told before, and the
 // step is handed back.
 fn try_case<R: Abort>(rt: &R, alloc: Global, case: &Case, left: usize) -> Result<bool, Fail> {
     let heap = LocalHeap::new(alloc, BYTES)?;
-    let Ok(mut session) = Session::open(&heap, Store::open(&heap, SMALL)?) else {
-        return Err(Fail::new("no session"));
-    };
-    for turn in case.before {
-        take_turn(&heap, &mut session, *turn)?;
-    }
-    let step = step_of(&heap, case.command)?;
-    let same = step_of(&heap, case.command)?;
+    let mut session = session_after(&heap, case.before)?;
     let before = session_picture(alloc, &session)?;
-    let ballast = fill(alloc, &heap, left)?;
-    let played = session.play(step);
-    drop(ballast);
+    let refusal = try_play(alloc, &heap, &mut session, case.command, left)?;
     let after = session_picture(alloc, &session)?;
     let name = case.name;
     let is_same = before.is_same(&after);
-    match played {
-        Ok(_) => {
-            assert!(rt; !is_same, "{name}: {left} bytes left");
-            Ok(true)
-        }
-        Err((fault, step)) => {
-            assert!(rt; is_same, "{name}: {left} bytes left");
-            assert_eq!(rt; fault, PlayFault::Memory, "{name}: {left} bytes left");
-            assert!(rt; step.is_same(&same), "{name}: {left} bytes left");
+    assert!(rt; is_same == refusal.is_some(), "{name}: {left} bytes left");
+    match refusal {
+        None => Ok(true),
+        Some(refusal) => {
+            assert_eq!(rt;
+                refusal,
+                (PlayFault::Memory, true),
+                "{name}: {left} bytes left"
+            );
             Ok(false)
         }
     }
@@ -167,27 +198,30 @@ static LIFE: [Turn; 3] = [
     Turn::Play(Command::Keyed(KeyCommand::Delete, "a")),
 ];
 
+// How many events the story has, asked for with so many bytes left.
+fn story_length<'a>(
+    alloc: Global,
+    heap: &'a LocalHeap,
+    session: &Session<&'a LocalHeap>,
+    left: usize,
+) -> Result<Option<usize>, Fail> {
+    let key = Key::new(heap, b"a")?;
+    let _ballast = fill(alloc, heap, left)?;
+    match story(session, &key) {
+        Ok(events) => Ok(Some(events.len())),
+        Err(_) => Ok(None),
+    }
+}
+
 // Asks for the story with so many bytes left.
 fn try_story<R: Abort>(rt: &R, alloc: Global, left: usize) -> Result<bool, Fail> {
     let heap = LocalHeap::new(alloc, BYTES)?;
-    let Ok(mut session) = Session::open(&heap, Store::open(&heap, SMALL)?) else {
-        return Err(Fail::new("no session"));
-    };
-    for turn in &LIFE {
-        take_turn(&heap, &mut session, *turn)?;
-    }
-    let key = Key::new(&heap, b"a")?;
-    let _ballast = fill(alloc, &heap, left)?;
-    match story(&session, &key) {
-        Ok(events) => {
-            assert_eq!(rt; events.len(), LIFE.len());
-            Ok(true)
-        }
-        Err(_) => {
-            assert_eq!(rt; heap.free(), left);
-            Ok(false)
-        }
-    }
+    let session = session_after(&heap, &LIFE)?;
+    let free = heap.free();
+    let length = story_length(alloc, &heap, &session, left)?;
+    assert_eq!(rt; heap.free(), free);
+    assert_eq!(rt; length.unwrap_or(LIFE.len()), LIFE.len());
+    Ok(length.is_some())
 }
 
 #[test]

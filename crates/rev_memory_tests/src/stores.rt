@@ -1,5 +1,5 @@
 //! A store that is opened, and steps that are applied to one.
-ghost use Rattle.std.specs.Prelude.{OnOk};
+ghost use Rattle.std.specs.Prelude.{OnOk, IfOk};
 ghost use Rattle.rev_model.specs.Sound.{Sound};
 
 use crate::heap::{BYTES, UNIT, fill};
@@ -180,7 +180,10 @@ static CASES: [Case; 29] = [
     Case {
         name: "a delete",
         pages: 1,
-        before: &[Command::Store(StoreVerb::Set, "b", 1), Command::Store(StoreVerb::Set, "a", 1)],
+        before: &[
+            Command::Store(StoreVerb::Set, "b", 1),
+            Command::Store(StoreVerb::Set, "a", 1),
+        ],
         command: Command::Keyed(KeyCommand::Delete, "a"),
     },
     Case {
@@ -192,13 +195,27 @@ static CASES: [Case; 29] = [
     Case {
         name: "a pull",
         pages: 1,
-        before: &[Command::Store(StoreVerb::Set, "a", 1), Command::Store(StoreVerb::Set, "b", 1)],
-        command: Command::Actor(ActorStep::Pull { class: 1, queue: Queue::Hot }),
+        before: &[
+            Command::Store(StoreVerb::Set, "a", 1),
+            Command::Store(StoreVerb::Set, "b", 1),
+        ],
+        command: Command::Actor(ActorStep::Pull {
+            class: 1,
+            queue: Queue::Hot,
+        }),
     },
     Case {
         name: "a bump",
         pages: 1,
-        before: &[Command::Store(StoreVerb::Set, "a", 1), Command::Actor(ActorStep::Pull { class: 1, queue: Queue::Hot }), Command::Keyed(KeyCommand::Get, "a"), Command::Keyed(KeyCommand::Get, "a")],
+        before: &[
+            Command::Store(StoreVerb::Set, "a", 1),
+            Command::Actor(ActorStep::Pull {
+                class: 1,
+                queue: Queue::Hot,
+            }),
+            Command::Keyed(KeyCommand::Get, "a"),
+            Command::Keyed(KeyCommand::Get, "a"),
+        ],
         command: Command::Actor(ActorStep::Bump),
     },
     Case {
@@ -210,31 +227,68 @@ static CASES: [Case; 29] = [
     Case {
         name: "a crawl",
         pages: 1,
-        before: &[Command::Store(StoreVerb::Set, "a", 1), Command::Actor(ActorStep::StartCrawl(ClassSet::All))],
-        command: Command::Actor(ActorStep::Crawl { class: 1, queue: Queue::Hot }),
+        before: &[
+            Command::Store(StoreVerb::Set, "a", 1),
+            Command::Actor(ActorStep::StartCrawl(ClassSet::All)),
+        ],
+        command: Command::Actor(ActorStep::Crawl {
+            class: 1,
+            queue: Queue::Hot,
+        }),
     },
     Case {
         name: "a page move's start",
         pages: 2,
-        before: &[Command::Store(StoreVerb::Set, "a", 964), Command::Store(StoreVerb::Set, "b", 964)],
-        command: Command::Actor(ActorStep::Reassign { source: 11, target: 1 }),
+        before: &[
+            Command::Store(StoreVerb::Set, "a", 964),
+            Command::Store(StoreVerb::Set, "b", 964),
+        ],
+        command: Command::Actor(ActorStep::Reassign {
+            source: 11,
+            target: 1,
+        }),
     },
     Case {
         name: "an advance that rescues an item",
         pages: 2,
-        before: &[Command::Store(StoreVerb::Set, "a", 150), Command::Store(StoreVerb::Set, "b", 150), Command::Store(StoreVerb::Set, "c", 150), Command::Store(StoreVerb::Set, "d", 150), Command::Store(StoreVerb::Set, "e", 150), Command::Actor(ActorStep::Reassign { source: 5, target: 1 })],
+        before: &[
+            Command::Store(StoreVerb::Set, "a", 150),
+            Command::Store(StoreVerb::Set, "b", 150),
+            Command::Store(StoreVerb::Set, "c", 150),
+            Command::Store(StoreVerb::Set, "d", 150),
+            Command::Store(StoreVerb::Set, "e", 150),
+            Command::Actor(ActorStep::Reassign {
+                source: 5,
+                target: 1,
+            }),
+        ],
         command: Command::Actor(ActorStep::Advance),
     },
     Case {
         name: "an advance that evicts an item",
         pages: 2,
-        before: &[Command::Store(StoreVerb::Set, "a", 964), Command::Store(StoreVerb::Set, "b", 964), Command::Actor(ActorStep::Reassign { source: 11, target: 1 })],
+        before: &[
+            Command::Store(StoreVerb::Set, "a", 964),
+            Command::Store(StoreVerb::Set, "b", 964),
+            Command::Actor(ActorStep::Reassign {
+                source: 11,
+                target: 1,
+            }),
+        ],
         command: Command::Actor(ActorStep::Advance),
     },
     Case {
         name: "the last advance, which lays the page",
         pages: 2,
-        before: &[Command::Store(StoreVerb::Set, "a", 964), Command::Store(StoreVerb::Set, "b", 964), Command::Actor(ActorStep::Reassign { source: 11, target: 1 }), Command::Actor(ActorStep::Advance)],
+        before: &[
+            Command::Store(StoreVerb::Set, "a", 964),
+            Command::Store(StoreVerb::Set, "b", 964),
+            Command::Actor(ActorStep::Reassign {
+                source: 11,
+                target: 1,
+            }),
+            Command::Actor(ActorStep::Advance),
+        ],
         command: Command::Actor(ActorStep::Advance),
     },
     Case {
@@ -280,25 +334,48 @@ fn has_applied<A: Allocator + Clone>(store: &mut Store<A>, step: &Step<A>) -> bo
     }
 }
 
+// Applies the command with so many bytes left, and tells whether there was memory for it.
+fn try_apply<'a>(
+    alloc: Global,
+    heap: &'a LocalHeap,
+    store: &mut Store<&'a LocalHeap>,
+    command: Command,
+    left: usize,
+) -> Result<bool, Fail>
+    requires { Sound store.old }
+    ensures { OnOk result (Sound store.new) }
+{
+    let step = step_of(heap, command)?;
+    let _ballast = fill(alloc, heap, left)?;
+    Ok(has_applied(store, &step))
+}
+
+// A store to which these commands were applied.
+fn store_after<'a>(
+    heap: &'a LocalHeap,
+    pages: u32,
+    commands: &[Command],
+) -> Result<Store<&'a LocalHeap>, Fail>
+    ensures { IfOk result (λ store. Sound store) }
+{
+    let config = Config { pages, ..SMALL };
+    let mut store = Store::open(heap, config)?;
+    prepare(&mut store, commands)?;
+    Ok(store)
+}
+
 // Applies the case's command with so many bytes left. A store that was refused memory tells what it told before.
 fn try_case<R: Abort>(rt: &R, alloc: Global, case: &Case, left: usize) -> Result<bool, Fail> {
     let heap = LocalHeap::new(alloc, BYTES)?;
-    let config = Config {
-        pages: case.pages,
-        ..SMALL
-    };
-    let mut store = Store::open(&heap, config)?;
-    prepare(&mut store, case.before)?;
-    let step = step_of(&heap, case.command)?;
+    let mut store = store_after(&heap, case.pages, case.before)?;
     let before = picture_of(alloc, &store)?;
-    let ballast = fill(alloc, &heap, left)?;
-    let is_done = has_applied(&mut store, &step);
-    if !is_done {
-        assert_eq!(rt; heap.free(), left);
-    }
-    drop(ballast);
-    let after = picture_of(alloc, &store)?;
+    let free = heap.free();
+    let is_done = try_apply(alloc, &heap, &mut store, case.command, left)?;
     let name = case.name;
+    if !is_done {
+        assert_eq!(rt; heap.free(), free, "{name}: {left} bytes left");
+    }
+    let after = picture_of(alloc, &store)?;
     let is_same = before.is_same(&after);
     assert!(rt; is_same != is_done, "{name}: {left} bytes left");
     Ok(is_done)

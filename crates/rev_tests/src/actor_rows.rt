@@ -14,10 +14,16 @@ pub static ROOM: [Row; 3] = [
             sets!("set e 0 0 150", 150, STORED),
             says!(":queue 5 hot", "QUEUE =e =d =c =b\r\n"),
             says!(":why a", "LEFT 5 evicted\r\n"),
-            says!(":counters 5", "COUNTERS evicted 1 reclaimed 0 crawler_reclaimed 0 outofmemory 0 moves_to_cold 1 moves_to_warm 0 moves_within_lru 0\r\n"),
+            says!(
+                ":counters 5",
+                "COUNTERS evicted 1 reclaimed 0 crawler_reclaimed 0 outofmemory 0 moves_to_cold 1 moves_to_warm 0 moves_within_lru 0\r\n"
+            ),
             says!(":back", "NODE 4\r\n"),
             says!(":queue 5 hot", "QUEUE =d =c =b =a\r\n"),
-            says!(":counters 5", "COUNTERS evicted 0 reclaimed 0 crawler_reclaimed 0 outofmemory 0 moves_to_cold 0 moves_to_warm 0 moves_within_lru 0\r\n"),
+            says!(
+                ":counters 5",
+                "COUNTERS evicted 0 reclaimed 0 crawler_reclaimed 0 outofmemory 0 moves_to_cold 0 moves_to_warm 0 moves_within_lru 0\r\n"
+            ),
             says!(":why a", "PRESENT\r\n"),
         ],
         ..ROW
@@ -30,7 +36,10 @@ pub static ROOM: [Row; 3] = [
             sets!("set b 0 0 150", 150, STORED),
             sets!("set c 0 0 150", 150, STORED),
             sets!("set d 0 0 150", 150, STORED),
-            says!("get a a", "VALUE a 0 150\r\nxxxxxxxxxxxxxxxxxxxxxxxxxxxxxxxxxxxxxxxxxxxxxxxxxxxxxxxxxxxxxxxxxxxxxxxxxxxxxxxxxxxxxxxxxxxxxxxxxxxxxxxxxxxxxxxxxxxxxxxxxxxxxxxxxxxxxxxxxxxxxxxxxxxxxx\r\nVALUE a 0 150\r\nxxxxxxxxxxxxxxxxxxxxxxxxxxxxxxxxxxxxxxxxxxxxxxxxxxxxxxxxxxxxxxxxxxxxxxxxxxxxxxxxxxxxxxxxxxxxxxxxxxxxxxxxxxxxxxxxxxxxxxxxxxxxxxxxxxxxxxxxxxxxxxxxxxxxxx\r\nEND\r\n"),
+            says!(
+                "get a a",
+                "VALUE a 0 150\r\nxxxxxxxxxxxxxxxxxxxxxxxxxxxxxxxxxxxxxxxxxxxxxxxxxxxxxxxxxxxxxxxxxxxxxxxxxxxxxxxxxxxxxxxxxxxxxxxxxxxxxxxxxxxxxxxxxxxxxxxxxxxxxxxxxxxxxxxxxxxxxxxxxxxxxx\r\nVALUE a 0 150\r\nxxxxxxxxxxxxxxxxxxxxxxxxxxxxxxxxxxxxxxxxxxxxxxxxxxxxxxxxxxxxxxxxxxxxxxxxxxxxxxxxxxxxxxxxxxxxxxxxxxxxxxxxxxxxxxxxxxxxxxxxxxxxxxxxxxxxxxxxxxxxxxxxxxxxxx\r\nEND\r\n"
+            ),
             sets!("set e 0 0 150", 150, STORED),
             says!(":queue 5 hot", "QUEUE =e =d =c\r\n"),
             says!(":item a", "ITEM a 5 warm 0 0 1 1 F 150\r\n"),
@@ -59,34 +68,48 @@ pub static ROOM: [Row; 3] = [
 ];
 
 /// The ten rounds of room.
-pub static ROUNDS: [Row; 1] = [
-    Row {
-        name: "ten rounds of room move ten items and find no chunk",
-        pages: 1,
-        exchanges: &[
-            sets!("set k0 0 0 1", 1, STORED),
-            sets!("set k1 0 0 1", 1, STORED),
-            sets!("set k2 0 0 1", 1, STORED),
-            sets!("set k3 0 0 1", 1, STORED),
-            sets!("set k4 0 0 1", 1, STORED),
-            sets!("set k5 0 0 1", 1, STORED),
-            sets!("set k6 0 0 1", 1, STORED),
-            sets!("set k7 0 0 1", 1, STORED),
-            sets!("set k8 0 0 1", 1, STORED),
-            sets!("set k9 0 0 1", 1, STORED),
-            says!("get k0 k0 k1 k1 k2 k2 k3 k3 k4 k4 k5 k5 k6 k6 k7 k7 k8 k8 k9 k9", "VALUE k0 0 1\r\nx\r\nVALUE k0 0 1\r\nx\r\nVALUE k1 0 1\r\nx\r\nVALUE k1 0 1\r\nx\r\nVALUE k2 0 1\r\nx\r\nVALUE k2 0 1\r\nx\r\nVALUE k3 0 1\r\nx\r\nVALUE k3 0 1\r\nx\r\nVALUE k4 0 1\r\nx\r\nVALUE k4 0 1\r\nx\r\nVALUE k5 0 1\r\nx\r\nVALUE k5 0 1\r\nx\r\nVALUE k6 0 1\r\nx\r\nVALUE k6 0 1\r\nx\r\nVALUE k7 0 1\r\nx\r\nVALUE k7 0 1\r\nx\r\nVALUE k8 0 1\r\nx\r\nVALUE k8 0 1\r\nx\r\nVALUE k9 0 1\r\nx\r\nVALUE k9 0 1\r\nx\r\nEND\r\n"),
-            sets!("set ka 0 0 1", 1, "SERVER_ERROR out of memory storing object\r\n"),
-            says!(":at", "NODE 31\r\n"),
-            says!(":queue 1 warm", "QUEUE =k9 =k8 =k7 =k6 =k5 =k4 =k3 =k2 =k1 =k0\r\n"),
-            says!(":counters 1", "COUNTERS evicted 0 reclaimed 0 crawler_reclaimed 0 outofmemory 1 moves_to_cold 0 moves_to_warm 10 moves_within_lru 0\r\n"),
-            says!(":back", "NODE 30\r\n"),
-            says!(":queue 1 hot", "QUEUE =k9 =k8 =k7 =k6 =k5 =k4 =k3 =k2 =k1 =k0\r\n"),
-            says!(":queue 1 warm", "QUEUE\r\n"),
-            says!(":item k0", "ITEM k0 1 hot 0 0 1 1 FA 1\r\n"),
-        ],
-        ..ROW
-    },
-];
+pub static ROUNDS: [Row; 1] = [Row {
+    name: "ten rounds of room move ten items and find no chunk",
+    pages: 1,
+    exchanges: &[
+        sets!("set k0 0 0 1", 1, STORED),
+        sets!("set k1 0 0 1", 1, STORED),
+        sets!("set k2 0 0 1", 1, STORED),
+        sets!("set k3 0 0 1", 1, STORED),
+        sets!("set k4 0 0 1", 1, STORED),
+        sets!("set k5 0 0 1", 1, STORED),
+        sets!("set k6 0 0 1", 1, STORED),
+        sets!("set k7 0 0 1", 1, STORED),
+        sets!("set k8 0 0 1", 1, STORED),
+        sets!("set k9 0 0 1", 1, STORED),
+        says!(
+            "get k0 k0 k1 k1 k2 k2 k3 k3 k4 k4 k5 k5 k6 k6 k7 k7 k8 k8 k9 k9",
+            "VALUE k0 0 1\r\nx\r\nVALUE k0 0 1\r\nx\r\nVALUE k1 0 1\r\nx\r\nVALUE k1 0 1\r\nx\r\nVALUE k2 0 1\r\nx\r\nVALUE k2 0 1\r\nx\r\nVALUE k3 0 1\r\nx\r\nVALUE k3 0 1\r\nx\r\nVALUE k4 0 1\r\nx\r\nVALUE k4 0 1\r\nx\r\nVALUE k5 0 1\r\nx\r\nVALUE k5 0 1\r\nx\r\nVALUE k6 0 1\r\nx\r\nVALUE k6 0 1\r\nx\r\nVALUE k7 0 1\r\nx\r\nVALUE k7 0 1\r\nx\r\nVALUE k8 0 1\r\nx\r\nVALUE k8 0 1\r\nx\r\nVALUE k9 0 1\r\nx\r\nVALUE k9 0 1\r\nx\r\nEND\r\n"
+        ),
+        sets!(
+            "set ka 0 0 1",
+            1,
+            "SERVER_ERROR out of memory storing object\r\n"
+        ),
+        says!(":at", "NODE 31\r\n"),
+        says!(
+            ":queue 1 warm",
+            "QUEUE =k9 =k8 =k7 =k6 =k5 =k4 =k3 =k2 =k1 =k0\r\n"
+        ),
+        says!(
+            ":counters 1",
+            "COUNTERS evicted 0 reclaimed 0 crawler_reclaimed 0 outofmemory 1 moves_to_cold 0 moves_to_warm 10 moves_within_lru 0\r\n"
+        ),
+        says!(":back", "NODE 30\r\n"),
+        says!(
+            ":queue 1 hot",
+            "QUEUE =k9 =k8 =k7 =k6 =k5 =k4 =k3 =k2 =k1 =k0\r\n"
+        ),
+        says!(":queue 1 warm", "QUEUE\r\n"),
+        says!(":item k0", "ITEM k0 1 hot 0 0 1 1 FA 1\r\n"),
+    ],
+    ..ROW
+}];
 
 /// The page mover.
 pub static MOVER: [Row; 3] = [
@@ -110,7 +133,10 @@ pub static MOVER: [Row; 3] = [
             says!("~move", "EVICTED\r\n"),
             says!("~move", "FINISHED\r\n"),
             says!(":pages", "PAGE 0 1\r\nPAGE 1 5\r\nEND\r\n"),
-            says!(":free 1", "FREE 0:9 0:8 0:7 0:6 0:5 0:4 0:3 0:2 0:1 0:0\r\n"),
+            says!(
+                ":free 1",
+                "FREE 0:9 0:8 0:7 0:6 0:5 0:4 0:3 0:2 0:1 0:0\r\n"
+            ),
             says!(":why c", "LEFT 10 evicted_by_mover\r\n"),
             says!(":go 8", "NODE 8 TURNS 5\r\n"),
             says!(":chunk d", "CHUNK 0:0\r\n"),
@@ -122,7 +148,10 @@ pub static MOVER: [Row; 3] = [
             says!(":back", "NODE 8\r\n"),
             says!(":chunk d", "CHUNK 0:0\r\n"),
             says!(":queue 5 hot", "QUEUE =g =f =e =d =c =b =a\r\n"),
-            says!(":globals", "GLOBALS now 1 cas 7 mark 0 flush - mover 5,1,0,0 bump 0\r\n"),
+            says!(
+                ":globals",
+                "GLOBALS now 1 cas 7 mark 0 flush - mover 5,1,0,0 bump 0\r\n"
+            ),
         ],
         ..ROW
     },
@@ -170,7 +199,10 @@ pub static MOVER: [Row; 3] = [
             says!("slabs reassign 5 1", "OK\r\n"),
             says!("slabs reassign 5 1", "BUSY\r\n"),
             says!("slabs reassign 5 5", "BUSY\r\n"),
-            says!(":globals", "GLOBALS now 1 cas 5 mark 0 flush - mover 5,1,0,0 bump 0\r\n"),
+            says!(
+                ":globals",
+                "GLOBALS now 1 cas 5 mark 0 flush - mover 5,1,0,0 bump 0\r\n"
+            ),
         ],
         ..ROW
     },
@@ -186,17 +218,29 @@ pub static BUMP: [Row; 2] = [
             sets!("set b 0 0 150", 150, STORED),
             says!("~pull 5 hot", "MOVED\r\n"),
             says!("~pull 5 hot", "MOVED\r\n"),
-            says!("get a a b b", "VALUE a 0 150\r\nxxxxxxxxxxxxxxxxxxxxxxxxxxxxxxxxxxxxxxxxxxxxxxxxxxxxxxxxxxxxxxxxxxxxxxxxxxxxxxxxxxxxxxxxxxxxxxxxxxxxxxxxxxxxxxxxxxxxxxxxxxxxxxxxxxxxxxxxxxxxxxxxxxxxxx\r\nVALUE a 0 150\r\nxxxxxxxxxxxxxxxxxxxxxxxxxxxxxxxxxxxxxxxxxxxxxxxxxxxxxxxxxxxxxxxxxxxxxxxxxxxxxxxxxxxxxxxxxxxxxxxxxxxxxxxxxxxxxxxxxxxxxxxxxxxxxxxxxxxxxxxxxxxxxxxxxxxxxx\r\nVALUE b 0 150\r\nxxxxxxxxxxxxxxxxxxxxxxxxxxxxxxxxxxxxxxxxxxxxxxxxxxxxxxxxxxxxxxxxxxxxxxxxxxxxxxxxxxxxxxxxxxxxxxxxxxxxxxxxxxxxxxxxxxxxxxxxxxxxxxxxxxxxxxxxxxxxxxxxxxxxxx\r\nVALUE b 0 150\r\nxxxxxxxxxxxxxxxxxxxxxxxxxxxxxxxxxxxxxxxxxxxxxxxxxxxxxxxxxxxxxxxxxxxxxxxxxxxxxxxxxxxxxxxxxxxxxxxxxxxxxxxxxxxxxxxxxxxxxxxxxxxxxxxxxxxxxxxxxxxxxxxxxxxxxx\r\nEND\r\n"),
+            says!(
+                "get a a b b",
+                "VALUE a 0 150\r\nxxxxxxxxxxxxxxxxxxxxxxxxxxxxxxxxxxxxxxxxxxxxxxxxxxxxxxxxxxxxxxxxxxxxxxxxxxxxxxxxxxxxxxxxxxxxxxxxxxxxxxxxxxxxxxxxxxxxxxxxxxxxxxxxxxxxxxxxxxxxxxxxxxxxxx\r\nVALUE a 0 150\r\nxxxxxxxxxxxxxxxxxxxxxxxxxxxxxxxxxxxxxxxxxxxxxxxxxxxxxxxxxxxxxxxxxxxxxxxxxxxxxxxxxxxxxxxxxxxxxxxxxxxxxxxxxxxxxxxxxxxxxxxxxxxxxxxxxxxxxxxxxxxxxxxxxxxxxx\r\nVALUE b 0 150\r\nxxxxxxxxxxxxxxxxxxxxxxxxxxxxxxxxxxxxxxxxxxxxxxxxxxxxxxxxxxxxxxxxxxxxxxxxxxxxxxxxxxxxxxxxxxxxxxxxxxxxxxxxxxxxxxxxxxxxxxxxxxxxxxxxxxxxxxxxxxxxxxxxxxxxxx\r\nVALUE b 0 150\r\nxxxxxxxxxxxxxxxxxxxxxxxxxxxxxxxxxxxxxxxxxxxxxxxxxxxxxxxxxxxxxxxxxxxxxxxxxxxxxxxxxxxxxxxxxxxxxxxxxxxxxxxxxxxxxxxxxxxxxxxxxxxxxxxxxxxxxxxxxxxxxxxxxxxxxx\r\nEND\r\n"
+            ),
             says!(":item a", "ITEM a 5 cold 0 0 1 1 FA 150\r\n"),
             says!(":item b", "ITEM b 5 cold 0 0 1 2 F 150\r\n"),
             says!("~bump", "MOVED\r\n"),
             says!(":queue 5 warm", "QUEUE =a\r\n"),
-            says!("get b", "VALUE b 0 150\r\nxxxxxxxxxxxxxxxxxxxxxxxxxxxxxxxxxxxxxxxxxxxxxxxxxxxxxxxxxxxxxxxxxxxxxxxxxxxxxxxxxxxxxxxxxxxxxxxxxxxxxxxxxxxxxxxxxxxxxxxxxxxxxxxxxxxxxxxxxxxxxxxxxxxxxx\r\nEND\r\n"),
+            says!(
+                "get b",
+                "VALUE b 0 150\r\nxxxxxxxxxxxxxxxxxxxxxxxxxxxxxxxxxxxxxxxxxxxxxxxxxxxxxxxxxxxxxxxxxxxxxxxxxxxxxxxxxxxxxxxxxxxxxxxxxxxxxxxxxxxxxxxxxxxxxxxxxxxxxxxxxxxxxxxxxxxxxxxxxxxxxx\r\nEND\r\n"
+            ),
             says!("delete b", "DELETED\r\n"),
             says!("~bump", "IDLE\r\n"),
-            says!(":globals", "GLOBALS now 1 cas 2 mark 0 flush - mover - bump 0\r\n"),
+            says!(
+                ":globals",
+                "GLOBALS now 1 cas 2 mark 0 flush - mover - bump 0\r\n"
+            ),
             says!(":back", "NODE 11\r\n"),
-            says!(":globals", "GLOBALS now 1 cas 2 mark 0 flush - mover - bump 1\r\n"),
+            says!(
+                ":globals",
+                "GLOBALS now 1 cas 2 mark 0 flush - mover - bump 1\r\n"
+            ),
         ],
         ..ROW
     },
@@ -206,7 +250,10 @@ pub static BUMP: [Row; 2] = [
             sets!("set a 0 0 150", 150, STORED),
             sets!("set b 0 0 150", 150, STORED),
             sets!("set c 0 0 150", 150, STORED),
-            says!("get a a", "VALUE a 0 150\r\nxxxxxxxxxxxxxxxxxxxxxxxxxxxxxxxxxxxxxxxxxxxxxxxxxxxxxxxxxxxxxxxxxxxxxxxxxxxxxxxxxxxxxxxxxxxxxxxxxxxxxxxxxxxxxxxxxxxxxxxxxxxxxxxxxxxxxxxxxxxxxxxxxxxxxx\r\nVALUE a 0 150\r\nxxxxxxxxxxxxxxxxxxxxxxxxxxxxxxxxxxxxxxxxxxxxxxxxxxxxxxxxxxxxxxxxxxxxxxxxxxxxxxxxxxxxxxxxxxxxxxxxxxxxxxxxxxxxxxxxxxxxxxxxxxxxxxxxxxxxxxxxxxxxxxxxxxxxxx\r\nEND\r\n"),
+            says!(
+                "get a a",
+                "VALUE a 0 150\r\nxxxxxxxxxxxxxxxxxxxxxxxxxxxxxxxxxxxxxxxxxxxxxxxxxxxxxxxxxxxxxxxxxxxxxxxxxxxxxxxxxxxxxxxxxxxxxxxxxxxxxxxxxxxxxxxxxxxxxxxxxxxxxxxxxxxxxxxxxxxxxxxxxxxxxx\r\nVALUE a 0 150\r\nxxxxxxxxxxxxxxxxxxxxxxxxxxxxxxxxxxxxxxxxxxxxxxxxxxxxxxxxxxxxxxxxxxxxxxxxxxxxxxxxxxxxxxxxxxxxxxxxxxxxxxxxxxxxxxxxxxxxxxxxxxxxxxxxxxxxxxxxxxxxxxxxxxxxxx\r\nEND\r\n"
+            ),
             says!("~pull 5 hot", "MOVED\r\n"),
             says!("~pull 5 warm", "IDLE\r\n"),
             says!("@ 10", "OK\r\n"),
@@ -268,7 +315,10 @@ pub static CRAWLER: [Row; 3] = [
             sets!("set b 0 -1 1", 1, STORED),
             says!("lru_crawler crawl 1", "OK\r\n"),
             says!("~crawl 1 hot", "RECLAIMED\r\n"),
-            says!(":counters 1", "COUNTERS evicted 0 reclaimed 0 crawler_reclaimed 1 outofmemory 0 moves_to_cold 0 moves_to_warm 0 moves_within_lru 0\r\n"),
+            says!(
+                ":counters 1",
+                "COUNTERS evicted 0 reclaimed 0 crawler_reclaimed 1 outofmemory 0 moves_to_cold 0 moves_to_warm 0 moves_within_lru 0\r\n"
+            ),
             says!("~crawl 1 hot", "ENDED\r\n"),
             says!(":item b", "NOITEM\r\n"),
             says!("~crawl 99 hot", "BADCLASS\r\n"),
@@ -311,8 +361,14 @@ pub static TIME: [Row; 3] = [
             says!("~pull 1 temp", "IDLE\r\n"),
             says!("@ 60", "OK\r\n"),
             says!("~pull 1 temp", "RECLAIMED\r\n"),
-            says!(":story a", "1 stored 1 temp\r\n7 left reclaimed_by_pull\r\nEND\r\n"),
-            says!(":counters 1", "COUNTERS evicted 0 reclaimed 1 crawler_reclaimed 0 outofmemory 0 moves_to_cold 0 moves_to_warm 0 moves_within_lru 0\r\n"),
+            says!(
+                ":story a",
+                "1 stored 1 temp\r\n7 left reclaimed_by_pull\r\nEND\r\n"
+            ),
+            says!(
+                ":counters 1",
+                "COUNTERS evicted 0 reclaimed 1 crawler_reclaimed 0 outofmemory 0 moves_to_cold 0 moves_to_warm 0 moves_within_lru 0\r\n"
+            ),
         ],
         ..ROW
     },
@@ -321,15 +377,24 @@ pub static TIME: [Row; 3] = [
         exchanges: &[
             sets!("set a 0 0 1", 1, STORED),
             says!("flush_all 10", "OK\r\n"),
-            says!(":globals", "GLOBALS now 1 cas 1 mark 0 flush 11 mover - bump 0\r\n"),
+            says!(
+                ":globals",
+                "GLOBALS now 1 cas 1 mark 0 flush 11 mover - bump 0\r\n"
+            ),
             says!("@ 10", "OK\r\n"),
             says!("get a", "VALUE a 0 1\r\nx\r\nEND\r\n"),
             says!("@ 11", "OK\r\n"),
             says!("get a", "END\r\n"),
-            says!(":globals", "GLOBALS now 11 cas 1 mark 1 flush - mover - bump 0\r\n"),
+            says!(
+                ":globals",
+                "GLOBALS now 11 cas 1 mark 1 flush - mover - bump 0\r\n"
+            ),
             says!(":back", "NODE 5\r\n"),
             says!(":back", "NODE 4\r\n"),
-            says!(":globals", "GLOBALS now 10 cas 1 mark 0 flush 11 mover - bump 0\r\n"),
+            says!(
+                ":globals",
+                "GLOBALS now 10 cas 1 mark 0 flush 11 mover - bump 0\r\n"
+            ),
         ],
         ..ROW
     },
@@ -359,7 +424,11 @@ pub static STORING: [Row; 4] = [
             says!(":item a", "ITEM a 1 hot 3 0 1 1 - 1\r\n"),
             sets!("replace a 5 0 2", 2, STORED),
             says!(":item a", "ITEM a 1 hot 5 0 1 2 - 2\r\n"),
-            sets!("add a 0 0 965", 965, "SERVER_ERROR object too large for cache\r\n"),
+            sets!(
+                "add a 0 0 965",
+                965,
+                "SERVER_ERROR object too large for cache\r\n"
+            ),
             says!(":item a", "ITEM a 1 hot 5 0 1 2 - 2\r\n"),
             says!(":back", "NODE 4\r\n"),
             says!(":back", "NODE 3\r\n"),
@@ -404,32 +473,39 @@ pub static STORING: [Row; 4] = [
 ];
 
 /// Numbers.
-pub static NUMBERS: [Row; 1] = [
-    Row {
-        name: "incr wraps, decr stops at 0, and both want a number",
-        exchanges: &[
-            says!("set n 0 0 2\r\n99", "STORED\r\n"),
-            says!("incr n 1", "100\r\n"),
-            says!("get n", "VALUE n 0 3\r\n100\r\nEND\r\n"),
-            says!("decr n 200", "0\r\n"),
-            says!("get n", "VALUE n 0 1\r\n0\r\nEND\r\n"),
-            says!("set m 0 0 20\r\n18446744073709551615", "STORED\r\n"),
-            says!("incr m 2", "1\r\n"),
-            sets!("set t 0 0 1", 1, STORED),
-            says!("incr t 1", "CLIENT_ERROR cannot increment or decrement non-numeric value\r\n"),
-            says!("incr q 1", "NOT_FOUND\r\n"),
-            says!("incr n x", "CLIENT_ERROR invalid numeric delta argument\r\n"),
-            says!(":at", "NODE 10\r\n"),
-            says!(":story n", "1 stored 1 hot\r\n2 replaced 1 hot\r\n4 replaced 1 hot\r\nEND\r\n"),
-            says!(":back", "NODE 9\r\n"),
-            says!(":back", "NODE 8\r\n"),
-            says!(":back", "NODE 7\r\n"),
-            says!(":back", "NODE 6\r\n"),
-            says!("get m", "VALUE m 0 20\r\n18446744073709551615\r\nEND\r\n"),
-        ],
-        ..ROW
-    },
-];
+pub static NUMBERS: [Row; 1] = [Row {
+    name: "incr wraps, decr stops at 0, and both want a number",
+    exchanges: &[
+        says!("set n 0 0 2\r\n99", "STORED\r\n"),
+        says!("incr n 1", "100\r\n"),
+        says!("get n", "VALUE n 0 3\r\n100\r\nEND\r\n"),
+        says!("decr n 200", "0\r\n"),
+        says!("get n", "VALUE n 0 1\r\n0\r\nEND\r\n"),
+        says!("set m 0 0 20\r\n18446744073709551615", "STORED\r\n"),
+        says!("incr m 2", "1\r\n"),
+        sets!("set t 0 0 1", 1, STORED),
+        says!(
+            "incr t 1",
+            "CLIENT_ERROR cannot increment or decrement non-numeric value\r\n"
+        ),
+        says!("incr q 1", "NOT_FOUND\r\n"),
+        says!(
+            "incr n x",
+            "CLIENT_ERROR invalid numeric delta argument\r\n"
+        ),
+        says!(":at", "NODE 10\r\n"),
+        says!(
+            ":story n",
+            "1 stored 1 hot\r\n2 replaced 1 hot\r\n4 replaced 1 hot\r\nEND\r\n"
+        ),
+        says!(":back", "NODE 9\r\n"),
+        says!(":back", "NODE 8\r\n"),
+        says!(":back", "NODE 7\r\n"),
+        says!(":back", "NODE 6\r\n"),
+        says!("get m", "VALUE m 0 20\r\n18446744073709551615\r\nEND\r\n"),
+    ],
+    ..ROW
+}];
 
 /// Settings as steps.
 pub static SETTINGS: [Row; 2] = [
@@ -439,15 +515,24 @@ pub static SETTINGS: [Row; 2] = [
             sets!("set a 0 0 150", 150, STORED),
             sets!("set b 0 0 150", 150, STORED),
             sets!("set c 0 0 150", 150, STORED),
-            says!("get a a", "VALUE a 0 150\r\nxxxxxxxxxxxxxxxxxxxxxxxxxxxxxxxxxxxxxxxxxxxxxxxxxxxxxxxxxxxxxxxxxxxxxxxxxxxxxxxxxxxxxxxxxxxxxxxxxxxxxxxxxxxxxxxxxxxxxxxxxxxxxxxxxxxxxxxxxxxxxxxxxxxxxx\r\nVALUE a 0 150\r\nxxxxxxxxxxxxxxxxxxxxxxxxxxxxxxxxxxxxxxxxxxxxxxxxxxxxxxxxxxxxxxxxxxxxxxxxxxxxxxxxxxxxxxxxxxxxxxxxxxxxxxxxxxxxxxxxxxxxxxxxxxxxxxxxxxxxxxxxxxxxxxxxxxxxxx\r\nEND\r\n"),
+            says!(
+                "get a a",
+                "VALUE a 0 150\r\nxxxxxxxxxxxxxxxxxxxxxxxxxxxxxxxxxxxxxxxxxxxxxxxxxxxxxxxxxxxxxxxxxxxxxxxxxxxxxxxxxxxxxxxxxxxxxxxxxxxxxxxxxxxxxxxxxxxxxxxxxxxxxxxxxxxxxxxxxxxxxxxxxxxxxx\r\nVALUE a 0 150\r\nxxxxxxxxxxxxxxxxxxxxxxxxxxxxxxxxxxxxxxxxxxxxxxxxxxxxxxxxxxxxxxxxxxxxxxxxxxxxxxxxxxxxxxxxxxxxxxxxxxxxxxxxxxxxxxxxxxxxxxxxxxxxxxxxxxxxxxxxxxxxxxxxxxxxxx\r\nEND\r\n"
+            ),
             says!("~pull 5 hot", "MOVED\r\n"),
             says!("lru tune 20 30 0.2 2", "OK\r\n"),
             says!("~pull 5 warm", "MOVED\r\n"),
             says!(":back", "NODE 7\r\n"),
             says!(":back", "NODE 6\r\n"),
             says!("~pull 5 warm", "IDLE\r\n"),
-            says!("lru tune 50 40 0.2 2", "ERROR hot and warm pcts must not exceed 80\r\n"),
-            says!("lru tune 20 30 0.2345 2", "CLIENT_ERROR bad command line format\r\n"),
+            says!(
+                "lru tune 50 40 0.2 2",
+                "ERROR hot and warm pcts must not exceed 80\r\n"
+            ),
+            says!(
+                "lru tune 20 30 0.2345 2",
+                "CLIENT_ERROR bad command line format\r\n"
+            ),
             says!(":at", "NODE 9\r\n"),
         ],
         ..ROW
@@ -468,26 +553,37 @@ pub static SETTINGS: [Row; 2] = [
 ];
 
 /// Lines that are refused.
-pub static REFUSED: [Row; 1] = [
-    Row {
-        name: "lines that are refused make no step, and an unknown class makes one",
-        exchanges: &[
-            says!("xxxxxxxxxxxxxxxxxxxxxxxxxxxxxxxxxxxxxxxxxxxxxxxxxxxxxxxxxxxxxxxxxxxxxxxxxxxxxxxxxxxxxxxxxxxxxxxxxxxxxxxxxxxxxxxxxxxxxxxxxxxxxxxxxxxxxxxxxxxxxxxxxxxxxxxxxxxxxxxxxxxxxxxxxxxxxxxxxxxxxxxxxxxxxxxxxxxxxxxxxxxxxxxxxxxxxxxxxxxxxxxxxxxxxxxxxxxxxxxxxxxxxxxxxxxxxxxxxxxxxxxxxxxxxxxxxxxxxxxxxxxxxxxxxxxxxxxxxxxxxxxxxxxxxxxxxxxxxxxxxxxxxxxxxxxxxxxxxxxxxxxxxxxxxxxxxxxxxxxxxxxxxxxxxxxxxxxxxxxxxxxxxxxxxxxxxxxxxxxxxxxxxxxxxxxxxxxxxxxxxxxxxxxxxxxxxxxxxxxxxxxxxxxxxxxxxxxxxxxxxxxxxxxxxxxxxxxxxxxxxxxxxxxxxxxxxxxxxxxxxxxxxxxxxxxxxxxxxxxxxxxxxxxxxxxxxxxxxxxxxxxxxxxxxxxxxxxxxxxxxxxxxxxxxxxxxxxxxxxxxxxxxxxxxxxxxxxxxxxxxxxxxxxxxxxxxxxxxxxxxxxxxxxxxxxxxxxxxxxxxxxxxxxxxxxxxxxxxxxxxxxxxxxxxxxxxxxxxxxxxxxxxxxxxxxxxxxxxxxxxxxxxxxxxxxxxxxxxxxxxxxxxxxxxxxxxxxxxxxxxxxxxxxxxxxxxxxxxxxxxxxxxxxxxxxxxxxxxxxxxxxxxxxxxxxxxxxxxxxxxxxxxxxxxxxxxxxxxxxxxxxxxxxxxxxxxxxxxxxxxxxxxxxxxxxxxxxxxxxxxxxxxxxxxxxxxxxxxxxxxxxxxxxxxxxxxxxxxxxxxxxxxxxxxxxxxxxxxxxxxxxxxxxxxxxxxxxxxxxxxxxxxxxxxxxxxxxxxxxxxxxxxxxxxxxxxxxxxxxxxxxxxxxxxxxxxxxxxxxxxxxxxxxxxxxxxxxxxxxxxxxxxxxxxxxxxxxxxxxxxxxxxxxxxxxxxxxxxxxxxxxxxxxxxxxxxxxxxxxxxxxxxxxxxxxxxxxxxxxxxxxxxxxxxxxxxxxxxxxxxxxxxxxxxxxxxxxxxxxxxxxxxxxxxxxxxxxxxxxxxxxxxxxxxxxxxxxxxxxxxxxxxxxxxxxxxxxxxxxxxxxxxxxxxxxxxxxxxxxxxxxxxxxxxxxxxxxxxxxxxxxxxxxxxxxxxxxxxxxxxxxxxxxxxxxxxxxxxxxxxxxxxxxxxxxxxxxxxxxxxxxxxxxxxxxxxxxxxxxxxxxxxxxxxxxxxxxxxxxxxxxxxxxxxxxxxxxxxxxxxxxxxxxxxxxxxxxxxxxxxxxxxxxxxxxxxxxxxxxxxxxxxxxxxxxxxxxxxxxxxxxxxxxxxxxxxxxxxxxxxxxxxxxxxxxxxxxxxxxxxxxxxxxxxxxxxxxxxxxxxxxxxxxxxxxxxxxxxxxxxxxxxxxxxxxxxxxxxxxxxxxxxxxxxxxxxxxxxxxxxxxxxxxxxxxxxxxxxxxxxxxxxxxxxxxxxxxxxxxxxxxxxxxxxxxxxxxxxxxxxxxxxxxxxxxxxxxxxxxxxxxxxxxxxxxxxxxxxxxxxxxxxxxxxxxxxxxxxxxxxxxxxxxxxxxxxxxxxxxxxxxxxxxxxxxxxxxxxxxxxxxxxxxxxxxxxxxxxxxxxxxxxxxxxxxxxxxxxxxxxxxxxxxxxxxxxxxxxxxxxxxxxxxxxxxxxxxxxxxxxxxxxxxxxxxxxxxxxxxxxxxxxxxxxxxxxxxxxxxxxxxxxxxxxxxxxxxxxxxxxxxxxxxxxxxxxxxxxxxxxxxxxxxxxxxxxxxxxxxxxxxxxxxxxxxxxxxxxxxxxxxxxxxxxxxxxxxxxxxxxxxxxxxxxxxxxxxxxxxxxxxxxxxxxxxxxxxxxxxxxxxxxxxxxxxxxxxxxxxxxxxxxxxxxxxxxxxxxxxxxxxxxxxxxxxxxxxxxxxxxxxxxxxxxxxxxxxxxxxxxxxxxxxxx", "CLIENT_ERROR line too long\r\n"),
-            says!("xxxxxxxxxxxxxxxxxxxxxxxxxxxxxxxxxxxxxxxxxxxxxxxxxxxxxxxxxxxxxxxxxxxxxxxxxxxxxxxxxxxxxxxxxxxxxxxxxxxxxxxxxxxxxxxxxxxxxxxxxxxxxxxxxxxxxxxxxxxxxxxxxxxxxxxxxxxxxxxxxxxxxxxxxxxxxxxxxxxxxxxxxxxxxxxxxxxxxxxxxxxxxxxxxxxxxxxxxxxxxxxxxxxxxxxxxxxxxxxxxxxxxxxxxxxxxxxxxxxxxxxxxxxxxxxxxxxxxxxxxxxxxxxxxxxxxxxxxxxxxxxxxxxxxxxxxxxxxxxxxxxxxxxxxxxxxxxxxxxxxxxxxxxxxxxxxxxxxxxxxxxxxxxxxxxxxxxxxxxxxxxxxxxxxxxxxxxxxxxxxxxxxxxxxxxxxxxxxxxxxxxxxxxxxxxxxxxxxxxxxxxxxxxxxxxxxxxxxxxxxxxxxxxxxxxxxxxxxxxxxxxxxxxxxxxxxxxxxxxxxxxxxxxxxxxxxxxxxxxxxxxxxxxxxxxxxxxxxxxxxxxxxxxxxxxxxxxxxxxxxxxxxxxxxxxxxxxxxxxxxxxxxxxxxxxxxxxxxxxxxxxxxxxxxxxxxxxxxxxxxxxxxxxxxxxxxxxxxxxxxxxxxxxxxxxxxxxxxxxxxxxxxxxxxxxxxxxxxxxxxxxxxxxxxxxxxxxxxxxxxxxxxxxxxxxxxxxxxxxxxxxxxxxxxxxxxxxxxxxxxxxxxxxxxxxxxxxxxxxxxxxxxxxxxxxxxxxxxxxxxxxxxxxxxxxxxxxxxxxxxxxxxxxxxxxxxxxxxxxxxxxxxxxxxxxxxxxxxxxxxxxxxxxxxxxxxxxxxxxxxxxxxxxxxxxxxxxxxxxxxxxxxxxxxxxxxxxxxxxxxxxxxxxxxxxxxxxxxxxxxxxxxxxxxxxxxxxxxxxxxxxxxxxxxxxxxxxxxxxxxxxxxxxxxxxxxxxxxxxxxxxxxxxxxxxxxxxxxxxxxxxxxxxxxxxxxxxxxxxxxxxxxxxxxxxxxxxxxxxxxxxxxxxxxxxxxxxxxxxxxxxxxxxxxxxxxxxxxxxxxxxxxxxxxxxxxxxxxxxxxxxxxxxxxxxxxxxxxxxxxxxxxxxxxxxxxxxxxxxxxxxxxxxxxxxxxxxxxxxxxxxxxxxxxxxxxxxxxxxxxxxxxxxxxxxxxxxxxxxxxxxxxxxxxxxxxxxxxxxxxxxxxxxxxxxxxxxxxxxxxxxxxxxxxxxxxxxxxxxxxxxxxxxxxxxxxxxxxxxxxxxxxxxxxxxxxxxxxxxxxxxxxxxxxxxxxxxxxxxxxxxxxxxxxxxxxxxxxxxxxxxxxxxxxxxxxxxxxxxxxxxxxxxxxxxxxxxxxxxxxxxxxxxxxxxxxxxxxxxxxxxxxxxxxxxxxxxxxxxxxxxxxxxxxxxxxxxxxxxxxxxxxxxxxxxxxxxxxxxxxxxxxxxxxxxxxxxxxxxxxxxxxxxxxxxxxxxxxxxxxxxxxxxxxxxxxxxxxxxxxxxxxxxxxxxxxxxxxxxxxxxxxxxxxxxxxxxxxxxxxxxxxxxxxxxxxxxxxxxxxxxxxxxxxxxxxxxxxxxxxxxxxxxxxxxxxxxxxxxxxxxxxxxxxxxxxxxxxxxxxxxxxxxxxxxxxxxxxxxxxxxxxxxxxxxxxxxxxxxxxxxxxxxxxxxxxxxxxxxxxxxxxxxxxxxxxxxxxxxxxxxxxxxxxxxxxxxxxxxxxxxxxxxxxxxxxxxxxxxxxxxxxxxxxxxxxxxxxxxxxxxxxxxxxxxxxxxxxxxxxxxxxxxxxxxxxxxxxxxxxxxxxxxxxxxxxxxxxxxxxxxxxxxxxxxxxxxxxxxxxxxxxxxxxxxxxxxxxxxxxxxxxxxxxxxxxxxxxxxxxxxxxxxxxxxxxxxxxxxxxxxxxxxxxxxxxxxxxxxxxxxxxxxxxxxxxxxxxxxxxxxxxxxxxxxxxxxxxxxxxxxxxxxxxxxxxxxxxxxxxxxxxxxxxxxxxxxxxxxxxxxxxxxxxxxxxxxxxxxxxxxxxxxx", "ERROR\r\n"),
-            sets!("set a 0 0 2000000", 2000000, "SERVER_ERROR object too large for cache\r\n"),
-            says!(":at", "NODE 1\r\n"),
-            says!("touch a x", "CLIENT_ERROR invalid exptime argument\r\n"),
-            says!("delete a 5", "CLIENT_ERROR bad command line format.  Usage: delete <key> [noreply]\r\n"),
-            says!("get", "ERROR\r\n"),
-            says!("~pull 5 hut", "BAD COMMAND\r\n"),
-            says!("@ 4294967296", "BAD COMMAND\r\n"),
-            says!(":queue 0 hot", "NOCLASS\r\n"),
-            says!("~pull 99 hot", "BADCLASS\r\n"),
-            says!(":at", "NODE 2\r\n"),
-        ],
-        ..ROW
-    },
-];
+pub static REFUSED: [Row; 1] = [Row {
+    name: "lines that are refused make no step, and an unknown class makes one",
+    exchanges: &[
+        says!(
+            "xxxxxxxxxxxxxxxxxxxxxxxxxxxxxxxxxxxxxxxxxxxxxxxxxxxxxxxxxxxxxxxxxxxxxxxxxxxxxxxxxxxxxxxxxxxxxxxxxxxxxxxxxxxxxxxxxxxxxxxxxxxxxxxxxxxxxxxxxxxxxxxxxxxxxxxxxxxxxxxxxxxxxxxxxxxxxxxxxxxxxxxxxxxxxxxxxxxxxxxxxxxxxxxxxxxxxxxxxxxxxxxxxxxxxxxxxxxxxxxxxxxxxxxxxxxxxxxxxxxxxxxxxxxxxxxxxxxxxxxxxxxxxxxxxxxxxxxxxxxxxxxxxxxxxxxxxxxxxxxxxxxxxxxxxxxxxxxxxxxxxxxxxxxxxxxxxxxxxxxxxxxxxxxxxxxxxxxxxxxxxxxxxxxxxxxxxxxxxxxxxxxxxxxxxxxxxxxxxxxxxxxxxxxxxxxxxxxxxxxxxxxxxxxxxxxxxxxxxxxxxxxxxxxxxxxxxxxxxxxxxxxxxxxxxxxxxxxxxxxxxxxxxxxxxxxxxxxxxxxxxxxxxxxxxxxxxxxxxxxxxxxxxxxxxxxxxxxxxxxxxxxxxxxxxxxxxxxxxxxxxxxxxxxxxxxxxxxxxxxxxxxxxxxxxxxxxxxxxxxxxxxxxxxxxxxxxxxxxxxxxxxxxxxxxxxxxxxxxxxxxxxxxxxxxxxxxxxxxxxxxxxxxxxxxxxxxxxxxxxxxxxxxxxxxxxxxxxxxxxxxxxxxxxxxxxxxxxxxxxxxxxxxxxxxxxxxxxxxxxxxxxxxxxxxxxxxxxxxxxxxxxxxxxxxxxxxxxxxxxxxxxxxxxxxxxxxxxxxxxxxxxxxxxxxxxxxxxxxxxxxxxxxxxxxxxxxxxxxxxxxxxxxxxxxxxxxxxxxxxxxxxxxxxxxxxxxxxxxxxxxxxxxxxxxxxxxxxxxxxxxxxxxxxxxxxxxxxxxxxxxxxxxxxxxxxxxxxxxxxxxxxxxxxxxxxxxxxxxxxxxxxxxxxxxxxxxxxxxxxxxxxxxxxxxxxxxxxxxxxxxxxxxxxxxxxxxxxxxxxxxxxxxxxxxxxxxxxxxxxxxxxxxxxxxxxxxxxxxxxxxxxxxxxxxxxxxxxxxxxxxxxxxxxxxxxxxxxxxxxxxxxxxxxxxxxxxxxxxxxxxxxxxxxxxxxxxxxxxxxxxxxxxxxxxxxxxxxxxxxxxxxxxxxxxxxxxxxxxxxxxxxxxxxxxxxxxxxxxxxxxxxxxxxxxxxxxxxxxxxxxxxxxxxxxxxxxxxxxxxxxxxxxxxxxxxxxxxxxxxxxxxxxxxxxxxxxxxxxxxxxxxxxxxxxxxxxxxxxxxxxxxxxxxxxxxxxxxxxxxxxxxxxxxxxxxxxxxxxxxxxxxxxxxxxxxxxxxxxxxxxxxxxxxxxxxxxxxxxxxxxxxxxxxxxxxxxxxxxxxxxxxxxxxxxxxxxxxxxxxxxxxxxxxxxxxxxxxxxxxxxxxxxxxxxxxxxxxxxxxxxxxxxxxxxxxxxxxxxxxxxxxxxxxxxxxxxxxxxxxxxxxxxxxxxxxxxxxxxxxxxxxxxxxxxxxxxxxxxxxxxxxxxxxxxxxxxxxxxxxxxxxxxxxxxxxxxxxxxxxxxxxxxxxxxxxxxxxxxxxxxxxxxxxxxxxxxxxxxxxxxxxxxxxxxxxxxxxxxxxxxxxxxxxxxxxxxxxxxxxxxxxxxxxxxxxxxxxxxxxxxxxxxxxxxxxxxxxxxxxxxxxxxxxxxxxxxxxxxxxxxxxxxxxxxxxxxxxxxxxxxxxxxxxxxxxxxxxxxxxxxxxxxxxxxxxxxxxxxxxxxxxxxxxxxxxxxxxxxxxxxxxxxxxxxxxxxxxxxxxxxxxxxxxxxxxxxxxxxxxxxxxxxxxxxxxxxxxxxxxxxxxxxxxxxxxxxxxxxxxxxxxxxxxxxxxxxxxxxxxxxxxxxxxxxxxxxxxxxxxxxxxxxxxxxxxxxxxxxxxxxxxxxxxxxxxxxxxxxxxxxxxxxxxxxxxxxxxxxxxxxxxxxxxxxxxxxxxxxxxxxxxxxxxxxxxxxxxxxxxxxxxxxxxxx",
+            "CLIENT_ERROR line too long\r\n"
+        ),
+        says!(
+            "xxxxxxxxxxxxxxxxxxxxxxxxxxxxxxxxxxxxxxxxxxxxxxxxxxxxxxxxxxxxxxxxxxxxxxxxxxxxxxxxxxxxxxxxxxxxxxxxxxxxxxxxxxxxxxxxxxxxxxxxxxxxxxxxxxxxxxxxxxxxxxxxxxxxxxxxxxxxxxxxxxxxxxxxxxxxxxxxxxxxxxxxxxxxxxxxxxxxxxxxxxxxxxxxxxxxxxxxxxxxxxxxxxxxxxxxxxxxxxxxxxxxxxxxxxxxxxxxxxxxxxxxxxxxxxxxxxxxxxxxxxxxxxxxxxxxxxxxxxxxxxxxxxxxxxxxxxxxxxxxxxxxxxxxxxxxxxxxxxxxxxxxxxxxxxxxxxxxxxxxxxxxxxxxxxxxxxxxxxxxxxxxxxxxxxxxxxxxxxxxxxxxxxxxxxxxxxxxxxxxxxxxxxxxxxxxxxxxxxxxxxxxxxxxxxxxxxxxxxxxxxxxxxxxxxxxxxxxxxxxxxxxxxxxxxxxxxxxxxxxxxxxxxxxxxxxxxxxxxxxxxxxxxxxxxxxxxxxxxxxxxxxxxxxxxxxxxxxxxxxxxxxxxxxxxxxxxxxxxxxxxxxxxxxxxxxxxxxxxxxxxxxxxxxxxxxxxxxxxxxxxxxxxxxxxxxxxxxxxxxxxxxxxxxxxxxxxxxxxxxxxxxxxxxxxxxxxxxxxxxxxxxxxxxxxxxxxxxxxxxxxxxxxxxxxxxxxxxxxxxxxxxxxxxxxxxxxxxxxxxxxxxxxxxxxxxxxxxxxxxxxxxxxxxxxxxxxxxxxxxxxxxxxxxxxxxxxxxxxxxxxxxxxxxxxxxxxxxxxxxxxxxxxxxxxxxxxxxxxxxxxxxxxxxxxxxxxxxxxxxxxxxxxxxxxxxxxxxxxxxxxxxxxxxxxxxxxxxxxxxxxxxxxxxxxxxxxxxxxxxxxxxxxxxxxxxxxxxxxxxxxxxxxxxxxxxxxxxxxxxxxxxxxxxxxxxxxxxxxxxxxxxxxxxxxxxxxxxxxxxxxxxxxxxxxxxxxxxxxxxxxxxxxxxxxxxxxxxxxxxxxxxxxxxxxxxxxxxxxxxxxxxxxxxxxxxxxxxxxxxxxxxxxxxxxxxxxxxxxxxxxxxxxxxxxxxxxxxxxxxxxxxxxxxxxxxxxxxxxxxxxxxxxxxxxxxxxxxxxxxxxxxxxxxxxxxxxxxxxxxxxxxxxxxxxxxxxxxxxxxxxxxxxxxxxxxxxxxxxxxxxxxxxxxxxxxxxxxxxxxxxxxxxxxxxxxxxxxxxxxxxxxxxxxxxxxxxxxxxxxxxxxxxxxxxxxxxxxxxxxxxxxxxxxxxxxxxxxxxxxxxxxxxxxxxxxxxxxxxxxxxxxxxxxxxxxxxxxxxxxxxxxxxxxxxxxxxxxxxxxxxxxxxxxxxxxxxxxxxxxxxxxxxxxxxxxxxxxxxxxxxxxxxxxxxxxxxxxxxxxxxxxxxxxxxxxxxxxxxxxxxxxxxxxxxxxxxxxxxxxxxxxxxxxxxxxxxxxxxxxxxxxxxxxxxxxxxxxxxxxxxxxxxxxxxxxxxxxxxxxxxxxxxxxxxxxxxxxxxxxxxxxxxxxxxxxxxxxxxxxxxxxxxxxxxxxxxxxxxxxxxxxxxxxxxxxxxxxxxxxxxxxxxxxxxxxxxxxxxxxxxxxxxxxxxxxxxxxxxxxxxxxxxxxxxxxxxxxxxxxxxxxxxxxxxxxxxxxxxxxxxxxxxxxxxxxxxxxxxxxxxxxxxxxxxxxxxxxxxxxxxxxxxxxxxxxxxxxxxxxxxxxxxxxxxxxxxxxxxxxxxxxxxxxxxxxxxxxxxxxxxxxxxxxxxxxxxxxxxxxxxxxxxxxxxxxxxxxxxxxxxxxxxxxxxxxxxxxxxxxxxxxxxxxxxxxxxxxxxxxxxxxxxxxxxxxxxxxxxxxxxxxxxxxxxxxxxxxxxxxxxxxxxxxxxxxxxxxxxxxxxxxxxxxxxxxxxxxxxxxxxxxxxxxxxxxxxxxxxxxxxxxxxxxxxxxxxxxxxxxxxxxxxxxxxxxxxxxxxxxxxxxxxxxxxxxxxxxxxxxxxxxxxxx",
+            "ERROR\r\n"
+        ),
+        sets!(
+            "set a 0 0 2000000",
+            2000000,
+            "SERVER_ERROR object too large for cache\r\n"
+        ),
+        says!(":at", "NODE 1\r\n"),
+        says!("touch a x", "CLIENT_ERROR invalid exptime argument\r\n"),
+        says!(
+            "delete a 5",
+            "CLIENT_ERROR bad command line format.  Usage: delete <key> [noreply]\r\n"
+        ),
+        says!("get", "ERROR\r\n"),
+        says!("~pull 5 hut", "BAD COMMAND\r\n"),
+        says!("@ 4294967296", "BAD COMMAND\r\n"),
+        says!(":queue 0 hot", "NOCLASS\r\n"),
+        says!("~pull 99 hot", "BADCLASS\r\n"),
+        says!(":at", "NODE 2\r\n"),
+    ],
+    ..ROW
+}];
 
 /// Why keys were gone.
 pub static REASONS: [Row; 3] = [
@@ -495,7 +591,11 @@ pub static REASONS: [Row; 3] = [
         name: "a set that is too large drops the old item",
         exchanges: &[
             sets!("set a 0 0 964", 964, STORED),
-            sets!("set a 0 0 965", 965, "SERVER_ERROR object too large for cache\r\n"),
+            sets!(
+                "set a 0 0 965",
+                965,
+                "SERVER_ERROR object too large for cache\r\n"
+            ),
             says!(":at", "NODE 2\r\n"),
             says!(":item a", "NOITEM\r\n"),
             says!(":why a", "LEFT 2 dropped_by_failed_set\r\n"),
@@ -516,7 +616,10 @@ pub static REASONS: [Row; 3] = [
             sets!("set d 0 0 150", 150, STORED),
             sets!("set e 0 0 150", 150, STORED),
             says!(":go 4", "NODE 4 TURNS 1\r\n"),
-            says!("get a a", "VALUE a 0 150\r\nxxxxxxxxxxxxxxxxxxxxxxxxxxxxxxxxxxxxxxxxxxxxxxxxxxxxxxxxxxxxxxxxxxxxxxxxxxxxxxxxxxxxxxxxxxxxxxxxxxxxxxxxxxxxxxxxxxxxxxxxxxxxxxxxxxxxxxxxxxxxxxxxxxxxxx\r\nVALUE a 0 150\r\nxxxxxxxxxxxxxxxxxxxxxxxxxxxxxxxxxxxxxxxxxxxxxxxxxxxxxxxxxxxxxxxxxxxxxxxxxxxxxxxxxxxxxxxxxxxxxxxxxxxxxxxxxxxxxxxxxxxxxxxxxxxxxxxxxxxxxxxxxxxxxxxxxxxxxx\r\nEND\r\n"),
+            says!(
+                "get a a",
+                "VALUE a 0 150\r\nxxxxxxxxxxxxxxxxxxxxxxxxxxxxxxxxxxxxxxxxxxxxxxxxxxxxxxxxxxxxxxxxxxxxxxxxxxxxxxxxxxxxxxxxxxxxxxxxxxxxxxxxxxxxxxxxxxxxxxxxxxxxxxxxxxxxxxxxxxxxxxxxxxxxxx\r\nVALUE a 0 150\r\nxxxxxxxxxxxxxxxxxxxxxxxxxxxxxxxxxxxxxxxxxxxxxxxxxxxxxxxxxxxxxxxxxxxxxxxxxxxxxxxxxxxxxxxxxxxxxxxxxxxxxxxxxxxxxxxxxxxxxxxxxxxxxxxxxxxxxxxxxxxxxxxxxxxxxx\r\nEND\r\n"
+            ),
             sets!("set e 0 0 150", 150, STORED),
             says!(":why a", "PRESENT\r\n"),
             says!(":why b", "LEFT 8 evicted\r\n"),
@@ -538,7 +641,10 @@ pub static REASONS: [Row; 3] = [
             says!(":prune 4", "ONPATH\r\n"),
             sets!("set f 0 0 150", 150, STORED),
             says!(":why a", "LEFT 9 evicted\r\n"),
-            says!(":tree", "0 - root -\r\n1 0 set STORED\r\n2 1 set STORED\r\n3 2 set STORED\r\n4 3 set STORED\r\n6 4 get HIT\r\n7 6 get HIT\r\n8 7 set STORED\r\n9 6 set STORED\r\nEND\r\n"),
+            says!(
+                ":tree",
+                "0 - root -\r\n1 0 set STORED\r\n2 1 set STORED\r\n3 2 set STORED\r\n4 3 set STORED\r\n6 4 get HIT\r\n7 6 get HIT\r\n8 7 set STORED\r\n9 6 set STORED\r\nEND\r\n"
+            ),
             says!(":go 4", "NODE 4 TURNS 2\r\n"),
             says!(":forward", "NODE 6\r\n"),
             says!(":back", "NODE 4\r\n"),
@@ -567,7 +673,10 @@ pub static REASONS: [Row; 3] = [
             says!(":why b", "LEFT 9 reclaimed_by_crawler\r\n"),
             says!(":why c", "LEFT 10 reclaimed_by_hit\r\n"),
             says!(":why d", "LEFT 5 deleted\r\n"),
-            says!(":story b", "2 stored 1 hot\r\n9 left reclaimed_by_crawler\r\nEND\r\n"),
+            says!(
+                ":story b",
+                "2 stored 1 hot\r\n9 left reclaimed_by_crawler\r\nEND\r\n"
+            ),
         ],
         ..ROW
     },
@@ -582,7 +691,10 @@ pub static TREE: [Row; 2] = [
             says!("get a b", "VALUE a 0 1\r\nx\r\nEND\r\n"),
             says!(":go 1", "NODE 1 TURNS 2\r\n"),
             says!("delete a", "DELETED\r\n"),
-            says!(":tree", "0 - root -\r\n1 0 set STORED\r\n2 1 get HIT\r\n3 2 get MISS\r\n4 1 delete DELETED\r\nEND\r\n"),
+            says!(
+                ":tree",
+                "0 - root -\r\n1 0 set STORED\r\n2 1 get HIT\r\n3 2 get MISS\r\n4 1 delete DELETED\r\nEND\r\n"
+            ),
             says!(":go 3", "NODE 3 TURNS 3\r\n"),
             says!(":forward", "NOCHILD\r\n"),
             says!(":back", "NODE 2\r\n"),

@@ -28,7 +28,12 @@ fn try_row<R: Abort>(rt: &R, alloc: Global, row: &Row, hash_power: u32) -> Resul
     assert!(rt; ended.is_ok(), "{name}");
     assert!(rt; written.as_slice() == answers.as_slice(), "{name}");
     let mut by_bytes: Vec<u8> = Vec::new(alloc);
-    let again = run_with(alloc, &config, Stutter::new(script.as_slice()), &mut by_bytes)?;
+    let again = run_with(
+        alloc,
+        &config,
+        Stutter::new(script.as_slice()),
+        &mut by_bytes,
+    )?;
     assert_eq!(rt; again, ended, "{name}");
     assert!(rt; by_bytes.as_slice() == answers.as_slice(), "{name}");
     Ok(())
@@ -43,7 +48,12 @@ fn try_rows<R: Abort>(rt: &R, alloc: Global, rows: &[Row], hash_power: u32) -> R
 
 #[test]
 fn storage_commands(rt: HostRuntime) -> Result<(), Fail> {
-    for rows in [STORING.as_slice(), NUMBERS.as_slice(), TIME.as_slice(), REFUSED.as_slice()] {
+    for rows in [
+        STORING.as_slice(),
+        NUMBERS.as_slice(),
+        TIME.as_slice(),
+        REFUSED.as_slice(),
+    ] {
         try_rows(&rt, rt.alloc(), rows, 10)?;
     }
     Ok(())
@@ -51,7 +61,12 @@ fn storage_commands(rt: HostRuntime) -> Result<(), Fail> {
 
 #[test]
 fn actors(rt: HostRuntime) -> Result<(), Fail> {
-    for rows in [ROOM.as_slice(), BUMP.as_slice(), CRAWLER.as_slice(), SETTINGS.as_slice()] {
+    for rows in [
+        ROOM.as_slice(),
+        BUMP.as_slice(),
+        CRAWLER.as_slice(),
+        SETTINGS.as_slice(),
+    ] {
         try_rows(&rt, rt.alloc(), rows, 10)?;
     }
     Ok(())

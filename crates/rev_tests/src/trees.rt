@@ -51,26 +51,40 @@ fn forks_nest(rt: HostRuntime) -> Result<(), Fail> {
     Ok(())
 }
 
-#[test]
-fn numbers_run_out(rt: HostRuntime) -> Result<(), Fail> {
-    let Ok(mut session) = Session::open(rt.alloc(), Store::open(rt.alloc(), DEFAULTS)?) else {
-        return Err(Fail::new("no session"));
-    };
-    for _ in 0..NODES {
-        match session.play(Step::Actor(ActorStep::Clock(1))) {
-            Ok(played) => {
-                session.back()?;
-                session.prune(played.node)?;
-            }
-            Err((fault, _step)) => return Err(Fail::from(fault)),
-        }
+fn open_session(alloc: Global) -> Result<Session<Global>, Fail> {
+    match Session::open(alloc, Store::open(alloc, DEFAULTS)?) {
+        Ok(session) => Ok(session),
+        Err(_) => Err(Fail::new("no session")),
     }
-    assert_eq!(rt; session.issued(), NODES);
+}
+
+// Plays a step, goes back, and takes its node out.
+fn come_and_go(session: &mut Session<Global>) -> Result<(), Fail> {
     match session.play(Step::Actor(ActorStep::Clock(1))) {
-        Ok(_) => Err(Fail::new("played once more")),
-        Err((fault, _step)) => {
-            assert_eq!(rt; fault, PlayFault::TooManyNodes);
+        Ok(played) => {
+            session.back()?;
+            session.prune(played.node)?;
             Ok(())
         }
+        Err((fault, _step)) => Err(Fail::from(fault)),
     }
+}
+
+// Why one more play is refused.
+fn refusal(session: &mut Session<Global>) -> Option<PlayFault> {
+    match session.play(Step::Actor(ActorStep::Clock(1))) {
+        Ok(_) => None,
+        Err((fault, _step)) => Some(fault),
+    }
+}
+
+#[test]
+fn numbers_run_out(rt: HostRuntime) -> Result<(), Fail> {
+    let mut session = open_session(rt.alloc())?;
+    for _ in 0..NODES {
+        come_and_go(&mut session)?;
+    }
+    assert_eq!(rt; session.issued(), NODES);
+    assert_eq!(rt; refusal(&mut session), Some(PlayFault::TooManyNodes));
+    Ok(())
 }

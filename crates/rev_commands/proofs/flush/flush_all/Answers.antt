@@ -23,4 +23,4 @@ returns-clause-sound g c =
     let s = c.args.store.now in
     sound_of None c.change.new.store c.change.ensures.well
     (subst (Rest None) (sym (c.change.ensures.state ∙ ap (λ (f : Globals). record s { globals = f }) (c.flushed.ensures ∙ ap (λ (f : Globals). flushed f c.flush_moment-due.result) c.globals-globals.ensures)))
-      (rest-flushed s c.flush_moment-due.result (rest_of None s c.requires)))
+    (rest-flushed s c.flush_moment-due.result (rest_of None s c.requires)))

@@ -14,7 +14,7 @@ returns-in-Append g c =
     (ap (λ (v : List ℕ). Bytes (v ++ c.deref.result.now)) c.value.ensures
     ∙ ap (λ (v : List ℕ). Bytes (i.value ++ v)) c.deref.ensures.value
     ∙ sym (ap (λ d. joined (plain_side d) i.value (plain_payload c.args.payload.now)) c.in-Append.is
-      ∙ ap (λ p. joined Appends i.value (plain_payload p)) c.in-Bytes.is))
+    ∙ ap (λ p. joined Appends i.value (plain_payload p)) c.in-Bytes.is))
     c.plan_data.ensures
 
 pub returns-in-Prepend : goal.returns-in-Prepend
@@ -25,5 +25,5 @@ returns-in-Prepend g c =
     (ap (λ (v : List ℕ). Bytes (v ++ c.value-in-Prepend.result.now)) c.deref-in-Prepend.ensures.value
     ∙ ap (λ (v : List ℕ). Bytes (c.in-Bytes.bytes.items ++ v)) c.value-in-Prepend.ensures
     ∙ sym (ap (λ d. joined (plain_side d) i.value (plain_payload c.args.payload.now)) c.in-Prepend.is
-      ∙ ap (λ p. joined Prepends i.value (plain_payload p)) c.in-Bytes.is))
+    ∙ ap (λ p. joined Prepends i.value (plain_payload p)) c.in-Bytes.is))
     c.plan_data-in-Prepend.ensures
