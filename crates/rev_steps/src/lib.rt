@@ -43,6 +43,7 @@ pub fn apply<A: Allocator + Clone>(
     ensures few { IfOk result (λ p. length p.1.moves ≤ 64) }
     ensures err { OnErr result (store.new ≡ store.old) }
     ensures told { IfOk result (λ p. TellsAll p.1 store.new (step_removals store.old (plain_step step.now))) }
+    ensures tight { IfOk result (λ p. p.1.room ≡ length p.1.moves) }
 {
     let (outcome, mut undo) = dispatch(store, step)?;
     undo.trim();
