@@ -26,7 +26,7 @@ fn main(rt: HostRuntime) -> ExitCode {
         }
     };
     let status = program(
-        rt.alloc(),
+        &rt,
         words.as_slice(),
         rt.stdin(),
         rt.stdout(),

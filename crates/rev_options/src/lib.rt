@@ -1,11 +1,11 @@
 //! The command line of `lrudb`: which words ask for what.
 #![tactic(auto)]
 
-ghost use Rattle.std.specs.Prelude.{◌≡◌, IfOk, true};
+ghost use Rattle.std.specs.Prelude.{◌≡◌, ◌≤◌, length, IfOk, true};
 ghost use Rattle.rev_options.specs.Request.{IsInRange, is_temp_ttl};
 
 use clap::error::ErrorKind;
-use clap::{Arg, ArgMatches, Command, Error, value_parser};
+use clap::{Arg, ArgAction, ArgMatches, Command, Error, value_parser};
 use rev_classes::Config;
 use std::alloc::{AllocError, Global};
 use std::convert::AsStr;
@@ -13,11 +13,16 @@ use std::convert::AsStr;
 /// The time to live by which no item enters TEMP.
 const NEVER: i32 = -1;
 
+/// The most files that are played at once, each by an actor (this project's own figure).
+pub const MOST_FILES: usize = 8;
+
 /// What a command line asks for.
-#[derive(Clone, Copy, Debug, PartialEq, Eq)]
+#[derive(Debug, Drop)]
 pub enum Request {
     /// Run the script of the standard input.
     Run { config: Config },
+    /// Play the scripts of one to eight files at once, each as an actor.
+    Record { config: Config, files: Vec<String> },
 }
 
 /// Why there is no request.
@@ -85,7 +90,7 @@ const ABOUT: &str =
     "Replays memcached's storage commands and the steps of its segmented LRU, forwards and backwards";
 
 const AFTER: &str =
-    "A script has one command a line: memcached's own (set, get, delete, ..) and questions (:item KEY, :back, ..).\n\nExit status: 0 done, 2 command line or configuration, 3 out of memory, 4 input or output.";
+    "A script has one command a line: memcached's own (set, get, delete, ..) and questions (:item KEY, :back, ..).\n\nExit status: 0 done, 2 command line or configuration, 3 out of memory, 4 input or output, 5 a recorded file has a line that is not a step, 6 the log differs.";
 
 fn option<'a>(alloc: Global, of: &'static Number) -> Arg<'a> {
     Arg::new(alloc, of.name)
@@ -121,6 +126,22 @@ fn run_command<'a>(alloc: Global) -> Result<Command<'a>, AllocError> {
     with_config(alloc, run)
 }
 
+fn files<'a>(alloc: Global) -> Arg<'a> {
+    Arg::new(alloc, "files")
+        .value_name("FILE")
+        .required(true)
+        .num_args(1..=MOST_FILES)
+        .action(ArgAction::Append)
+        .help("Scripts without questions, each played by an actor: 1 to 8 files")
+}
+
+fn record_command<'a>(alloc: Global) -> Result<Command<'a>, AllocError> {
+    let record = Command::new(alloc, "record").about(
+        "Plays the scripts of files at once, each by an actor on a thread, and tells in which order their steps came",
+    );
+    with_config(alloc, record)?.arg(files(alloc))
+}
+
 fn whole_command<'a>(alloc: Global) -> Result<Command<'a>, AllocError> {
     Command::new(alloc, "lrudb")
         .bin_name("lrudb")?
@@ -129,7 +150,8 @@ fn whole_command<'a>(alloc: Global) -> Result<Command<'a>, AllocError> {
         .no_binary_name(true)
         .subcommand_required(true)
         .arg_required_else_help(true)
-        .subcommand(run_command(alloc)?)
+        .subcommand(run_command(alloc)?)?
+        .subcommand(record_command(alloc)?)
 }
 
 // Each number has a default and passed its parser, so none is absent.
@@ -161,6 +183,36 @@ fn config_of(matches: &ArgMatches<'_>) -> Config
     }
 }
 
+// The names of the files, in order.
+fn files_of(alloc: Global, matches: &ArgMatches<'_>) -> Result<Vec<String>, AllocError> {
+    let mut files = Vec::new(alloc);
+    if let Some(names) = matches.get_strs("files") {
+        for name in names {
+            files.push(String::from_str(alloc, name)?)?;
+        }
+    }
+    Ok(files)
+}
+
+// The recording that the words ask for, or the parser's error.
+fn recording(alloc: Global, matches: &ArgMatches<'_>) -> Result<Request, Error>
+    ensures { IfOk result IsInRange }
+{
+    let config = config_of(matches);
+    let files = files_of(alloc, matches)?;
+    // The parser has counted them, and its contracts do not say so.
+    if files.is_empty() {
+        return Err(whole_command(alloc)?.error(ErrorKind::TooFewValues, "record: no file")?);
+    }
+    if files.len() > MOST_FILES {
+        return Err(whole_command(alloc)?.error(
+            ErrorKind::TooManyValues,
+            "record: more than 8 files",
+        )?);
+    }
+    Ok(Request::Record { config, files })
+}
+
 // What the words ask for, or the parser's error.
 fn parsed<S: AsStr>(alloc: Global, words: &[S]) -> Result<Request, Error>
     ensures { IfOk result IsInRange }
@@ -169,6 +221,9 @@ fn parsed<S: AsStr>(alloc: Global, words: &[S]) -> Result<Request, Error>
     if let Some(inner) = matches.subcommand_matches("run") {
         let config = config_of(inner);
         return Ok(Request::Run { config });
+    }
+    if let Some(inner) = matches.subcommand_matches("record") {
+        return recording(alloc, inner);
     }
     Err(whole_command(alloc)?.error(ErrorKind::MissingSubcommand, "run")?)
 }

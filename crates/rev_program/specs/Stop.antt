@@ -1,5 +1,5 @@
 -- What the user is told when the program ends before all is done.
-use Rattle.std.specs.Prelude.{ℕ, List, codes, string_bytes}
+use Rattle.std.specs.Prelude.{ℕ, List, ◌++◌, codes, string_bytes}
 use Rattle.rev_classes.specs.declared.ConfigFault.{ConfigFault}
 use Rattle.rev_classes.specs.declared.ConfigFault.TheVariants as fault
 use Rattle.rev_options.specs.declared.Refused.{Refused}
@@ -7,7 +7,7 @@ use Rattle.rev_options.specs.declared.Refused.TheVariants as words
 use Rattle.rev_shell.specs.declared.run.RunFault.{RunFault}
 use Rattle.rev_shell.specs.declared.run.RunFault.TheVariants as run_fault
 use Rattle.rev_program.specs.declared.stop.Stop.{Stop}
-use Rattle.rev_program.specs.declared.stop.Stop.TheVariants.{Usage, BadPage, BadFactor, TooManyClasses, BadLimit, Memory, CannotRead, CannotWrite, TooLong}
+use Rattle.rev_program.specs.declared.stop.Stop.TheVariants.{Usage, BadPage, BadFactor, TooManyClasses, BadLimit, Memory, CannotRead, CannotOpen, CannotWrite, TooLong}
 
 -- the exit status: 2 the command line or the configuration, 3 memory, 4 input or output
 abbrev pub status : Stop → ℕ
@@ -18,6 +18,7 @@ status TooManyClasses = 2
 status BadLimit = 2
 status Memory = 3
 status CannotRead = 4
+status (CannotOpen name) = 4
 status CannotWrite = 4
 status TooLong = 4
 
@@ -30,6 +31,7 @@ text TooManyClasses = codes "lrudb: bad configuration: classes\n"
 text BadLimit = codes "lrudb: bad configuration: limit\n"
 text Memory = codes "lrudb: out of memory\n"
 text CannotRead = codes "lrudb: cannot read\n"
+text (CannotOpen name) = codes "lrudb: " ++ string_bytes name ++ codes ": cannot read\n"
 text CannotWrite = codes "lrudb: cannot write\n"
 text TooLong = codes "lrudb: input too long\n"
 

@@ -1,11 +1,12 @@
 //! The whole program.
-ghost use Rattle.std.specs.Prelude.{◌≡◌, Err, IfSome, MatchResult};
+ghost use Rattle.std.specs.Prelude.{◌≡◌, ◌≤◌, length, Err, IfOk, IfSome, MatchResult};
 ghost use Rattle.std.specs.Io.KnownBytes.{Keeps};
 ghost use Rattle.rev_classes.specs.Limits.{IsWithinLimits, fault_of};
 ghost use Rattle.rev_program.specs.Program.{IsStatus};
 ghost use Rattle.rev_program.specs.Stop.{status, stop_of_config};
 
 use crate::stop::Stop;
+use rev_actors::play::play_files;
 use rev_classes::{Config, fault_of};
 use rev_options::{Request, parse_words};
 use rev_output::ToWrite;
@@ -16,6 +17,10 @@ use std::alloc::{Allocator, Global};
 use std::convert::AsStr;
 use std::io::{Read, Write};
 use std::mem::ManuallyDrop;
+use std::rt::Files;
+use std::sync::Wait;
+use std::thread::Threads;
+use std::{fs, io};
 
 // The status of a program that ended so. Where it was stopped its user is told, and where it was not nothing is.
 fn ended<E: Write>(done: Result<(), Stop>, errors: &mut E) -> u8
@@ -84,21 +89,77 @@ pub fn run_script<I: Read + Drop, O: Write + Drop>(
     run_in(&alloc, &config, incoming, &exchange)
 }
 
-/// The whole program: does what the words behind its name ask for, and answers its exit status, 0, 2, 3 or 4.
-///
-/// Answers go to `writer`, what the user is told goes to `errors`, and nothing is told at status 0.
-pub fn program<S: AsStr, I: Read + Drop, O: Write + Drop, E: Write>(
+// The file of a name, opened to be read.
+fn opened<R: Files>(rt: &R, name: String) -> Result<(String, R::File), Stop> {
+    match fs::open(rt, name.as_str()) {
+        Ok(file) => Ok((name, file)),
+        Err(error) if error.kind() == io::ErrorKind::OutOfMemory => Err(Stop::Memory),
+        Err(_) => Err(Stop::CannotOpen(name)),
+    }
+}
+
+// The files of the names, opened in order. The first that cannot be opened ends it.
+fn all_opened<R: Files>(
+    rt: &R,
     alloc: Global,
-    words: &[S],
-    reader: I,
-    writer: O,
+    names: Vec<String>,
+) -> Result<Vec<(String, R::File)>, Stop>
+    ensures { IfOk result (λ files. length files.items ≡ length names.items) }
+{
+    let mut files = Vec::new(alloc);
+    for name in names {
+        let file = opened(rt, name)?;
+        if files.push(file).is_err() {
+            return Err(Stop::Memory);
+        }
+    }
+    Ok(files)
+}
+
+/// Plays the scripts of the files at once, each as an actor, and writes the rows. A configuration at fault is told before
+/// a file is opened, and a file that cannot be opened before one is read. Answers the exit status.
+pub fn record_files<R: Files + Threads + Wait + Sync + AllocGlobal, O: Write, E: Write>(
+    rt: &R,
+    config: Config,
+    names: Vec<String>,
+    writer: &mut O,
     errors: &mut E,
 ) -> u8
+    requires count { (1 ≤ length names.items) × (length names.items ≤ 8) }
+    ensures config { IfSome (fault_of config) (λ fault. result ≡ status (stop_of_config fault)) }
     ensures status { IsStatus result }
     ensures quiet { result ≡ 0 → Keeps (E.contents errors.old) (E.contents errors.new) }
 {
-    match parse_words(alloc, words) {
+    if let Some(fault) = fault_of(&config) {
+        return ended(Err(Stop::from(fault)), errors);
+    }
+    match all_opened(rt, rt.alloc(), names) {
+        Err(stop) => ended(Err(stop), errors),
+        Ok(files) => play_files(rt, &config, files, writer, errors),
+    }
+}
+
+/// The whole program: does what the words behind its name ask for, and answers its exit status, 0 or 2 to 6.
+///
+/// Answers go to `writer`, what the user is told goes to `errors`, and nothing is told at status 0. The actors of a
+/// recording wait for one another.
+pub fn program<
+    R: Files + Threads + Wait + Sync + AllocGlobal,
+    S: AsStr,
+    I: Read + Drop,
+    O: Write + Drop,
+    E: Write,
+>(rt: &R, words: &[S], reader: I, mut writer: O, errors: &mut E) -> u8
+    ensures status { IsStatus result }
+    ensures quiet { result ≡ 0 → Keeps (E.contents errors.old) (E.contents errors.new) }
+{
+    match parse_words(rt.alloc(), words) {
         Err(refused) => ended(Err(Stop::from(refused)), errors),
-        Ok(Request::Run { config }) => ended(run_script(alloc, config, reader, writer), errors),
+        Ok(Request::Run { config }) => {
+            ended(run_script(rt.alloc(), config, reader, writer), errors)
+        }
+        Ok(Request::Record { config, files }) => {
+            record_files(rt, config, files, &mut writer, errors)
+        }
     }
 }

@@ -20,6 +20,8 @@ pub enum Stop {
     BadLimit,
     Memory,
     CannotRead,
+    /// A file of this name cannot be opened.
+    CannotOpen(String),
     CannotWrite,
     /// The input has more lines than can be counted.
     TooLong,
@@ -36,7 +38,7 @@ impl Stop {
             Stop::Usage(_) => 2,
             Stop::BadPage | Stop::BadFactor | Stop::TooManyClasses | Stop::BadLimit => 2,
             Stop::Memory => 3,
-            Stop::CannotRead | Stop::CannotWrite | Stop::TooLong => 4,
+            Stop::CannotRead | Stop::CannotOpen(_) | Stop::CannotWrite | Stop::TooLong => 4,
         }
     }
 
@@ -60,6 +62,7 @@ impl fmt::Display for Stop {
             Stop::BadLimit => f.write_str("lrudb: bad configuration: limit\n"),
             Stop::Memory => f.write_str("lrudb: out of memory\n"),
             Stop::CannotRead => f.write_str("lrudb: cannot read\n"),
+            Stop::CannotOpen(name) => write!(f, "lrudb: {name}: cannot read\n"),
             Stop::CannotWrite => f.write_str("lrudb: cannot write\n"),
             Stop::TooLong => f.write_str("lrudb: input too long\n"),
         }

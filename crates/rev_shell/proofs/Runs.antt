@@ -19,15 +19,15 @@ use Rattle.rev_output.proofs.Written.{Appends-then, Appends-none}
 use Rattle.rev_shell.specs.Run.{answers, session_after, out, text, wholes, AreWhole, IsSoFar, IsLeft, IsStopped, run_fault}
 use Rattle.rev_shell.specs.declared.run.RunFault.TheVariants as run_faults
 
-lines-nil : lines [] ≡ []
+pub lines-nil : lines [] ≡ []
 unfolding lines cuts
 lines-nil = refl
 
-lines-last : (taken : List ℕ) (line : ScriptLine) → IsLast taken line → lines taken ≡ line ∷ []
+pub lines-last : (taken : List ℕ) (line : ScriptLine) → IsLast taken line → lines taken ≡ line ∷ []
 unfolding lines
 lines-last taken line l = ap (λ t. map (λ c. c.line) t) l.cut
 
-lines-whole : (taken more : List ℕ) (line : ScriptLine) → IsWhole taken line → lines (taken ++ more) ≡ line ∷ lines more
+pub lines-whole : (taken more : List ℕ) (line : ScriptLine) → IsWhole taken line → lines (taken ++ more) ≡ line ∷ lines more
 unfolding lines
 lines-whole taken more line w = ap (λ t. map (λ c. c.line) t) (w.cut more)
 
@@ -67,21 +67,21 @@ wholes-more : (ls : List ScriptLine) (l : ScriptLine) (cs : List Cut) → wholes
 wholes-more [] l cs = refl
 wholes-more (x ∷ xs) l cs = ap (λ t. record { line = x; whole = true } ∷ t) (wholes-more xs l cs)
 
-lines-more : (read more : List ℕ) (done : List ScriptLine) → AreWhole read done → lines (read ++ more) ≡ done ++ lines more
+pub lines-more : (read more : List ℕ) (done : List ScriptLine) → AreWhole read done → lines (read ++ more) ≡ done ++ lines more
 unfolding lines
 lines-more read more done w = ap (λ t. map (λ c. c.line) t) (w.cuts_are more) ∙ plain_lines done (cuts more)
 
-whole_lines-more : (read more : List ℕ) (done : List ScriptLine) → AreWhole read done → whole_lines (read ++ more) ≡ length done + whole_lines more
+pub whole_lines-more : (read more : List ℕ) (done : List ScriptLine) → AreWhole read done → whole_lines (read ++ more) ≡ length done + whole_lines more
 unfolding whole_lines
 whole_lines-more read more done w = ap (λ t. count_by (λ c. c.whole) t) (w.cuts_are more) ∙ count_wholes done (cuts more)
 
-whole_then : (read taken : List ℕ) (done : List ScriptLine) (line : ScriptLine) → AreWhole read done → IsWhole taken line → AreWhole (read ++ taken) (done ++ line ∷ [])
+pub whole_then : (read taken : List ℕ) (done : List ScriptLine) (line : ScriptLine) → AreWhole read done → IsWhole taken line → AreWhole (read ++ taken) (done ++ line ∷ [])
 whole_then read taken done line w n = record {
   cuts_are = λ more.
       ap cuts (append_assoc read taken more) ∙ w.cuts_are (taken ++ more) ∙ ap (λ t. wholes done ++ t) (n.cut more) ∙ wholes-more done line (cuts more);
 }
 
-last_then : (read taken : List ℕ) (done : List ScriptLine) (line : ScriptLine) → AreWhole read done → IsLast taken line → lines (read ++ taken) ≡ done ++ line ∷ []
+pub last_then : (read taken : List ℕ) (done : List ScriptLine) (line : ScriptLine) → AreWhole read done → IsLast taken line → lines (read ++ taken) ≡ done ++ line ∷ []
 last_then read taken done line w n = lines-more read taken done w ∙ ap (λ t. done ++ t) (lines-last taken line n)
 
 -- the first lines of what was read are those that are done
@@ -96,7 +96,7 @@ from_reader None rest piece taken p = tt
 from_reader (Some xs) None piece taken p = absurd p
 from_reader (Some xs) (Some ys) piece taken p = p ∙ sym (append_assoc taken piece ys)
 
-plain_ahead : (piece : List ℕ) (rest : Option (List ℕ)) → piece ≡ [] → prepend_known piece rest ≡ rest
+pub plain_ahead : (piece : List ℕ) (rest : Option (List ℕ)) → piece ≡ [] → prepend_known piece rest ≡ rest
 plain_ahead piece None e = refl
 plain_ahead piece (Some ys) e = ap (λ t. Some (t ++ ys)) e
 
@@ -106,7 +106,7 @@ read_of {S} told start now taken e t =
     from_reader (told start.source).remaining (told now.source).remaining (in_piece now) taken
     (subst (λ a. Consumes a (ahead told now) taken) (plain_ahead (in_piece start) (told start.source).remaining e) t.bytes)
 
-keep_all : (a : Option (List ℕ)) → Consumes a a []
+pub keep_all : (a : Option (List ℕ)) → Consumes a a []
 keep_all None = tt
 keep_all (Some xs) = refl
 

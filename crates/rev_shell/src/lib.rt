@@ -2,12 +2,12 @@
 #![tactic(auto)]
 
 pub mod answer;
-mod asked;
+pub mod asked;
 pub mod bookmarks;
 mod play;
 mod reasons;
 pub mod run;
 mod show;
-mod text;
+pub mod text;
 mod tree;
 pub mod words;

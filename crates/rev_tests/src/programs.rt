@@ -119,7 +119,7 @@ fn words(rt: HostRuntime) -> Result<(), Fail> {
         let words = case.words;
         let mut output: Vec<u8> = Vec::new(rt.alloc());
         let mut errors: Vec<u8> = Vec::new(rt.alloc());
-        let status = program(rt.alloc(), words, case.input, &mut output, &mut errors);
+        let status = program(&rt, words, case.input, &mut output, &mut errors);
         let told = std::str::from_utf8(errors.as_slice()).unwrap_or("");
         assert_eq!(rt; status, case.status, "{words:?}");
         assert!(rt; output.as_slice() == case.output.as_bytes(), "{words:?}");
@@ -150,7 +150,7 @@ fn help(rt: HostRuntime) -> Result<(), Fail> {
     let mut output: Vec<u8> = Vec::new(rt.alloc());
     let mut errors: Vec<u8> = Vec::new(rt.alloc());
     let status = program(
-        rt.alloc(),
+        &rt,
         &["run", "-h"],
         b"".as_slice(),
         &mut output,
@@ -219,7 +219,7 @@ fn faulty_streams(rt: HostRuntime) -> Result<(), Fail> {
             fails: true,
         };
         let mut errors: Vec<u8> = Vec::new(rt.alloc());
-        let status = program(rt.alloc(), &["run"], reader, &mut writer, &mut errors);
+        let status = program(&rt, &["run"], reader, &mut writer, &mut errors);
         assert_eq!(rt; status, case.status, "{fails} {most}");
         assert!(rt;
             writer.bytes.as_slice() == case.output.as_bytes(),

@@ -1,0 +1,16 @@
+use Rattle.std.proofs.Common.{◌≡◌, ◌+◌, ◌++◌, length, List}
+use Rattle.std.specs.Global.{Vec}
+use Rattle.std.specs.declared.alloc.Global.{Global}
+use Rattle.rev_requests.specs.declared.steps.Step.{Step}
+use Rattle.rev_actors.specs.Recordings.{AreScripts}
+use Rattle.rev_actors.proofs.play.read_files.Given as goal
+
+-- with scripts of the files that are left, there is one for each file
+abbrev pub invariant-loop-name : goal.invariant-loop-name
+invariant-loop-name g l = record {
+  count : length l.scripts.items + length l.rest.items ≡ length l.fn.files.items;
+  steps : (more : List (Vec (Step Global))) → AreScripts g.F.Read.remaining l.rest.items more → AreScripts g.F.Read.remaining l.fn.files.items (l.scripts.items ++ more);
+}
+
+abbrev pub decreases-loop-name : goal.decreases-loop-name
+decreases-loop-name g l = length l.rest.items

@@ -1,0 +1,7 @@
+//! Scripts played at once by several actors on one session, and the rows that tell how it went.
+#![tactic(auto)]
+
+pub mod fault;
+pub mod play;
+pub mod rows;
+pub mod steps;

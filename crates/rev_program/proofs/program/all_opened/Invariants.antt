@@ -1,0 +1,6 @@
+use Rattle.std.proofs.Common.{◌≡◌, ◌+◌, length}
+use Rattle.rev_program.proofs.program.all_opened.Given as goal
+
+-- the names that are left make up the rest
+abbrev pub invariant-loop-name : goal.invariant-loop-name
+invariant-loop-name g l = length l.files.items + length l.name-iterator.rest.items ≡ length l.fn.names.items

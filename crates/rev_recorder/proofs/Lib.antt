@@ -1,0 +1,7 @@
+pub mod Compare
+pub mod Counts
+pub mod Left
+pub mod Legal
+pub mod Outcomes
+pub mod Runs
+pub mod Sends
