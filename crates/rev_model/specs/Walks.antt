@@ -1,4 +1,4 @@
--- The parts of each step with their removals; the cause of a removal, and that a key that a step stores is held after it.
+-- The parts of each step with their removals, and the cause of a removal. That a key which a step stores is held after it stands in Storing.antt.
 use Rattle.std.specs.Prelude.{ℕ, ℤ, ◌≡◌, Bool, true, false, cond, not, ◌&&◌, List, [], ◌∷◌, ◌++◌, Option, None, Some, is_some, length, slice_set, nat_eq, nat_lt, nat_le, refl}
 use Rattle.std.proofs.Common.{sym, ◌∙◌, ap, subst}
 use Rattle.std.proofs.lemmas.Bool.{false≢true}
