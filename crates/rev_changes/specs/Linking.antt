@@ -11,6 +11,7 @@ use Rattle.rev_items.specs.Plain.{PlainItem}
 use Rattle.rev_model.specs.Chunk.{same_chunk, same_entry, chunk_cmp, chunk_cmp_exact, chunk_cmp_total}
 use Rattle.rev_model.specs.Lists.{count}
 use Rattle.rev_model.specs.State.{State, WellFormed, IsChunkOf, queue_place, owner_of, item_at, find, stands}
+use Rattle.rev_model.specs.declared.GlobalPart.TheVariants.{LastCas}
 use Rattle.rev_model.specs.Move.{Puts, Fills, Binds, Sets, moved, Possible}
 use Rattle.rev_model.specs.Undo.{tells_chunk, get-put_at, get-put_at_same, tied}
 use Rattle.rev_model.specs.Keeps.{keeps-fill, keeps-bind, keeps-put_queue}
@@ -83,7 +84,7 @@ module _ (s : State) (c : ℕ) (x : ChunkRef) (i : PlainItem) where
       (h.loose.chunk, ap is_some there) in
       subst (Possible (Puts (ToQueue c q (Chunk x) None))) (sym bind_is) possible
 
-  pub linked_is : moved (Sets (record s.globals { last_cas = i.cas })) (moved (Puts (ToQueue c (queue_for s.globals i.moment) (Chunk x) None)) (moved (Binds x) (with_item x i s))) ≡ linked c x i s
+  pub linked_is : moved (Sets (LastCas i.cas)) (moved (Puts (ToQueue c (queue_for s.globals i.moment) (Chunk x) None)) (moved (Binds x) (with_item x i s))) ≡ linked c x i s
   linked_is = rw there refl
 
   pub rest-linked : SoundBut (Some x) s → Fresh → class_of s.fixed (footprint_of i) ≡ Some c → Rest None (linked c x i s)

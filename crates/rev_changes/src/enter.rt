@@ -15,7 +15,7 @@ ghost use Rattle.rev_changes.specs.Taking.{paired};
 use crate::moving::change;
 use rev_inverse::Store;
 use rev_items::Item;
-use rev_model::{ChunkRef, Entry, Globals, Listed, Placed, Queue};
+use rev_model::{ChunkRef, Entry, GlobalPart, Globals, Listed, Placed, Queue};
 use rev_moves::{Move, Record};
 use std::alloc::Allocator;
 
@@ -82,12 +82,8 @@ pub fn link<A: Allocator>(
     ensures made { length undo.new.moves ≡ length undo.old.moves + 4 }
     ensures told { Tells undo.old store.old undo.new store.new [] }
 {
-    let globals = store.globals();
-    let queue = queue_of_new(globals, item.moment());
-    let next = Globals {
-        last_cas: item.cas(),
-        ..globals
-    };
+    let queue = queue_of_new(store.globals(), item.moment());
+    let cas = item.cas();
     change(store, Move::Fill(chunk, Some(item)), undo);
     change(store, Move::Bind(chunk), undo);
     change(
@@ -95,5 +91,5 @@ pub fn link<A: Allocator>(
         Move::Put(Placed::ToQueue(class, queue, Entry::Chunk(chunk), None)),
         undo,
     );
-    change(store, Move::Globals(next), undo);
+    change(store, Move::Globals(GlobalPart::LastCas(cas)), undo);
 }

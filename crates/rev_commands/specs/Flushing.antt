@@ -4,18 +4,25 @@ use Rattle.std.proofs.Common.{sym, ap, inl, inr}
 use Rattle.std.proofs.lemmas.Bool.{cases_Bool}
 use Rattle.rev_model.specs.State.{State}
 use Rattle.rev_model.specs.Client.{flush_at}
+use Rattle.rev_model.specs.Move.{with_part}
+use Rattle.rev_model.specs.declared.GlobalPart.TheVariants as part
 use Rattle.rev_model.specs.declared.Globals.{Globals}
+use Rattle.rev_model.specs.declared.Timing.{Timing}
 use Rattle.rev_changes.specs.Rest.{Rest}
 
--- the globals after a flush at this moment
-abbrev pub flushed : Globals → ℕ → Globals
-flushed g m = cond (nat_le m g.clock) (record g { mark = g.last_cas; flush = None }) (record g { flush = Some m })
+-- the timing after a flush at this moment
+abbrev pub flushed : Globals → ℕ → Timing
+flushed g m = cond (nat_le m g.clock) (record { clock = g.clock; mark = g.last_cas; flush = None }) (record { clock = g.clock; mark = g.mark; flush = Some m })
 
-pub flushed_at : (s : State) (m : ℕ) → record s { globals = flushed s.globals m } ≡ flush_at s m
+-- the state with the timing of a flush at this moment
+abbrev pub flush_to : State → Timing → State
+flush_to s t = record s { globals = with_part (part.Timing t) s.globals }
+
+pub flushed_at : (s : State) (m : ℕ) → flush_to s (flushed s.globals m) ≡ flush_at s m
 flushed_at s m = elim (cases_Bool (nat_le m s.globals.clock)) [ inl e ↦ rw e refl | inr e ↦ rw e refl ]
 
 -- neither the settings nor the page mover's place changes
-pub rest-flushed : (s : State) (m : ℕ) → Rest None s → Rest None (record s { globals = flushed s.globals m })
+pub rest-flushed : (s : State) (m : ℕ) → Rest None s → Rest None (flush_to s (flushed s.globals m))
 rest-flushed s m r = elim (cases_Bool (nat_le m s.globals.clock)) [
   | inl e ↦ rw e (record { placed = r.placed; filed = r.filed; kept = r.kept })
   | inr e ↦ rw e (record { placed = r.placed; filed = r.filed; kept = r.kept })

@@ -10,7 +10,7 @@ ghost use Rattle.rev_commands.specs.Flushing.{flushed};
 use rev_changes::moving::change;
 use rev_inverse::Store;
 use rev_items::moment;
-use rev_model::{Globals, Outcome};
+use rev_model::{GlobalPart, Globals, Outcome, Timing};
 use rev_moves::{Move, Record};
 use std::alloc::{AllocError, Allocator};
 
@@ -22,21 +22,22 @@ fn flush_moment(now: u32, delay: i32) -> u64
     if delay < 0 { 0 } else { moment(now, delay) }
 }
 
-/// The globals after a flush that comes at `due`: where that is no later than now, all items linked so far are flushed,
+/// The timing after a flush that comes at `due`: where that is no later than now, all items linked so far are flushed,
 /// and no flush is to come.
-fn flushed(globals: Globals, due: u64) -> Globals
+fn flushed(globals: Globals, due: u64) -> Timing
     ensures { result ≡ flushed globals due }
 {
     if due <= u64::from(globals.clock) {
-        Globals {
+        Timing {
+            clock: globals.clock,
             mark: globals.last_cas,
             flush: None,
-            ..globals
         }
     } else {
-        Globals {
+        Timing {
+            clock: globals.clock,
+            mark: globals.mark,
             flush: Some(due),
-            ..globals
         }
     }
 }
@@ -60,6 +61,7 @@ pub fn flush_all<A: Allocator + Clone>(
     let mut undo = Record::with_room(store.alloc()?, 1)?;
     let globals = store.globals();
     let due = flush_moment(globals.clock, delay);
-    change(store, Move::Globals(flushed(globals, due)), &mut undo);
+    let next = GlobalPart::Timing(flushed(globals, due));
+    change(store, Move::Globals(next), &mut undo);
     Ok((Outcome::Okay, undo))
 }

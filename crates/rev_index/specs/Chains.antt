@@ -7,7 +7,7 @@ use Rattle.rev_links.specs.declared.places.Link.{Link}
 use Rattle.rev_model.specs.declared.ChunkRef.{ChunkRef}
 use Rattle.rev_index.specs.declared.chains.Bucket.{Bucket}
 use Rattle.rev_links.specs.Grids.{cell_at}
-use Rattle.rev_index.specs.Hash.{hash_of}
+use Rattle.rev_items.specs.Hash.{hash_of}
 
 -- a bucket's end, or a chunk
 abbrev pub ChainPlace : Type 0

@@ -1,4 +1,3 @@
 pub mod Made
-pub mod Hash
 pub mod Chains
 pub mod Index

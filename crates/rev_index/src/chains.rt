@@ -3,7 +3,7 @@ ghost use Rattle.rev_links.specs.declared.places.Place.TheVariants.{At};
 ghost use Rattle.rev_links.specs.Rings.{SetsNext, SetsPrevious, Between, Gap};
 ghost use Rattle.rev_index.specs.Chains.{ChainPlace, link_at, next_in, previous_in, SameShape, Closes, Opens, bucket_of};
 
-use crate::hash::hash;
+use rev_items::Key;
 use rev_links::{Grid, Link, Place};
 use rev_model::ChunkRef;
 use std::alloc::Allocator;
@@ -26,14 +26,14 @@ pub struct Chains<A: Allocator> {
 }
 
 impl<A: Allocator> Chains<A> {
-    /// The bucket of a key's bytes.
-    pub fn bucket(&self, key: &[u8]) -> Bucket
+    /// The bucket of a key.
+    pub fn bucket<B: Allocator>(&self, key: &Key<B>) -> Bucket
         requires some { 0 < vec_len self.now.ends }
         requires few { vec_len self.now.ends ≤ 2 ^ 20 }
         ensures { result.number ≡ bucket_of (length self.now.ends.items) key.now }
     {
         Bucket {
-            number: (hash(key) % self.ends.len() as u64) as u32,
+            number: (key.hash() % self.ends.len() as u64) as u32,
         }
     }
 

@@ -59,7 +59,7 @@ impl<A: Allocator> Index<A> {
     pub fn find<B: Allocator>(&self, key: &Key<B>) -> Option<ChunkRef>
         ensures { result ≡ map.get self.now.keys key.now }
     {
-        let bucket = self.chains.bucket(key.bytes());
+        let bucket = self.chains.bucket(key);
         seek(&self.chains, &self.items, bucket, key)
     }
 

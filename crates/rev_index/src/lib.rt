@@ -3,7 +3,6 @@
 #![tactic(auto)]
 
 mod chains;
-mod hash;
 mod index;
 mod item_table;
 mod making;

@@ -53,7 +53,7 @@ pub fn home<A: Allocator>(chains: &Chains<A>, items: &ItemTable<A>, chunk: Chunk
     ensures { IsHome (length chains.now.ends.items) result.number (at items.now chunk) }
 {
     match items.item(chunk) {
-        Some(item) => chains.bucket(item.key().bytes()),
+        Some(item) => chains.bucket(item.key()),
         None => unreachable!(),
     }
 }

@@ -1,13 +1,13 @@
 ghost use Rattle.std.specs.Prelude.{◌≡◌, ℕ, ◌+◌, ◌<◌, ◌≤◌, length};
 ghost use Rattle.rev_model.specs.State.{WellFormed, item_at, counter_of, counter_number};
 ghost use Rattle.rev_model.specs.Move as plain;
-ghost use Rattle.rev_model.specs.Move.{moved, reverse, Possible, retouched, back_of, out_of};
+ghost use Rattle.rev_model.specs.Move.{moved, reverse, Possible, retouched, part_like, back_of, out_of};
 ghost use Rattle.rev_model.specs.Words.{weight};
 
 use crate::store::Store;
 use crate::uncounted::{put_entry, put_free, take_entry, take_free};
 use rev_items::Item;
-use rev_model::{BumpEntry, ChunkRef, Counter, Entry, Globals, Listed, Placed, Touched};
+use rev_model::{BumpEntry, ChunkRef, Counter, Entry, GlobalPart, Listed, Placed, Timing, Touched};
 use std::alloc::Allocator;
 use std::marker::Brand;
 use std::mem;
@@ -141,11 +141,31 @@ impl<A: Allocator> Store<A> {
         mem::replace(&mut self.counters[place], value)
     }
 
-    pub(crate) fn set(&mut self, globals: Globals) -> Globals
-        ensures state { self.new ≡ moved (plain.Sets globals) self.old }
-        ensures before { result ≡ self.old.globals }
+    pub(crate) fn set(&mut self, next: GlobalPart) -> GlobalPart
+        ensures state { self.new ≡ moved (plain.Sets next) self.old }
+        ensures before { result ≡ part_like next self.old.globals }
     {
-        mem::replace(&mut self.globals, globals)
+        let globals = &mut self.globals;
+        match next {
+            GlobalPart::LastCas(cas) => {
+                GlobalPart::LastCas(mem::replace(&mut globals.last_cas, cas))
+            }
+            GlobalPart::Timing(timing) => {
+                let before = Timing {
+                    clock: globals.clock,
+                    mark: globals.mark,
+                    flush: globals.flush,
+                };
+                globals.clock = timing.clock;
+                globals.mark = timing.mark;
+                globals.flush = timing.flush;
+                GlobalPart::Timing(before)
+            }
+            GlobalPart::Mover(mover) => GlobalPart::Mover(mem::replace(&mut globals.mover, mover)),
+            GlobalPart::Settings(settings) => {
+                GlobalPart::Settings(mem::replace(&mut globals.settings, settings))
+            }
+        }
     }
 
     pub(crate) fn bump_in(&mut self, entry: BumpEntry)

@@ -34,11 +34,11 @@ impl<A: Allocator> Store<A> {
                 Move::Shift(to, from)
             }
             Move::Lay(page, class, parts, form) => {
-                self.lay(page, class, parts, form);
-                Move::Lift(page, form)
+                let shelf = self.lay(page, class, parts, form);
+                Move::Lift(page, form, shelf)
             }
-            Move::Lift(page, form) => {
-                let (class, parts) = self.lift(page, form);
+            Move::Lift(page, form, shelf) => {
+                let (class, parts) = self.lift(page, form, shelf);
                 Move::Lay(page, class, parts, form)
             }
             Move::Count(class, counter, value) => Move::Count(
@@ -46,7 +46,7 @@ impl<A: Allocator> Store<A> {
                 counter,
                 self.count(class, counter, value),
             ),
-            Move::Globals(globals) => Move::Globals(self.set(globals)),
+            Move::Globals(part) => Move::Globals(self.set(part)),
             Move::BumpIn(entry) => {
                 self.bump_in(entry);
                 Move::BumpBack

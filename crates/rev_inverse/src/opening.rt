@@ -14,7 +14,7 @@ use crate::store::Store;
 use rev_classes::{ClassTable, Config, ConfigFault};
 use rev_index::Index;
 use rev_model::{Globals, Settings};
-use rev_moves::Parts;
+use rev_moves::{Parts, Shelf};
 use rev_pages::Pages;
 use rev_queues::Queues;
 use std::alloc::{AllocError, Allocator};
@@ -106,11 +106,19 @@ impl<A: Allocator + Clone> Store<A> {
         requires class { IsClass self.now.fixed class }
         ensures { IfOk result (λ parts. parts ≡ per_page self.now.fixed class) }
     {
+        let shelf = self.shelf()?;
         let count = self.table.per_page(class) as u16;
         let pages = rev_pages::slots(self.alloc.clone()?, count)?;
         let queues = rev_queues::slots(self.alloc.clone()?, count)?;
         let index = rev_index::slots(self.alloc.clone()?, count)?;
-        Ok(Parts::new(pages, queues, index))
+        Ok(shelf.fill(pages, queues, index))
+    }
+
+    /// Memory for what a page leaves when `Move::Lift` lifts it.
+    ///
+    /// Err: a growth was refused.
+    pub fn shelf(&self) -> Result<Shelf<A>, AllocError> {
+        Shelf::new(self.alloc.clone()?)
     }
 
     /// The allocator of the store, once more.

@@ -5,23 +5,30 @@ ghost use Rattle.rev_model.specs.Move.{moved, reverse, Possible};
 
 use crate::store::Store;
 use rev_model::Form;
-use rev_moves::Parts;
+use rev_moves::{Parts, Shelf, Unshelved};
 use std::alloc::Allocator;
 
 impl<A: Allocator> Store<A> {
-    pub(crate) fn lay(&mut self, page: u16, class: usize, parts: Parts<A>, form: Form)
+    // The shelf on which the parts lay.
+    pub(crate) fn lay(&mut self, page: u16, class: usize, parts: Parts<A>, form: Form) -> Shelf<A>
         requires well { WellFormed self.old }
         requires possible { Possible (plain.Lays page class parts form) self.old }
         ensures state { self.new ≡ moved (plain.Lays page class parts form) self.old }
     {
-        let (pages, queues, index) = parts.split();
+        let Unshelved {
+            pages,
+            queues,
+            index,
+            shelf,
+        } = parts.unshelve();
         self.pages.lay(page, class, pages, form);
         self.queues.lay(page, queues);
         self.index.lay(page, index);
+        shelf
     }
 
-    // The page's class and parts.
-    pub(crate) fn lift(&mut self, page: u16, form: Form) -> (usize, Parts<A>)
+    // The page's class and parts, which lie on the shelf from now on.
+    pub(crate) fn lift(&mut self, page: u16, form: Form, shelf: Shelf<A>) -> (usize, Parts<A>)
         requires well { WellFormed self.old }
         requires possible { Possible (plain.Lifts page form) self.old }
         ensures state { self.new ≡ moved (plain.Lifts page form) self.old }
@@ -32,6 +39,6 @@ impl<A: Allocator> Store<A> {
         let pages = self.pages.lift(page, form);
         let queues = self.queues.lift(page);
         let index = self.index.lift(page);
-        (class, Parts::new(pages, queues, index))
+        (class, shelf.fill(pages, queues, index))
     }
 }

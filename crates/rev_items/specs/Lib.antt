@@ -1,3 +1,4 @@
 pub mod Keys
 pub mod Plain
 pub mod Rules
+pub mod Hash

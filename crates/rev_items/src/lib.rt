@@ -4,8 +4,12 @@
 ghost use Rattle.std.specs.Prelude.{◌≡◌, ◌≤◌, ◌<◌, ◌^◌, ◌↔◌, ℕ, IfOk, IsTrue, List, length, true, false};
 ghost use Rattle.std.specs.List.{list_all};
 ghost use Rattle.rev_items.specs.Plain.{PlainItem, is_key, is_key_byte};
+ghost use Rattle.rev_items.specs.Hash.{hash_of};
 ghost use Rattle.rev_items.specs.Rules.{footprint, footprint_of, is_past, moment};
 
+mod hash;
+
+use crate::hash::hash;
 use std::alloc::{AllocError, Allocator};
 use std::marker::Model;
 use thiserror::Error;
@@ -38,26 +42,29 @@ pub struct Bits {
     pub active: bool,
 }
 
-/// The name of an item: 1 to 250 bytes, none of them 0 to 32 or 127 (protocol.txt).
+/// The name of an item: 1 to 250 bytes, none of them 0 to 32 or 127 (protocol.txt). It keeps the hash of its bytes, so
+/// that a search in an index hashes a key once and reads the bytes of no other key but its own.
 #[derive(Drop)]
 pub struct Key<A: Allocator> {
     bytes: Vec<u8, A>,
+    hash: u64,
 }
 
 impl<A: Allocator> Model for Key<A> {
-    ghost use Rattle.std.specs.Prelude.{List, ℕ};
+    ghost use Rattle.std.specs.Prelude.{List, ℕ, ◌≡◌};
     ghost use Rattle.rev_items.specs.Keys.{IsKey};
+    ghost use Rattle.rev_items.specs.Hash.{hash_of};
 
     ghost Value = { List ℕ };
 
     ghost view = { λ k. k.bytes.items };
 
-    ghost invariant = { λ k. IsKey k.bytes.items };
+    ghost invariant = { λ k. IsKey k.bytes.items × (k.hash ≡ hash_of k.bytes.items) };
 }
 
-/// What a chunk holds.
+// What an item holds.
 #[derive(Drop)]
-pub struct Item<A: Allocator> {
+struct Held<A: Allocator> {
     key: Key<A>,
     value: Vec<u8, A>,
     flags: u32,
@@ -67,15 +74,21 @@ pub struct Item<A: Allocator> {
     bits: Bits,
 }
 
+/// What a chunk holds. It lies behind one pointer, so that lists of slots and records of moves hold it in eight bytes.
+#[derive(Drop)]
+pub struct Item<A: Allocator> {
+    held: Box<Held<A>, A>,
+}
+
 impl<A: Allocator> Model for Item<A> {
     ghost use Rattle.std.specs.Prelude.{length, ◌≤◌};
     ghost use Rattle.rev_items.specs.Plain.{PlainItem};
 
     ghost Value = { PlainItem };
 
-    ghost view = { λ i. record { key = i.key; value = i.value.items; flags = i.flags; moment = i.moment; time = i.time; cas = i.cas; bits = i.bits } };
+    ghost view = { λ i. record { key = i.held.value.key; value = i.held.value.value.items; flags = i.held.value.flags; moment = i.held.value.moment; time = i.held.value.time; cas = i.held.value.cas; bits = i.held.value.bits } };
 
-    ghost invariant = { λ i. length i.value.items ≤ 1048576 };
+    ghost invariant = { λ i. length i.held.value.value.items ≤ 1048576 };
 }
 
 fn is_key_byte(byte: u8) -> bool
@@ -148,8 +161,9 @@ impl<A: Allocator> Key<A> {
         if !is_key(bytes) {
             return Err(KeyFault::BadKey);
         }
+        let hash = hash(bytes);
         match bytes.to_vec(alloc) {
-            Ok(bytes) => Ok(Key { bytes }),
+            Ok(bytes) => Ok(Key { bytes, hash }),
             Err(_) => Err(KeyFault::Memory),
         }
     }
@@ -167,36 +181,49 @@ impl<A: Allocator> Key<A> {
         ensures { IfOk result (λ key. key ≡ self.now) }
     {
         let bytes = self.bytes.as_slice().to_vec(alloc)?;
-        Ok(Key { bytes })
+        Ok(Key {
+            bytes,
+            hash: self.hash,
+        })
+    }
+
+    /// The hash of the key's bytes.
+    pub fn hash(&self) -> u64
+        ensures { result ≡ hash_of self.now }
+    {
+        self.hash
     }
 
     /// Whether the two keys have the same bytes.
     pub fn is_same<B: Allocator>(&self, other: &Key<B>) -> bool
         ensures { IsTrue result ↔ (self.now ≡ other.now) }
     {
-        self.bytes.as_slice() == other.bytes.as_slice()
+        self.hash == other.hash && self.bytes.as_slice() == other.bytes.as_slice()
     }
 }
 
 impl<A: Allocator> Item<A> {
     /// An item as it stands when it is linked: neither bit is set. Its data are at most 1048576 bytes, the largest
     /// page, so that a footprint fits 32 bits.
+    ///
+    /// Err: a growth was refused.
     pub fn new(
+        alloc: A,
         key: Key<A>,
         value: Vec<u8, A>,
         flags: u32,
         moment: u64,
         time: u32,
         cas: u64,
-    ) -> Item<A>
+    ) -> Result<Item<A>, AllocError>
         requires data { length value.items ≤ 1048576 }
-        ensures { result ≡ record { key = key; value = value.items; flags = flags; moment = moment; time = time; cas = cas; bits = record { fetched = false; active = false } } }
+        ensures { IfOk result (λ item. item ≡ record { key = key; value = value.items; flags = flags; moment = moment; time = time; cas = cas; bits = record { fetched = false; active = false } }) }
     {
         let bits = Bits {
             fetched: false,
             active: false,
         };
-        Item {
+        let held = Held {
             key,
             value,
             flags,
@@ -204,54 +231,57 @@ impl<A: Allocator> Item<A> {
             time,
             cas,
             bits,
-        }
+        };
+        Ok(Item {
+            held: Box::new(alloc, held)?,
+        })
     }
 
     pub fn key(&self) -> &Key<A>
         ensures { result.now ≡ self.now.key }
     {
-        &self.key
+        &self.held.key
     }
 
     /// The item's data.
     pub fn value(&self) -> &[u8]
         ensures { result.now ≡ self.now.value }
     {
-        &self.value
+        &self.held.value
     }
 
     /// The number that the client keeps with the item.
     pub fn flags(&self) -> u32
         ensures { result ≡ self.now.flags }
     {
-        self.flags
+        self.held.flags
     }
 
     /// The second of the clock at which the item expires; 0: never.
     pub fn moment(&self) -> u64
         ensures { result ≡ self.now.moment }
     {
-        self.moment
+        self.held.moment
     }
 
     /// The second of the clock at which the item was linked or last bumped.
     pub fn time(&self) -> u32
         ensures { result ≡ self.now.time }
     {
-        self.time
+        self.held.time
     }
 
     /// The item's unique number, by which `cas` compares.
     pub fn cas(&self) -> u64
         ensures { result ≡ self.now.cas }
     {
-        self.cas
+        self.held.cas
     }
 
     pub fn bits(&self) -> Bits
         ensures { result ≡ self.now.bits }
     {
-        self.bits
+        self.held.bits
     }
 
     /// The bytes that the item takes of its chunk.
@@ -259,7 +289,8 @@ impl<A: Allocator> Item<A> {
         ensures bytes { result ≡ footprint_of self.now }
         ensures within { result < 2 ^ 32 }
     {
-        footprint(self.key.bytes().len(), self.flags, self.value.len() as u64)
+        let held = &self.held;
+        footprint(held.key.bytes().len(), held.flags, held.value.len() as u64)
     }
 
     /// Whether the item is dead at `now`, after a flush of all items up to the cas number `mark`: it has expired, or
@@ -267,7 +298,7 @@ impl<A: Allocator> Item<A> {
     pub fn is_dead(&self, now: u32, mark: u64) -> bool
         ensures { result ≡ is_past now mark self.now.moment self.now.cas }
     {
-        is_past(now, mark, self.moment, self.cas)
+        is_past(now, mark, self.held.moment, self.held.cas)
     }
 
     /// Exchanges bits, time and moment, and gives the old ones.
@@ -275,10 +306,10 @@ impl<A: Allocator> Item<A> {
         ensures old { result ≡ (self.old.bits, self.old.time, self.old.moment) }
         ensures new { self.new ≡ record self.old { bits = bits; time = time; moment = moment } }
     {
-        let old = (self.bits, self.time, self.moment);
-        self.bits = bits;
-        self.time = time;
-        self.moment = moment;
+        let old = (self.held.bits, self.held.time, self.held.moment);
+        self.held.bits = bits;
+        self.held.time = time;
+        self.held.moment = moment;
         old
     }
 }

@@ -22,7 +22,7 @@ use Rattle.rev_model.specs.declared.Entry.{Entry}
 use Rattle.rev_model.specs.declared.Entry.TheVariants.{Chunk, Mark}
 use Rattle.rev_model.specs.declared.Queue.{Queue}
 use Rattle.rev_model.specs.declared.Counter.{Counter}
-use Rattle.rev_model.specs.declared.Globals.{Globals}
+use Rattle.rev_model.specs.declared.GlobalPart.{GlobalPart}
 use Rattle.rev_model.specs.declared.Listed.TheVariants.{InFree, InQueue}
 use Rattle.rev_model.specs.declared.Placed.TheVariants.{ToFree, ToQueue}
 
@@ -349,8 +349,8 @@ keeps-count s well c k v r = record {
   after = record { lists = well.lists; filled = well.filled; index = well.index; owned = well.owned; bump = well.bump; counters = length-set s.counters (counter_place c k) v ∙ well.counters };
 }
 
-pub keeps-sets : (s : State) → WellFormed s → (g : Globals) → Possible (Sets g) s
-keeps-sets s well g = record {
+pub keeps-sets : (s : State) → WellFormed s → (p : GlobalPart) → Possible (Sets p) s
+keeps-sets s well p = record {
   ready = tt;
   after = record { lists = well.lists; filled = well.filled; index = well.index; owned = well.owned; bump = well.bump; counters = well.counters };
 }

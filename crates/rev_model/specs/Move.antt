@@ -16,6 +16,8 @@ use Rattle.rev_model.specs.declared.ClassSet.TheVariants.{All, These}
 use Rattle.rev_model.specs.declared.Counter.{Counter}
 use Rattle.rev_model.specs.declared.BumpEntry.{BumpEntry}
 use Rattle.rev_model.specs.declared.Globals.{Globals}
+use Rattle.rev_model.specs.declared.GlobalPart.{GlobalPart}
+use Rattle.rev_model.specs.declared.GlobalPart.TheVariants.{LastCas, Timing, Mover, Settings}
 use Rattle.rev_model.specs.declared.Touched.{Touched}
 use Rattle.rev_model.specs.declared.Form.{Form}
 use Rattle.rev_model.specs.declared.Form.TheVariants.{Fresh, Pool, Withdrawn}
@@ -35,7 +37,7 @@ pub data Move : Type 0 where
   Lays : ℕ → ℕ → ℕ → Form → Move
   Lifts : ℕ → Form → Move
   Counts : ℕ → Counter → ℕ → Move
-  Sets : Globals → Move
+  Sets : GlobalPart → Move
   BumpsIn : BumpEntry → Move
   BumpsBack : Move
   BumpsOut : Move
@@ -107,6 +109,20 @@ abbrev pub retouched : Touched → Option PlainItem → Touched
 retouched t None = t
 retouched t (Some i) = touched_of i
 
+-- the globals with this part
+abbrev pub with_part : GlobalPart → Globals → Globals
+with_part (LastCas n) g = record g { last_cas = n }
+with_part (Timing t) g = record g { clock = t.clock; mark = t.mark; flush = t.flush }
+with_part (Mover m) g = record g { mover = m }
+with_part (Settings w) g = record g { settings = w }
+
+-- the same part, as the globals have it
+abbrev pub part_like : GlobalPart → Globals → GlobalPart
+part_like (LastCas n) g = LastCas g.last_cas
+part_like (Timing t) g = Timing record { clock = g.clock; mark = g.mark; flush = g.flush }
+part_like (Mover m) g = Mover g.mover
+part_like (Settings w) g = Settings g.settings
+
 -- an entry takes the place of another
 abbrev pub exchanged : Entry → Entry → List Entry → List Entry
 exchanged x y [] = []
@@ -175,7 +191,7 @@ moved (Unbinds x) s = unbound (item_at s x) s
 moved (Lays p c n f) s = laid p c n f s
 moved (Lifts p f) s = lifted p (owner_of s p) (per_page s.fixed (owner_of s p)) f s
 moved (Counts c k v) s = record s { counters = slice_set s.counters (counter_place c k) v }
-moved (Sets g) s = record s { globals = g }
+moved (Sets p) s = record s { globals = with_part p s.globals }
 moved (BumpsIn b) s = record s { bump = s.bump ++ b ∷ [] }
 moved BumpsBack s = record s { bump = front s.bump }
 moved BumpsOut s = record s { bump = drop 1 s.bump }
@@ -197,7 +213,7 @@ reverse (Unbinds x) s = Binds x
 reverse (Lays p c n f) s = Lifts p f
 reverse (Lifts p f) s = Lays p (owner_of s p) (per_page s.fixed (owner_of s p)) f
 reverse (Counts c k v) s = Counts c k (counter_of s c k)
-reverse (Sets g) s = Sets s.globals
+reverse (Sets p) s = Sets (part_like p s.globals)
 reverse (BumpsIn b) s = BumpsBack
 reverse BumpsBack s = back_of s.bump
 reverse BumpsOut s = out_of s.bump
@@ -243,7 +259,7 @@ Ready (Unbinds x) s = (i : PlainItem) × (item_at s x ≡ Some i) × (find s i.k
 Ready (Lays p c n f) s = PageReady p f s × (0 < c) × (c < length s.free) × (n ≡ per_page s.fixed c) × HoldsNoItem s p
 Ready (Lifts p f) s = LiftReady p (owner_of s p) (per_page s.fixed (owner_of s p)) f s × (0 < owner_of s p) × (owner_of s p < length s.free) × HoldsNoItem s p
 Ready (Counts c k v) s = counter_place c k < length s.counters
-Ready (Sets g) s = Unit {0}
+Ready (Sets p) s = Unit {0}
 Ready (BumpsIn b) s = Unit {0}
 Ready BumpsBack s = 0 < length s.bump
 Ready BumpsOut s = 0 < length s.bump

@@ -18,6 +18,8 @@ use Rattle.rev_model.specs.State.{State, Contents, WellFormed, free_of, queue_of
 use Rattle.std.specs.Option.{option_map}
 use Rattle.std.specs.Cmp.Lexicographic.{nat_list_cmp_total}
 use Rattle.rev_items.specs.Plain.{PlainItem}
+use Rattle.rev_model.specs.declared.GlobalPart.{GlobalPart}
+use Rattle.rev_model.specs.declared.GlobalPart.TheVariants.{LastCas, Timing, Mover, Settings}
 use Rattle.rev_model.specs.Move.{Move, Takes, Puts, Fills, Touches, Binds, Unbinds, Lays, Lifts, Counts, Sets, BumpsIn, BumpsBack, BumpsOut, BumpsFront, Shifts, MarksIn, MarksOut, names, marked, unmarked, NoMarks, EndMarks, exchanged, carried, rebound, shifted, put_at, moved, reverse, back_of, retouched, Ready, Possible, MayEnter, HoldsNoItem, LiftReady, turned, Fits, falling, front, last_or, touched, laid, lifted}
 use Rattle.rev_model.specs.declared.Queue.{Queue}
 use Rattle.rev_model.specs.declared.ClassSet.{ClassSet}
@@ -572,6 +574,12 @@ undo-marks_out s well set r = record {
 }
 
 -- each move that is ready in a well-formed state is undone by its reverse
+undo-set : (s : State) (p : GlobalPart) → Undoes (Sets p) s
+undo-set s (LastCas n) = record { back = refl; same = refl; ready = tt }
+undo-set s (Timing t) = record { back = refl; same = refl; ready = tt }
+undo-set s (Mover m) = record { back = refl; same = refl; ready = tt }
+undo-set s (Settings w) = record { back = refl; same = refl; ready = tt }
+
 pub undo : (m : Move) (s : State) → WellFormed s → Ready m s → Undoes m s
 undo (Takes (InFree c x)) s well r = undo-take_free s well c x r
 undo (Takes (InQueue c q e)) s well r = undo-take_queue s well c q e r
@@ -584,7 +592,7 @@ undo (Unbinds x) s well r = undo-unbind s x r
 undo (Lays p c n f) s well r = undo-lay s p c n f r
 undo (Lifts p f) s well r = undo-lift s p f r
 undo (Counts c k v) s well r = undo-count s c k v r
-undo (Sets g) s well r = record { back = refl; same = refl; ready = tt }
+undo (Sets p) s well r = undo-set s p
 undo (BumpsIn b) s well r = undo-bump_in s b
 undo BumpsBack s well r = undo-bump_back s s.bump r
 undo BumpsOut s well r = undo-bump_out s s.bump r

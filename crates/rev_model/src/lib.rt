@@ -100,6 +100,15 @@ pub struct Settings {
     pub temp_ttl: i32,
 }
 
+/// The clock (seconds), and what a flush goes by: the flush mark (items up to it are dead) and the moment of a pending
+/// flush.
+#[derive(Clone, Copy, Debug, PartialEq, Eq)]
+pub struct Timing {
+    pub clock: u32,
+    pub mark: u64,
+    pub flush: Option<u64>,
+}
+
 /// What stands once in a store: the clock (seconds), the last cas number, the flush mark (items up to it are dead), the
 /// moment of a pending flush, the page move under way and the settings.
 #[derive(Clone, Copy, Debug, PartialEq, Eq)]
@@ -110,6 +119,15 @@ pub struct Globals {
     pub flush: Option<u64>,
     pub mover: Option<Mover>,
     pub settings: Settings,
+}
+
+/// A part of what stands once in a store, as a move exchanges it.
+#[derive(Clone, Copy, Debug, PartialEq, Eq)]
+pub enum GlobalPart {
+    LastCas(u64),
+    Timing(Timing),
+    Mover(Option<Mover>),
+    Settings(Settings),
 }
 
 /// A set of slab classes, as `lru_crawler crawl` names it: all, or one bit for each of 1 to 63; bit 0 stands for any

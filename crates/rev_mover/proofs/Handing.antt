@@ -11,6 +11,7 @@ use Rattle.rev_model.specs.Undo.{sum_none, free_lacks, in_no_queue}
 use Rattle.rev_model.specs.Actor.{owned_pages, handed}
 use Rattle.rev_model.specs.Sound.{Sound, Placed, MoverSound, owning, is_withdrawn}
 use Rattle.rev_model.specs.Keeps.{keeps-sets}
+use Rattle.rev_model.specs.declared.GlobalPart.TheVariants as part
 use Rattle.rev_model.specs.Laying.{GetsOne, gets, gets_one, keeps-lay, carved_sound}
 use Rattle.rev_model.specs.declared.ChunkRef.{ChunkRef}
 use Rattle.rev_model.specs.declared.Entry.TheVariants.{Chunk}
@@ -169,7 +170,7 @@ module _ (s : State) (sound : Sound s) (m : Mover) (is : s.globals.mover ≡ Som
       let empty = empty_page s sound m is done in
       let few = owning_same (length s.fixed.sizes) s.owner m.page m.src h.4 h.5 h.7 in
       record {
-        well = (keeps-sets (record s { owner = slice_set s.owner m.page 0 }) (unowned_well s sound.well m.page h.4 empty) (record s.globals { mover = None })).after;
+        well = (keeps-sets (record s { owner = slice_set s.owner m.page 0 }) (unowned_well s sound.well m.page h.4 empty) (part.Mover None)).after;
         placed = record { once = λ x k. pool_once x k };
         filed = record {
           queued = sound.filed.queued;

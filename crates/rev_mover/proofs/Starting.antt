@@ -7,6 +7,7 @@ use Rattle.rev_model.specs.Pull.{page_from, lowest_page}
 use Rattle.rev_model.specs.Actor.{owned_pages}
 use Rattle.rev_model.specs.Sound.{Sound, Placed, MoverSound, is_withdrawn}
 use Rattle.rev_model.specs.Keeps.{keeps-sets}
+use Rattle.rev_model.specs.declared.GlobalPart.TheVariants as part
 use Rattle.rev_model.specs.declared.ChunkRef.{ChunkRef}
 use Rattle.rev_model.specs.declared.Mover.{Mover}
 use Rattle.rev_mover.specs.Moving.{with_mover}
@@ -62,7 +63,7 @@ pub started_sound : (s : State) → Sound s → s.globals.mover ≡ None → (m 
 started_sound s sound none m start mover =
     let placed : Placed s.fixed s.owner s.free s.queues None None = subst (λ o. Placed s.fixed s.owner s.free s.queues o None) none sound.placed in
     record {
-      well = (keeps-sets s sound.well (record s.globals { mover = Some m })).after;
+      well = (keeps-sets s sound.well (part.Mover (Some m))).after;
       placed = record { once = λ x k. rw (none_withdrawn m x start) (placed.once x k) };
       filed = sound.filed;
       kept = record { mover = mover; pages = sound.kept.pages; settings = sound.kept.settings; table = sound.kept.table };

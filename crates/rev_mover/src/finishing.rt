@@ -11,12 +11,12 @@ ghost use Rattle.rev_mover.specs.Parting.{AreParts, parts_moves};
 
 use rev_changes::moving::change;
 use rev_inverse::Store;
-use rev_model::{Form, Globals, Mover, Outcome};
-use rev_moves::{Move, Parts, Record};
+use rev_model::{Form, GlobalPart, Mover, Outcome};
+use rev_moves::{Move, Parts, Record, Shelf};
 use std::alloc::{AllocError, Allocator};
 
-/// The move is over, and its page in the pool: two moves.
-fn release<A: Allocator>(store: &mut Store<A>, mover: Mover, undo: &mut Record<A>)
+/// The move is over, and its page in the pool, what is left of it on the shelf: two moves.
+fn release<A: Allocator>(store: &mut Store<A>, mover: Mover, shelf: Shelf<A>, undo: &mut Record<A>)
     requires sound { Sound store.old }
     requires done { IsDone store.old mover }
     requires room { length undo.old.moves + 2 ≤ undo.old.room }
@@ -27,12 +27,8 @@ fn release<A: Allocator>(store: &mut Store<A>, mover: Mover, undo: &mut Record<A
     ensures made { length undo.new.moves ≡ length undo.old.moves + 2 }
     ensures told { Tells undo.old store.old undo.new store.new [] }
 {
-    let globals = Globals {
-        mover: None,
-        ..store.globals()
-    };
-    change(store, Move::Lift(mover.page, Form::Withdrawn), undo);
-    change(store, Move::Globals(globals), undo);
+    change(store, Move::Lift(mover.page, Form::Withdrawn, shelf), undo);
+    change(store, Move::Globals(GlobalPart::Mover(None)), undo);
 }
 
 /// The slots for a page of the class; none where it goes to the pool.
@@ -67,6 +63,7 @@ fn page_moves<A: Allocator>(parts: &Option<Parts<A>>) -> usize
 fn hand_over<A: Allocator>(
     store: &mut Store<A>,
     mover: Mover,
+    shelf: Shelf<A>,
     parts: Option<Parts<A>>,
     undo: &mut Record<A>,
 )
@@ -81,7 +78,7 @@ fn hand_over<A: Allocator>(
     ensures made { length undo.new.moves ≡ length undo.old.moves + parts_moves parts }
     ensures told { Tells undo.old store.old undo.new store.new [] }
 {
-    release(store, mover, undo);
+    release(store, mover, shelf, undo);
     match parts {
         None => {}
         Some(parts) => {
@@ -107,8 +104,9 @@ pub fn finish<A: Allocator + Clone>(
     ensures err { OnErr result (store.new ≡ store.old) }
     ensures told { IfOk result (λ p. TellsAll p.1 store.new []) }
 {
+    let shelf = store.shelf()?;
     let parts = parts_for(store, usize::from(mover.dst))?;
     let mut undo = Record::with_room(store.alloc()?, page_moves(&parts))?;
-    hand_over(store, mover, parts, &mut undo);
+    hand_over(store, mover, shelf, parts, &mut undo);
     Ok((Outcome::Finished, undo))
 }

@@ -1,3 +1,4 @@
 pub mod Record
 pub mod Seen
 pub mod Leads
+mod Shelves

@@ -6,5 +6,5 @@ mod parts;
 mod record;
 
 pub use moves::Move;
-pub use parts::Parts;
+pub use parts::{Parts, Shelf, Unshelved};
 pub use record::Record;

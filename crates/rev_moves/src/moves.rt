@@ -1,6 +1,8 @@
-use crate::parts::Parts;
+use crate::parts::{Parts, Shelf};
 use rev_items::Item;
-use rev_model::{BumpEntry, ChunkRef, ClassSet, Counter, Form, Globals, Listed, Placed, Touched};
+use rev_model::{
+    BumpEntry, ChunkRef, ClassSet, Counter, Form, GlobalPart, Listed, Placed, Touched,
+};
 use std::alloc::Allocator;
 
 /// A change of a store that another move undoes (this project's own set).
@@ -22,12 +24,12 @@ pub enum Move<A: Allocator> {
     Shift(ChunkRef, ChunkRef),
     /// A page gets a class and the slots for its chunks.
     Lay(u16, usize, Parts<A>, Form),
-    /// A page loses them, and goes to the pool or away.
-    Lift(u16, Form),
+    /// A page loses them, and goes to the pool or away; the shelf takes them up.
+    Lift(u16, Form, Shelf<A>),
     /// A counter of a class is exchanged.
     Count(usize, Counter, u64),
-    /// Clock, cas number, flush, mover and settings are exchanged.
-    Globals(Globals),
+    /// A part of the globals is exchanged: the last cas number, clock and flush, the mover or the settings.
+    Globals(GlobalPart),
     /// An entry enters the bump queue at its back.
     BumpIn(BumpEntry),
     /// The entry at the back leaves.

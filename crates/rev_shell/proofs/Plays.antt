@@ -1,11 +1,13 @@
 -- How a play ends, by the limits of the tree.
-use Rattle.std.proofs.Common.{◌≡◌, ℕ, ◌<◌, ◌&&◌, Bool, true, false, length, nat_eq, nat_lt, refl, arith}
+use Rattle.std.proofs.Common.{◌≡◌, ◌∙◌, ap, sym, ℕ, ◌<◌, ◌&&◌, Bool, true, false, List, [], ◌∷◌, ◌++◌, length, nat_eq, nat_lt, refl, arith}
+use Rattle.std.proofs.lemmas.List.{append-nil}
 use Rattle.std.proofs.lemmas.Bool.Decides.{nat_tests}
 use Rattle.rev_model.specs.Actor.{Step}
 use Rattle.rev_undotree.specs.Steps.{outcome_of}
 use Rattle.rev_undotree.specs.Machine.{nesting_below}
 use Rattle.rev_undotree.specs.Positions.{SessionState}
-use Rattle.rev_shell.specs.Answers.{state_of, is_full, is_too_deep, reply}
+use Rattle.rev_shell.specs.Answers.{state_of, is_full, is_too_deep, reply, after_step, get, value_of, values, or_refused}
+use Rattle.rev_shell.specs.declared.play.Reply.{Reply}
 use Rattle.rev_shell.specs.declared.play.Reply.TheVariants.{Played, TooManyNodes, TooDeep}
 
 not_true : (b : Bool) → (b ≡ true → ⊥) → b ≡ false
@@ -44,3 +46,11 @@ reply-played m e full deep =
     let w = both_true (nat_lt (length m.rows) 1048576) (nat_lt 64 (nesting_below m.rows m.current)) h in
     deep (lt_true (length m.rows) 1048576 w.0, lt_true 64 (nesting_below m.rows m.current) w.1)) in
     rw (t, d) refl
+
+-- a refusal ends a line of gets: nothing was written for its key, and its text is all that the keys left give
+pub refused_values : (w : Bool) (s : SessionState) (written now total text : List ℕ) (k : List ℕ) (rest left : List (List ℕ)) (r : Reply) → value_of w r (state_of s) k ≡ [] → ((later : List ℕ) → or_refused r later ≡ text) → r ≡ reply s (get k) → now ≡ written ++ value_of w r (state_of s) k → left ≡ k ∷ rest → written ++ values w s left ≡ total → now ++ text ≡ total
+refused_values w s written now total text k rest left r none tells is wrote keys all =
+    let before : now ≡ written = wrote ∙ ap (λ (v : List ℕ). written ++ v) none ∙ append-nil written in
+    let given : values w s left ≡ text =
+    ap (values w s) keys ∙ ap (λ (x : Reply). or_refused x (value_of w x (state_of s) k ++ values w (after_step s (get k)) rest)) (sym is) ∙ tells _ in
+    ap (λ (l : List ℕ). l ++ text) before ∙ ap (λ (l : List ℕ). written ++ l) (sym given) ∙ all

@@ -1,13 +1,14 @@
 //! The clock.
 ghost use Rattle.std.specs.Prelude.{◌≡◌, ◌≤◌, length, IfOk, OnOk, OnErr, []};
-ghost use Rattle.rev_model.specs.Actor.{clock, at_clock, is_due};
+ghost use Rattle.rev_model.specs.Actor.{clock, is_due};
 ghost use Rattle.rev_model.specs.Sound.{Sound};
 ghost use Rattle.rev_model.specs.Undo.{LeadsBack};
 ghost use Rattle.rev_changes.specs.Telling.{TellsAll};
+ghost use Rattle.rev_steps.specs.Exchange.{timing_at};
 
 use crate::globals::{exchange, unchanged};
 use rev_inverse::Store;
-use rev_model::{Globals, Outcome};
+use rev_model::{GlobalPart, Globals, Outcome, Timing};
 use rev_moves::Record;
 use std::alloc::{AllocError, Allocator};
 
@@ -21,21 +22,21 @@ fn is_due(flush: Option<u64>, now: u32) -> bool
     }
 }
 
-/// The globals with the clock at `now`; a pending flush that is due then covers all items stored so far.
-fn at_clock(now: u32, globals: Globals) -> Globals
-    ensures { result ≡ at_clock now globals }
+/// The timing with the clock at `now`; a pending flush that is due then covers all items stored so far.
+fn at_clock(now: u32, globals: Globals) -> Timing
+    ensures { result ≡ timing_at now globals }
 {
     if is_due(globals.flush, now) {
-        Globals {
+        Timing {
             clock: now,
             mark: globals.last_cas,
             flush: None,
-            ..globals
         }
     } else {
-        Globals {
+        Timing {
             clock: now,
-            ..globals
+            mark: globals.mark,
+            flush: globals.flush,
         }
     }
 }
@@ -60,5 +61,5 @@ pub fn set_clock<A: Allocator + Clone>(
     if now < globals.clock {
         return unchanged(store, Outcome::Idle);
     }
-    exchange(store, at_clock(now, globals))
+    exchange(store, GlobalPart::Timing(at_clock(now, globals)))
 }

@@ -1,5 +1,6 @@
 //! Steps of one move at most, which exchanges the globals.
 ghost use Rattle.std.specs.Prelude.{◌≡◌, ◌≤◌, length, IfOk, OnOk, OnErr, []};
+ghost use Rattle.rev_model.specs.Move.{with_part};
 ghost use Rattle.rev_model.specs.Sound.{SettingsSound, Sound};
 ghost use Rattle.rev_model.specs.Undo.{LeadsBack};
 ghost use Rattle.rev_changes.specs.Telling.{TellsAll};
@@ -7,7 +8,7 @@ ghost use Rattle.rev_steps.specs.Exchange.{exchanged};
 
 use rev_changes::moving::change;
 use rev_inverse::Store;
-use rev_model::{Globals, Outcome};
+use rev_model::{GlobalPart, Outcome};
 use rev_moves::{Move, Record};
 use std::alloc::{AllocError, Allocator};
 
@@ -26,16 +27,16 @@ pub fn unchanged<A: Allocator + Clone>(
     Ok((outcome, Record::with_room(store.alloc()?, 0)?))
 }
 
-/// The globals become these, in one move. The mover's part is as it was.
+/// A part of the globals, other than the mover's, becomes this one, in one move.
 ///
 /// Err: a growth was refused, and the store is as it was.
 pub fn exchange<A: Allocator + Clone>(
     store: &mut Store<A>,
-    next: Globals,
+    next: GlobalPart,
 ) -> Result<(Outcome, Record<A>), AllocError>
     requires sound { Sound store.old }
-    requires mover { next.mover ≡ store.old.globals.mover }
-    requires settings { SettingsSound next.settings }
+    requires mover { (with_part next store.old.globals).mover ≡ store.old.globals.mover }
+    requires settings { SettingsSound (with_part next store.old.globals).settings }
     ensures step { IfOk result (λ p. (store.new, p.0) ≡ exchanged next store.old) }
     ensures sound { OnOk result (Sound store.new) }
     ensures leads { IfOk result (λ p. LeadsBack p.1.moves store.new store.old) }

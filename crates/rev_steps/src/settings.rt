@@ -7,7 +7,7 @@ ghost use Rattle.rev_changes.specs.Telling.{TellsAll};
 
 use crate::globals::exchange;
 use rev_inverse::Store;
-use rev_model::{Globals, Outcome, Settings};
+use rev_model::{GlobalPart, Outcome, Settings};
 use rev_moves::Record;
 use rev_requests::Tune;
 use std::alloc::{AllocError, Allocator};
@@ -27,15 +27,8 @@ pub fn retune<A: Allocator + Clone>(
     ensures err { OnErr result (store.new ≡ store.old) }
     ensures told { IfOk result (λ p. TellsAll p.1 store.new []) }
 {
-    let globals = store.globals();
-    let settings = tune.applied_to(globals.settings);
-    exchange(
-        store,
-        Globals {
-            settings,
-            ..globals
-        },
-    )
+    let settings = tune.applied_to(store.globals().settings);
+    exchange(store, GlobalPart::Settings(settings))
 }
 
 /// TEMP's bound as it is kept: each negative one is -1.
@@ -61,16 +54,9 @@ pub fn set_temp_ttl<A: Allocator + Clone>(
     ensures err { OnErr result (store.new ≡ store.old) }
     ensures told { IfOk result (λ p. TellsAll p.1 store.new []) }
 {
-    let globals = store.globals();
     let settings = Settings {
         temp_ttl: kept_ttl(ttl),
-        ..globals.settings
+        ..store.globals().settings
     };
-    exchange(
-        store,
-        Globals {
-            settings,
-            ..globals
-        },
-    )
+    exchange(store, GlobalPart::Settings(settings))
 }

@@ -49,5 +49,13 @@ pub fn new_item<A: Allocator + Clone>(
     let key = key.copy(store.alloc()?)?;
     let globals = store.globals();
     let cas = globals.last_cas.wrapping_add(1);
-    Ok(Item::new(key, value, flags, moment, globals.clock, cas))
+    Item::new(
+        store.alloc()?,
+        key,
+        value,
+        flags,
+        moment,
+        globals.clock,
+        cas,
+    )
 }

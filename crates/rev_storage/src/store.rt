@@ -65,8 +65,9 @@ fn store_in<A: Allocator + Clone>(
 {
     let plan = plan_room(store, class)?;
     let moves = plan.moves + removal_moves(store, key) + 4;
-    let mut undo = Record::with_room(store.alloc()?, moves)?;
     let item = item_for(store, key, flags, exptime, value)?;
+    // the record comes last, so that the room that it gives back lies at the end of the heap
+    let mut undo = Record::with_room(store.alloc()?, moves)?;
     let outcome = place(store, verb, class, plan.page, item, &mut undo);
     Ok((outcome, undo))
 }

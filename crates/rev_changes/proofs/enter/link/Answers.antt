@@ -14,13 +14,13 @@ change-requires-3-clause-possible g c = rw (c.change-2.ensures.state, c.change.e
 
 pub returns-clause-state : goal.returns-clause-state
 returns-clause-state g c =
-    rw (c.change-4.ensures.state, c.change-3.ensures.state, c.change-2.ensures.state, c.change.ensures.state, c.queue_of_new-queue.ensures, c.globals-globals.ensures, c.moment.ensures, c.cas.ensures)
+    rw (c.change-4.ensures.state, c.change-3.ensures.state, c.change-2.ensures.state, c.change.ensures.state, c.queue_of_new-queue.ensures, c.globals.ensures, c.moment.ensures, c.cas-cas.ensures)
     (linked_is c.args.store.now c.args.class c.args.chunk _)
 
 pub returns-clause-sound : goal.returns-clause-sound
 returns-clause-sound g c =
     sound_of None c.change-4.new.store c.change-4.ensures.well
-    (rw (c.change-4.ensures.state, c.change-3.ensures.state, c.change-2.ensures.state, c.change.ensures.state, c.queue_of_new-queue.ensures, c.globals-globals.ensures, c.moment.ensures, c.cas.ensures)
+    (rw (c.change-4.ensures.state, c.change-3.ensures.state, c.change-2.ensures.state, c.change.ensures.state, c.queue_of_new-queue.ensures, c.globals.ensures, c.moment.ensures, c.cas-cas.ensures)
     (rw (linked_is c.args.store.now c.args.class c.args.chunk _) (rest-linked c.args.store.now c.args.class c.args.chunk _ c.requires.sound c.requires.fresh c.requires.fits)))
 
 pub returns-clause-leads : goal.returns-clause-leads

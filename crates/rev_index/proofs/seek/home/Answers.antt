@@ -12,4 +12,4 @@ unreachable-requires g c =
 pub returns : goal.returns
 returns g c =
     let e = sym c.item.ensures ∙ ap option_copied c.in-Some.is in
-    subst (λ o. IsHome (length c.args.chains.now.ends.items) c.bucket.result.number o) (sym e) (rw (← c.key.ensures, ← c.bytes.ensures.same, c.bucket.ensures) refl)
+    subst (λ o. IsHome (length c.args.chains.now.ends.items) c.bucket.result.number o) (sym e) (rw (← c.key.ensures, c.bucket.ensures) refl)

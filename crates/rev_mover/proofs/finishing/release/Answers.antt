@@ -6,7 +6,7 @@ change-requires-clause-possible g c = lift_possible c.args.store.now c.requires.
 
 pub returns-clause-sound : goal.returns-clause-sound
 returns-clause-sound g c =
-    rw (c.change-2.ensures.state, c.change.ensures.state, c.globals.ensures)
+    rw (c.change-2.ensures.state, c.change.ensures.state)
     (pooled_sound c.args.store.now c.requires.sound c.args.mover c.requires.done.is c.requires.done.slot)
 
 pub returns-clause-leads : goal.returns-clause-leads

@@ -1,5 +1,5 @@
-use Rattle.std.specs.Prelude.{◌≡◌, ◌++◌}
-use Rattle.std.proofs.Common.{subst}
+use Rattle.std.specs.Prelude.{◌≡◌, ◌++◌, ◌≤◌}
+use Rattle.std.proofs.Common.{arith, subst}
 use Rattle.rev_model.specs.State.{find}
 use Rattle.rev_model.specs.Client.{lookup, refusal}
 use Rattle.rev_model.specs.Causes.{look_removals, settled_removals}
@@ -7,6 +7,7 @@ use Rattle.rev_model.specs.declared.Outcome.TheVariants.{Stored}
 use Rattle.rev_changes.specs.Telling.{Tells, tells_then}
 use Rattle.rev_requests.specs.Plain.{plain_verb}
 use Rattle.rev_lookup.specs.Finding.{found_key}
+use Rattle.rev_lookup.specs.Looking.{look_most, look_need, removal_need}
 use Rattle.rev_storage.specs.Placing.{settled_item, same_frame}
 use Rattle.rev_storage.proofs.Settling.{settled_stored, settled_refused, told_stored, told_refused}
 use Rattle.rev_storage.proofs.place.settle.Goals as goal
@@ -60,3 +61,8 @@ returns-in-None-clause-told g c =
     (subst (Tells c.args.undo.now c.args.store.now c.renew.new.undo c.renew.new.store)
     (told_stored c.args.store.now c.lookup-old.new.store c.key.result.now c.lookup-old.result c.lookup-old.ensures.state c.lookup-old.ensures.found (plain_verb c.args.verb) c.refusal.result c.refusal.ensures c.in-None.is)
     (tells_then _ _ _ _ _ _ _ _ c.lookup-old.ensures.told c.renew.ensures.told))
+
+pub returns-in-Some-clause-made : goal.returns-in-Some-clause-made
+returns-in-Some-clause-made g c =
+    let most = subst (λ k. look_need c.args.store.now c.key.result.now ≤ removal_need c.args.store.now k) c.key.ensures (look_most c.args.store.now c.key.result.now) in
+    omega (arith, most, c.lookup-old.ensures.made, c.give_back.ensures.made)

@@ -1,7 +1,7 @@
 use Rattle.std.proofs.Common.{◌∙◌, ap, fold, arith}
 use Rattle.std.proofs.lemmas.List.{take_all}
-use Rattle.rev_index.specs.Hash.{hash_of, hash_step}
-use Rattle.rev_index.proofs.hash.hash.Goals as goal
+use Rattle.rev_items.specs.Hash.{hash_of, hash_step}
+use Rattle.rev_items.proofs.hash.hash.Goals as goal
 
 pub returns : goal.returns
 unfolding hash_of

@@ -1,5 +1,5 @@
 ghost use Rattle.std.specs.Prelude.{◌≡◌};
-ghost use Rattle.rev_index.specs.Hash.{hash_of};
+ghost use Rattle.rev_items.specs.Hash.{hash_of};
 
 /// What FNV-1a with 64 bits starts from.
 const OFFSET_BASIS: u64 = 14695981039346656037;
@@ -8,7 +8,7 @@ const OFFSET_BASIS: u64 = 14695981039346656037;
 const PRIME: u64 = 1099511628211;
 
 /// The hash FNV-1a of bytes, with 64 bits: of each byte in turn the exclusive or with the hash so far, times a prime
-/// modulo 2^64. Which chain a key stands in is this project's own choice, and no caller sees it.
+/// modulo 2^64. Which chain of an index a key stands in is this project's own choice, and no user sees it.
 pub fn hash(bytes: &[u8]) -> u64
     ensures { result ≡ hash_of bytes.now }
 {

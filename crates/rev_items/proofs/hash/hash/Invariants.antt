@@ -1,6 +1,6 @@
 use Rattle.std.proofs.Common.{◌≡◌, take, fold}
-use Rattle.rev_index.specs.Hash.{hash_step}
-use Rattle.rev_index.proofs.hash.hash.Given as goal
+use Rattle.rev_items.specs.Hash.{hash_step}
+use Rattle.rev_items.proofs.hash.hash.Given as goal
 
 abbrev pub invariant-loop-byte : goal.invariant-loop-byte
 invariant-loop-byte l = l.hash ≡ fold hash_step 14695981039346656037 (take l.byte-index l.bytes)
