@@ -5,12 +5,14 @@ use Rattle.std.proofs.lemmas.Bool.{false≢true, true≢false}
 use Rattle.std.proofs.lemmas.List.{append-nil, append_assoc}
 use Rattle.rev_model.specs.Actor.{Step}
 use Rattle.rev_model.specs.Events.{event}
+use Rattle.rev_model.specs.Track.{key_place_of}
 use Rattle.rev_model.specs.declared.Outcome.{Outcome}
 use Rattle.rev_moves.specs.Record.{PlainRecord}
 use Rattle.rev_undotree.specs.Rows.{Row, RowsFall, row_of, at}
 use Rattle.rev_undotree.specs.Machine.{nodes_from, lineage_within, lineage}
 use Rattle.rev_undotree.specs.Positions.{SessionState}
 use Rattle.rev_undotree.specs.Trails.{Trailed}
+use Rattle.rev_undotree.specs.Mentioned.{Still, IsStill}
 use Rattle.rev_explain.specs.Story.{told, row_events, events_along, story}
 
 -- ---- the lineage of a node
@@ -45,9 +47,6 @@ get_behind : (xs : List ℕ) (y : ℕ) (zs : List ℕ) → slice_get (xs ++ y �
 get_behind [] y zs = refl
 get_behind (x ∷ xs) y zs = get_behind xs y zs
 
-one_row : (q r : Row) → Some q ≡ Some r → q ≡ r
-one_row q r e = cc
-
 one_number : (m n : ℕ) → Some m ≡ Some n → m ≡ n
 one_number m n e = cc
 
@@ -70,51 +69,103 @@ pub record Climbs (v : SessionState) (d : ℕ) : Type 0 where
 abbrev pub climb_starts : (v : SessionState) → Climbs v (length (lineage v.rows v.current))
 climb_starts v = record { node = v.current; below = []; splits = sym (append-nil (lineage v.rows v.current)); deep = refl }
 
-module _ (v : SessionState) (d n : ℕ) (e : Step) (o : Outcome) (r : PlainRecord) (w : Climbs v d) (pos : 0 < d) (h : Trailed v d n e o r) where
-  node_by : (q : Row) → row_of v.rows w.node ≡ Some q → n ≡ w.node
-  node_by q f =
-      let up = lineage_above v.rows h.falls w.node q f in
-      let far : length (lineage v.rows q.parent ++ w.node ∷ []) ≡ d = ap length (sym up) ∙ w.deep in
-      let long : length (lineage v.rows q.parent) ≡ d - 1 = one_less (lineage v.rows q.parent) w.node d far in
-      one_number n w.node
-      (sym h.numbered ∙ ap (λ l. slice_get l (d - 1)) (w.splits ∙ ap (λ l. l ++ w.below) up ∙ append_assoc (lineage v.rows q.parent) (w.node ∷ []) w.below)
-      ∙ ap (slice_get (lineage v.rows q.parent ++ w.node ∷ w.below)) (sym long)
-      ∙ get_behind (lineage v.rows q.parent) w.node w.below)
+-- a node below the root has a row
+row_here : (v : SessionState) (d : ℕ) (w : Climbs v d) → 0 < d → (q : Row) × (row_of v.rows w.node ≡ Some q)
+row_here v d w pos = go (row_of v.rows w.node) refl where
+  go : (p : Option Row) → row_of v.rows w.node ≡ p → (q : Row) × (row_of v.rows w.node ≡ Some q)
+  go None f = let none : length (lineage v.rows w.node) ≡ 0 = ap length (lineage_none v.rows w.node f) in absurd (omega (arith, none, w.deep, pos))
+  go (Some q) f = (q, f)
 
-  node_is : n ≡ w.node
-  node_is = go (row_of v.rows w.node) refl where
-    go : (q : Option Row) → row_of v.rows w.node ≡ q → n ≡ w.node
-    go None f = let none : length (lineage v.rows w.node) ≡ 0 = ap length (lineage_none v.rows w.node f) in absurd (omega (arith, none, w.deep, pos))
-    go (Some q) f = node_by q f
+-- one node up, by the node's row
+module _ (v : SessionState) (d : ℕ) (w : Climbs v d) (falls : RowsFall v.rows) (q : Row) (known : row_of v.rows w.node ≡ Some q) where
+  -- the way to the node is that to its parent, and the node
+  up_is : lineage v.rows w.node ≡ lineage v.rows q.parent ++ w.node ∷ []
+  up_is = lineage_above v.rows falls w.node q known
 
-  up_is : lineage v.rows w.node ≡ lineage v.rows h.row.parent ++ n ∷ []
-  up_is = ap (lineage v.rows) (sym node_is) ∙ lineage_above v.rows h.falls n h.row h.known
+  pub up_splits : lineage v.rows v.current ≡ lineage v.rows q.parent ++ w.node ∷ w.below
+  up_splits = w.splits ∙ ap (λ l. l ++ w.below) up_is ∙ append_assoc (lineage v.rows q.parent) (w.node ∷ []) w.below
 
-  pub climb_splits : lineage v.rows v.current ≡ lineage v.rows h.row.parent ++ n ∷ w.below
-  climb_splits = w.splits ∙ ap (λ l. l ++ w.below) up_is ∙ append_assoc (lineage v.rows h.row.parent) (n ∷ []) w.below
+  pub up_deep : length (lineage v.rows q.parent) ≡ d - 1
+  up_deep = one_less (lineage v.rows q.parent) w.node d (ap length (sym up_is) ∙ w.deep)
 
-  pub climb_deep : length (lineage v.rows h.row.parent) ≡ d - 1
-  climb_deep = one_less (lineage v.rows h.row.parent) n d (ap length (sym up_is) ∙ w.deep)
+  -- at the parent
+  abbrev climb_up : Climbs v (d - 1)
+  climb_up = record { node = q.parent; below = w.node ∷ w.below; splits = up_splits; deep = up_deep }
 
-  abbrev pub climbs : Climbs v (d - 1)
-  climbs = record { node = h.row.parent; below = n ∷ w.below; splits = climb_splits; deep = climb_deep }
-
-  pub node_state : at v.root v.rows w.node ≡ at v.root v.rows n
-  node_state = ap (at v.root v.rows) (sym node_is)
+  -- the node is the d-th of the way
+  number_here : slice_get (lineage v.rows v.current) (d - 1) ≡ Some w.node
+  number_here =
+      ap (λ l. slice_get l (d - 1)) up_splits ∙ ap (slice_get (lineage v.rows q.parent ++ w.node ∷ w.below)) (sym up_deep)
+      ∙ get_behind (lineage v.rows q.parent) w.node w.below
 
   -- the story at the node is that at its parent, with the event of the node
-  pub story_more : (k : List ℕ) → story v.root v.rows w.node k ≡ story v.root v.rows h.row.parent k ++ told n (event (at v.root v.rows h.row.parent) e k)
-  story_more k =
+  story_up : (k : List ℕ) → story v.root v.rows w.node k ≡ story v.root v.rows q.parent k ++ told w.node (event (at v.root v.rows q.parent) q.step k)
+  story_up k =
       ap (events_along v.root v.rows k) up_is
-      ∙ along_more (lineage v.rows h.row.parent)
-      ∙ ap (λ q. story v.root v.rows h.row.parent k ++ row_events v.root v.rows k n q) h.known
-      ∙ ap (λ d. story v.root v.rows h.row.parent k ++ told n (event (at v.root v.rows h.row.parent) d k)) (sym h.played)
+      ∙ along_more (lineage v.rows q.parent)
+      ∙ ap (λ p. story v.root v.rows q.parent k ++ row_events v.root v.rows k w.node p) known
     where
-      along_more : (l : List ℕ) → events_along v.root v.rows k (l ++ n ∷ []) ≡ events_along v.root v.rows k l ++ row_events v.root v.rows k n (row_of v.rows n)
-      along_more [] = append-nil (row_events v.root v.rows k n (row_of v.rows n))
+      along_more : (l : List ℕ) → events_along v.root v.rows k (l ++ w.node ∷ []) ≡ events_along v.root v.rows k l ++ row_events v.root v.rows k w.node (row_of v.rows w.node)
+      along_more [] = append-nil (row_events v.root v.rows k w.node (row_of v.rows w.node))
       along_more (x ∷ xs) =
           ap (λ l. row_events v.root v.rows k x (row_of v.rows x) ++ l) (along_more xs)
-          ∙ sym (append_assoc (row_events v.root v.rows k x (row_of v.rows x)) (events_along v.root v.rows k xs) (row_events v.root v.rows k n (row_of v.rows n)))
+          ∙ sym (append_assoc (row_events v.root v.rows k x (row_of v.rows x)) (events_along v.root v.rows k xs) (row_events v.root v.rows k w.node (row_of v.rows w.node)))
+
+-- one node up, by what the session tells of the d-th node
+module _ (v : SessionState) (d n : ℕ) (e : Step) (o : Outcome) (r : PlainRecord) (w : Climbs v d) (pos : 0 < d) (h : Trailed v d n e o r) where
+  -- it is the node that the climb is at
+  node_is : w.node ≡ n
+  node_is = let q = row_here v d w pos in one_number w.node n (sym (number_here v d w h.falls q.0 q.1) ∙ h.numbered)
+
+  pub row_is : row_of v.rows w.node ≡ Some h.row
+  row_is = ap (row_of v.rows) node_is ∙ h.known
+
+  -- at its parent
+  abbrev pub climbs : Climbs v (d - 1)
+  climbs = climb_up v d w h.falls h.row row_is
+
+  pub node_state : at v.root v.rows w.node ≡ at v.root v.rows n
+  node_state = ap (at v.root v.rows) node_is
+
+  pub story_more : (k : List ℕ) → story v.root v.rows w.node k ≡ story v.root v.rows h.row.parent k ++ told n (event (at v.root v.rows h.row.parent) e k)
+  story_more k =
+      story_up v d w h.falls h.row row_is k
+      ∙ ap (λ m. story v.root v.rows h.row.parent k ++ told m (event (at v.root v.rows h.row.parent) h.row.step k)) node_is
+      ∙ ap (λ f. story v.root v.rows h.row.parent k ++ told n (event (at v.root v.rows h.row.parent) f k)) (sym h.played)
+
+-- ---- nodes at which nothing befell the key
+
+-- the key's story and place at a node are those at depth `low` of the way
+pub record Skips (v : SessionState) (k : List ℕ) (node low : ℕ) : Type 0 where
+  pub climb : Climbs v low
+  pub told_same : story v.root v.rows node k ≡ story v.root v.rows climb.node k
+  pub place_same : key_place_of (at v.root v.rows node) k ≡ key_place_of (at v.root v.rows climb.node) k
+
+module _ (v : SessionState) (falls : RowsFall v.rows) (k : List ℕ) (low : ℕ) where
+  -- one node more below those that are skipped
+  skip_one : (high : ℕ) (w : Climbs v high) (q : Row) → Still v.root v.rows w.node q k → row_of v.rows w.node ≡ Some q → Skips v k q.parent low → Skips v k w.node low
+  skip_one high w q still known above = record {
+    climb = above.climb;
+    told_same = story_up v high w falls q known k ∙ ap (λ c. story v.root v.rows q.parent k ++ told w.node c) still.quiet
+        ∙ append-nil (story v.root v.rows q.parent k) ∙ above.told_same;
+    place_same = sym still.stays ∙ above.place_same;
+  }
+
+  -- so many nodes are skipped
+  skip_nodes : (gap high : ℕ) (w : Climbs v high) → high ≡ low + gap → IsStill v k low high → Skips v k w.node low
+  skip_nodes zero high w e still =
+      let deep : length (lineage v.rows w.node) ≡ high = w.deep in
+      record { climb = record { node = w.node; below = w.below; splits = w.splits; deep = omega (arith, e, deep) }; told_same = refl; place_same = refl }
+  skip_nodes (suc gap) high w e still =
+      let pos : 0 < high = omega (arith, e) in
+      let here = row_here v high w pos in
+      let quiet = still high w.node here.0 (omega (arith, e)) (omega arith) (number_here v high w falls here.0 here.1) here.1 in
+      skip_one high w here.0 quiet here.1
+      (skip_nodes gap (high - 1) (climb_up v high w falls here.0 here.1) (omega (arith, e)) (λ d n r l u. still d n r l (omega (arith, u))))
+
+  -- all nodes behind depth `low` up to depth `high` are skipped
+  pub skips : (high : ℕ) (w : Climbs v high) → low ≤ high → IsStill v k low high → Skips v k w.node low
+  skips high w l still = skip_nodes (high - low) high w (omega (arith, l)) still
 
 -- the way goes on only above a node
 pub above_root : (d n : ℕ) → ((d ≡ 0) ⊎ (n < d) → true ≡ false) → 0 < d

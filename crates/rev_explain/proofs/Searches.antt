@@ -1,28 +1,31 @@
 -- What the ways of `why` and of `story` up to the root keep at each node.
-use Rattle.std.specs.Prelude.{ℕ, ◌≡◌, ◌-◌, ◌<◌, Bool, false, ◌&&◌, List, [], ◌∷◌, ◌++◌, Option, None, Some, is_some, length, reverse, refl}
+use Rattle.std.specs.Prelude.{ℕ, ◌≡◌, ◌-◌, ◌<◌, ◌≤◌, Bool, false, ◌&&◌, List, [], ◌∷◌, ◌++◌, Option, None, Some, is_some, length, reverse, refl}
 use Rattle.std.proofs.Common.{sym, ◌∙◌, ap, arith, subst}
 use Rattle.std.proofs.lemmas.List.{reverse-append, append_assoc, append-nil}
-use Rattle.rev_model.specs.State.{find}
+use Rattle.rev_model.specs.State.{State, find}
 use Rattle.rev_model.specs.Actor.{Step}
-use Rattle.rev_model.specs.Track.{held, key_place_of, chunk_of, key_change, key_place_before}
+use Rattle.rev_model.specs.Track.{held, key_place_at, key_place_of, chunk_of, key_change, key_place_before}
 use Rattle.rev_model.specs.Events.{may_store, is_stored, event, event_by}
 use Rattle.rev_model.specs.declared.Cause.{Cause}
+use Rattle.rev_model.specs.declared.ChunkRef.{ChunkRef}
 use Rattle.rev_model.specs.declared.EventKind.{EventKind}
 use Rattle.rev_model.specs.declared.KeyChange.{KeyChange}
 use Rattle.rev_model.specs.declared.KeyPlace.{KeyPlace}
 use Rattle.rev_model.specs.declared.Outcome.{Outcome}
 use Rattle.rev_moves.specs.Record.{PlainRecord}
-use Rattle.rev_undotree.specs.Rows.{at}
+use Rattle.rev_undotree.specs.Rows.{RowsFall, at}
 use Rattle.rev_undotree.specs.Machine.{lineage}
 use Rattle.rev_undotree.specs.Positions.{SessionState}
 use Rattle.rev_undotree.specs.Trails.{Trailed}
+use Rattle.rev_undotree.specs.Recalled.{was_at, tells_at}
+use Rattle.rev_undotree.specs.Mentioned.{IsStill}
 use Rattle.rev_explain.specs.Readings.{note_of, left_cause}
 use Rattle.rev_explain.specs.Story.{told, events_along, story, left_or, last_left}
 use Rattle.rev_explain.specs.declared.events.Event.{Event}
 use Rattle.rev_explain.specs.declared.events.Why.{Why}
 use Rattle.rev_explain.specs.declared.events.Why.TheVariants as why
-use Rattle.rev_explain.proofs.Nodes.{trail_recalls, Learns, left_at, was_at, tells_at}
-use Rattle.rev_explain.proofs.Climbs.{Climbs, climb_starts, climbs, node_state, story_more}
+use Rattle.rev_explain.proofs.Nodes.{trail_recalls, Learns, left_at}
+use Rattle.rev_explain.proofs.Climbs.{Climbs, climb_starts, climbs, node_state, story_more, skips}
 
 -- ---- why
 
@@ -38,6 +41,25 @@ pub record Searching (v : SessionState) (k : List ℕ) (d : ℕ) : Type 0 where
 
 pub search_starts : (v : SessionState) (k : List ℕ) → find (at v.root v.rows v.current) k ≡ None → Searching v k (length (lineage v.rows v.current))
 search_starts v k e = record { climb = climb_starts v; gone = ap is_some e; rest = refl }
+
+-- what has a place is there
+place_held : (s : State) (p : Option ChunkRef) → is_some (key_place_at s p) ≡ is_some p
+place_held s None = refl
+place_held s (Some x) = refl
+
+-- a key that stands where it stood is held where it was held
+same_held : (s t : State) (k : List ℕ) → key_place_of s k ≡ key_place_of t k → held s k ≡ held t k
+same_held s t k e = sym (place_held s (find s k)) ∙ ap is_some e ∙ place_held t (find t k)
+
+-- up over nodes at which nothing befell the key
+pub search_skip : (v : SessionState) (k : List ℕ) (low high : ℕ) → RowsFall v.rows → Searching v k high → low ≤ high → IsStill v k low high → Searching v k low
+search_skip v k low high falls s l still =
+    let up = skips v falls k low high s.climb l still in
+    record {
+      climb = up.climb;
+      gone = sym (same_held (at v.root v.rows s.climb.node) (at v.root v.rows up.climb.node) k up.place_same) ∙ s.gone;
+      rest = s.rest ∙ ap (last_left why.Never) up.told_same;
+    }
 
 module _ (v : SessionState) (k : List ℕ) (d n : ℕ) (e : Step) (o : Outcome) (r : PlainRecord) (at_node : Searching v k d) (pos : 0 < d) (h : Trailed v d n e o r) where
   learned : Learns k (at v.root v.rows h.row.parent) (at v.root v.rows n) e o r (trail_recalls v d n e o r h) (left_cause (key_change k None r.moves r.notes))
@@ -89,6 +111,16 @@ tell_starts v k place es p e = record {
   placed = p;
   so_far = sym (append-nil (story v.root v.rows v.current k)) ∙ ap (λ l. story v.root v.rows v.current k ++ reverse l) (sym e);
 }
+
+-- up over nodes at which nothing befell the key
+pub tell_skip : (v : SessionState) (k : List ℕ) (low high : ℕ) (place : Option KeyPlace) (es : List Event) → RowsFall v.rows → Telling v k high place es → low ≤ high → IsStill v k low high → Telling v k low place es
+tell_skip v k low high place es falls w l still =
+    let up = skips v falls k low high w.climb l still in
+    record {
+      climb = up.climb;
+      placed = w.placed ∙ up.place_same;
+      so_far = w.so_far ∙ ap (λ s. s ++ reverse es) up.told_same;
+    }
 
 -- with names for what the code computes
 pub tell_more : (v : SessionState) (k : List ℕ) (d n : ℕ) (e : Step) (o : Outcome) (r : PlainRecord) (place : Option KeyPlace) (es : List Event) → Telling v k d place es → 0 < d → Trailed v d n e o r

@@ -11,6 +11,7 @@ use Rattle.rev_model.specs.declared.Entry.TheVariants.{Chunk}
 use Rattle.rev_model.specs.declared.KeyChange.{KeyChange}
 use Rattle.rev_model.specs.declared.Listed.TheVariants.{InQueue}
 use Rattle.rev_model.specs.declared.Placed.TheVariants.{ToQueue}
+pub use Rattle.rev_undotree.specs.Recalled.{note_of}
 use Rattle.rev_explain.specs.declared.readings.Binding.{Binding}
 
 -- whether the chunk's item has the key after the move, or else which chunk to ask for before it
@@ -33,11 +34,6 @@ binding_of (Binds x) = Some (record { chunk = x; leads = Some x; shifts = false 
 binding_of (Unbinds x) = Some (record { chunk = x; leads = None; shifts = false })
 binding_of (Shifts a b) = Some (record { chunk = a; leads = Some b; shifts = true })
 binding_of m = None
-
--- the note of a change
-abbrev pub note_of : Option KeyChange → Option Cause
-note_of None = None
-note_of (Some t) = t.note
 
 -- the cause that the record notes, where the key was held before the step
 abbrev pub left_cause : Option KeyChange → Option Cause

@@ -55,20 +55,20 @@ fn find_departure<A: Allocator + Clone>(session: &Session<A>, key: &Key<A>) -> W
     requires { find (at session.now.root session.now.rows session.now.current) key.now ≡ None }
     ensures { result ≡ last_left Why.Never (story_of session.now.root session.now.rows session.now.current key.now) }
 {
-    let mut depth = session.depth();
+    let mut depth = session.last_mention(key, session.depth());
     while let Some((node, _, _, trace)) = session.trail(depth) {
         match find_left(trace, key) {
             Some(cause) => return Why::Left { node, cause },
             None => {}
         }
-        depth -= 1;
+        depth = session.last_mention(key, depth - 1);
     }
     Why::Never
 }
 
 /// Why a key is not held at the current node: the node on the way from the root at which it last left the index, and the
-/// cause. A key whose item is dead is held until something unlinks it. Each node is visited at most once, no record is
-/// turned, and no memory is taken.
+/// cause. A key whose item is dead is held until something unlinks it. No node is visited but those that mention the
+/// key's hash, each at most once; no record is turned, and no memory is taken.
 pub fn why<A: Allocator + Clone>(session: &Session<A>, key: &Key<A>) -> Why
     ensures { result ≡ why_of session.now.root session.now.rows session.now.current key.now }
 {
@@ -172,7 +172,8 @@ fn add<A: Allocator>(
 }
 
 /// What happened to a key on the way from the root to the current node, at most one event a node (this project's own
-/// rules). No record is turned. The list is the store's allocator's.
+/// rules). No node is visited but those that mention the key's hash, and no record is turned. The list is the store's
+/// allocator's.
 ///
 /// Err: a growth of the list was refused.
 pub fn story<A: Allocator + Clone>(
@@ -183,7 +184,7 @@ pub fn story<A: Allocator + Clone>(
 {
     let mut events = Vec::new(session.store().alloc()?);
     let mut place = find_place(session.store(), key);
-    let mut depth = session.depth();
+    let mut depth = session.last_mention(key, session.depth());
     while let Some((node, step, outcome, trace)) = session.trail(depth) {
         let change = find_change(trace, 0, key, home_of(place));
         let before = find_before(trace, key, change, place);
@@ -191,7 +192,7 @@ pub fn story<A: Allocator + Clone>(
         let kind = find_event(stored, before, place, note_of(change));
         add(&mut events, node, kind)?;
         place = before;
-        depth -= 1;
+        depth = session.last_mention(key, depth - 1);
     }
     events.reverse();
     Ok(events)

@@ -205,7 +205,7 @@ number_at_le rows s p k c b [] h l n = number_le rows p k c b.run l n.0
 number_at_le rows s p k c b (q ∷ qs) h l n =
     number_at_le rows (after s q.taken b.run) (number_after p q.taken b.run) k false (fork_at b.forks q.fork) qs h.5 (number_le rows p q.taken c b.run l n.0) (Known-down rows s p b q qs h n.1)
 
-le_cases : (n m : ℕ) → (n ≤ m) ⊎ (m < n)
+pub le_cases : (n m : ℕ) → (n ≤ m) ⊎ (m < n)
 le_cases zero m = inl (omega arith)
 le_cases (suc n) zero = inr (omega arith)
 le_cases (suc n) (suc m) = ⊎_elim (λ h. inl (omega (arith, h))) (λ h. inr (omega (arith, h))) (le_cases n m)

@@ -20,3 +20,6 @@ pub mod Crops
 pub mod Prunes
 pub mod Trims
 pub mod Leads
+pub mod Mentioned
+pub mod Named
+pub mod Lineage

@@ -14,3 +14,6 @@ pub mod Children
 pub mod Trails
 pub mod Prunes
 pub mod Index
+pub mod Named
+pub mod Recalled
+pub mod Mentioned

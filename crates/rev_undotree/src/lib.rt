@@ -5,6 +5,7 @@
 pub mod branch;
 pub mod index;
 pub mod junction;
+mod naming;
 pub mod position;
 pub mod session;
 

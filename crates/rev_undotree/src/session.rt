@@ -1,25 +1,34 @@
 //! A session: a store, and the tree of all that was played on it.
-ghost use Rattle.std.specs.Prelude.{◌≡◌, ◌++◌, ◌∷◌, [], ◌+◌, length, IfOk, IfErr, OnErr, OnOk, IsOk, IsTrue, ◌↔◌, Some, None, Err, true, false, not, ◌<◌, slice_get, IfSome, IfNone, IsNone, ◌⊎◌};
+ghost use Rattle.std.specs.Prelude.{◌≡◌, ◌++◌, ◌∷◌, [], ◌+◌, ◌-◌, ◌≤◌, ℕ, eqb, length, IfOk, IfErr, OnErr, OnOk, IsOk, IsTrue, ◌↔◌, Some, None, Err, true, false, not, ◌<◌, slice_get, IfSome, IfNone, IsNone, ◌⊎◌};
 ghost use Rattle.std.specs.Option.{option_map};
 ghost use Rattle.rev_steps.specs.Plain.{plain_step};
 ghost use Rattle.rev_undotree.specs.Steps.{Sound, outcome_of};
-ghost use Rattle.rev_undotree.specs.Rows.{at, parent_of, row, row_of, Row};
+ghost use Rattle.rev_undotree.specs.Rows.{at, parent_of, row, row_of, Row, RowsFall};
 ghost use Rattle.rev_undotree.specs.Finds.{is_held};
 ghost use Rattle.rev_undotree.specs.Machine.{is_continued, nesting_below, lineage, distance, children};
 ghost use Rattle.rev_undotree.specs.Trails.{Trailed};
 ghost use Rattle.rev_undotree.specs.Prunes.{pruned, is_below};
 ghost use Rattle.rev_undotree.specs.Faults.{IsFault, TooManyNodes, TooDeep};
+ghost use Rattle.rev_undotree.specs.Mentioned.{IsStill, IsOver, AreMentioned, Grows};
+ghost use Rattle.rev_undotree.specs.Named.{stored_keys, named};
+ghost use Rattle.rev_undotree.specs.Positions.{Stands, Grown, Proper};
+ghost use Rattle.rev_undotree.specs.Ways.{reach, IsWay};
+ghost use Rattle.rev_undotree.specs.Steps.{State, next, Undoes};
+ghost use Rattle.rev_mentions.specs.Mentions.{Within};
 
 use crate::branch::{Branch, Node};
 use crate::index::Index;
 use crate::junction::Junction;
+use crate::naming::mention;
 use crate::position::{Position, above, is_on_way};
 use arrayvec::ArrayVec;
 use rev_inverse::Store;
+use rev_items::Key;
+use rev_mentions::Mentions;
 use rev_model::Outcome;
 use rev_moves::Record;
 use rev_steps::{Step, apply};
-use std::alloc::{AllocError, Allocator};
+use std::alloc::{AllocError, AllocFailed, Allocator};
 use std::marker::Model;
 use thiserror::Error;
 
@@ -83,6 +92,7 @@ pub struct Played {
 #[derive(Drop)]
 pub struct Session<A: Allocator> {
     position: Position<A>,
+    mentions: Mentions<A>,
     issued: u32,
     alloc: A,
 }
@@ -92,7 +102,8 @@ impl<A: Allocator> Model for Session<A> {
     ghost use Rattle.rev_model.specs.Codes.{coded_contents, coded_keys};
     ghost use Rattle.rev_undotree.specs.Rows.{rows_of, number_at};
     ghost use Rattle.rev_undotree.specs.States.{rewind};
-    ghost use Rattle.rev_undotree.specs.Positions.{SessionState, Kept};
+    ghost use Rattle.rev_undotree.specs.Positions.{SessionState};
+    ghost use Rattle.rev_undotree.specs.Mentioned.{Noted};
 
     ghost Value = { SessionState };
 
@@ -100,7 +111,7 @@ impl<A: Allocator> Model for Session<A> {
 
     ghost view = { λ a. record { root = rewind a.position.base a.position.way.items a.position.here a.position.store; rows = rows_of a.issued a.position.base; current = number_at a.position.base a.position.way.items a.position.here } };
 
-    ghost invariant = { λ a. Kept (rewind a.position.base a.position.way.items a.position.here a.position.store) a.position.store a.position.base a.position.way.items a.position.here a.issued };
+    ghost invariant = { λ a. Noted (rewind a.position.base a.position.way.items a.position.here a.position.store) a.position.store a.position.base a.position.way.items a.position.here a.issued a.mentions };
 }
 
 impl<A: Allocator + Clone> Session<A> {
@@ -111,6 +122,9 @@ impl<A: Allocator + Clone> Session<A> {
         ensures err { IfErr result (λ e. e.1 ≡ store) }
     {
         let Ok(index) = Index::new(&alloc) else {
+            return Err((AllocError, store));
+        };
+        let Ok(mentions) = Mentions::new(&alloc) else {
             return Err((AllocError, store));
         };
         let Ok(base) = Branch::root(&alloc) else {
@@ -124,6 +138,7 @@ impl<A: Allocator + Clone> Session<A> {
                 way: ArrayVec::new(),
                 here: 0,
             },
+            mentions,
             issued: 0,
             alloc,
         })
@@ -156,7 +171,7 @@ impl<A: Allocator + Clone> Session<A> {
             outcome,
             undo,
         };
-        match self.position.grow(&self.alloc, node) {
+        match add(&mut self.position, &mut self.mentions, &self.alloc, node) {
             Ok(()) => {
                 self.issued = number;
                 Ok(Played {
@@ -228,6 +243,56 @@ impl<A: Allocator + Clone> Session<A> {
             .reach(&self.position.way[..level])
             .node(at - 1);
         Some((NodeId(node.number), &node.step, node.outcome, &node.undo))
+    }
+
+    // Whether the node at `depth` of the way to the current node has a number over `number`.
+    fn is_over(&self, number: u32, depth: usize) -> bool
+        ensures { IsTrue result → IsOver self.now number depth }
+    {
+        match self.trail(depth) {
+            Some((node, _, _, _)) => node.0 > number,
+            None => false,
+        }
+    }
+
+    // A depth, from `first` to `depth`, behind which each node of the way up to `depth` has a number over `number`. It is
+    // looked for from `first` on, in steps that double.
+    fn depth_of(&self, number: u32, first: usize, depth: usize) -> usize
+        requires { first ≤ depth }
+        ensures within { result ≤ depth }
+        ensures above { (d n : ℕ) → result < d → d ≤ depth → slice_get (lineage self.now.rows self.now.current) (d - 1) ≡ Some n → number < n }
+    {
+        let mut low = first;
+        let mut high = depth;
+        'narrow: while low < high {
+            let half = (high - low).div_ceil(2);
+            let middle = low + half.min(low - first + 1);
+            if self.is_over(number, middle) {
+                high = middle - 1;
+            } else {
+                low = middle;
+            }
+        }
+        high
+    }
+
+    /// A depth, at most `depth`, behind which nothing befell the key up to `depth` on the way to the current node: it had
+    /// no event there, and stayed where it was. What the key's hash is mentioned at is looked up, and the nodes between
+    /// are not visited.
+    pub fn last_mention(&self, key: &Key<A>, depth: usize) -> usize
+        ensures within { result ≤ depth }
+        ensures still { IsStill self.now key.now result depth }
+        ensures falls { RowsFall self.now.rows }
+    {
+        let mentions = &self.mentions;
+        match self.trail(depth) {
+            Some((node, _, _, _)) => {
+                let latest = mentions.latest(key.hash(), node.0);
+                let passed = (node.0 - latest) as usize;
+                self.depth_of(latest, depth.saturating_sub(passed), depth)
+            }
+            None => depth,
+        }
     }
 
     /// The parent of a node that is held, none for the root.
@@ -345,4 +410,28 @@ impl<A: Allocator + Clone> Session<A> {
             }
         }
     }
+}
+
+// Mentions the keys that a node's step names, adds the node below the position and moves to it, or hands it back. The store
+// stands there already.
+fn add<A: Allocator + Clone>(
+    position: &mut Position<A>,
+    mentions: &mut Mentions<A>,
+    alloc: &A,
+    node: Node<A>,
+) -> Result<(), AllocFailed<Node<A>>>
+    requires way { IsWay position.old.base position.old.way.items }
+    requires proper { Proper position.old.way.items position.old.here }
+    requires room { (position.old.here ≡ length (reach position.old.base position.old.way.items).run) ⊎ (length position.old.way.items < 64) }
+    requires within { Within mentions.old node.number }
+    ensures ok { OnOk result ((root before : State) → Stands root before position.old.base position.old.way.items position.old.here → position.old.store ≡ next before node.step → Undoes node.undo before node.step → node.outcome ≡ outcome_of before node.step → Grown root position.old.base position.old.way.items position.old.here position.new.store position.new.base position.new.way.items position.new.here node.number node.step (eqb position.old.here (length (reach position.old.base position.old.way.items).run))) }
+    ensures err { OnErr result ((position.new.store ≡ position.old.store) × (position.new.base ≡ position.old.base) × (position.new.way ≡ position.old.way) × (position.new.here ≡ position.old.here)) }
+    ensures returned { IfErr result (λ e. e.value ≡ node) }
+    ensures named { OnOk result (AreMentioned mentions.new (stored_keys node.step node.outcome ++ named position.old.store node.undo.moves) node.number) }
+    ensures grows { Grows mentions.old mentions.new node.number }
+{
+    if mention(mentions, &position.store, &node).is_err() {
+        return Err(AllocFailed { value: node });
+    }
+    position.grow(alloc, node)
 }

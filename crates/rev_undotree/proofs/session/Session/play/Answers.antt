@@ -1,47 +1,58 @@
-use Rattle.std.proofs.Common.{◌+◌, length, arith, ap, ◌∙◌, sym, refl, add-one, eqb}
+use Rattle.std.proofs.Common.{rules, ◌≡◌, ◌+◌, length, arith, ap, ◌∙◌, sym, refl, add-one, eqb}
 use Rattle.rev_undotree.specs.Steps.{outcome_of}
 use Rattle.rev_steps.specs.Plain.{plain_step}
 use Rattle.rev_undotree.proofs.Turns.{step_next, step_outcome, undoes_applied}
 use Rattle.rev_undotree.specs.Ways.{reach}
+use Rattle.rev_undotree.proofs.Mentioned.{play_noted, noted_more}
 use Rattle.rev_undotree.proofs.Positions.{stands_way, stands_at}
 use Rattle.rev_undotree.proofs.Growth.{kept_sound, length_rows, play_kept, play_state}
 use Rattle.rev_undotree.proofs.Machine.{kept_tree, kept_path, goes_on_is, deep_is, deep_not}
 use Rattle.rev_undotree.proofs.session.Session.play.Goals as goal
 
 pub has_room-requires : goal.has_room-requires
-has_room-requires g c = stands_way _ _ _ _ _ c.self.invariant.stands
+has_room-requires g c = stands_way _ _ _ _ _ c.self.invariant.kept.stands
 
 pub apply-requires : goal.apply-requires
-apply-requires g c = kept_sound _ _ _ _ _ _ c.self.invariant
+apply-requires g c = kept_sound _ _ _ _ _ _ c.self.invariant.kept
 
-pub grow-requires-clause-way : goal.grow-requires-clause-way
-grow-requires-clause-way g c = stands_way _ _ _ _ _ c.self.invariant.stands
+pub add-requires-clause-way : goal.add-requires-clause-way
+add-requires-clause-way g c = stands_way _ _ _ _ _ c.self.invariant.kept.stands
 
-pub invariant_of-self-in-Ok-grow : goal.invariant_of-self-in-Ok-grow
-invariant_of-self-in-Ok-grow g c =
+pub add-requires-clause-within : goal.add-requires-clause-within
+add-requires-clause-within g c = c.self.invariant.within
+
+pub invariant_of-self-in-Ok-add : goal.invariant_of-self-in-Ok-add
+invariant_of-self-in-Ok-add g c =
     let i = c.self.inside.position in
-    let n = c.grow.new.self in
-    play_kept _ i.store n.store i.base n.base i.way.items n.way.items i.here n.here c.self.inside.issued (c.self.inside.issued + 1) (plain_step c.args.step) c.self.invariant (let f = c.self.invariant.few in omega (arith, f)) (add-one c.self.inside.issued)
-    (eqb i.here (length (reach i.base i.way.items).run)) (c.in-Ok-grow.ensures.ok _ i.store c.self.invariant.stands (step_next _ _ _ _ c.in-Ok.ensures.step) (undoes_applied _ _ _ _ _ c.in-Ok.ensures.sound (kept_sound _ _ _ _ _ _ c.self.invariant) c.in-Ok.ensures.step c.in-Ok.ensures.leads c.in-Ok.ensures.told) (step_outcome _ _ _ _ c.in-Ok.ensures.step))
+    let n = c.add.new.position in
+    let q = eqb i.here (length (reach i.base i.way.items).run) in
+    let m = c.in-Ok-add.ensures.ok _ i.store c.self.invariant.kept.stands (step_next _ _ _ _ c.in-Ok.ensures.step) (undoes_applied _ _ _ _ _ c.in-Ok.ensures.sound (kept_sound _ _ _ _ _ _ c.self.invariant.kept) c.in-Ok.ensures.step c.in-Ok.ensures.leads c.in-Ok.ensures.told) (step_outcome _ _ _ _ c.in-Ok.ensures.step) in
+    let f = c.self.invariant.kept.few in
+    let k = play_kept _ i.store n.store i.base n.base i.way.items n.way.items i.here n.here c.self.inside.issued (c.self.inside.issued + 1) (plain_step c.args.step) c.self.invariant.kept (omega (arith, f)) (add-one c.self.inside.issued) q m in
+    let v = play_state _ i.store n.store i.base n.base i.way.items n.way.items i.here n.here c.self.inside.issued (c.self.inside.issued + 1) (plain_step c.args.step) c.self.invariant.kept (add-one c.self.inside.issued) q q refl m in
+    play_noted _ i.store _ n.store _ i.base n.base i.way.items n.way.items i.here n.here c.self.inside.issued (c.self.inside.issued + 1) (plain_step c.args.step) q c.in-Ok.outcome c.in-Ok.undo _ _ c.self.invariant k (add-one c.self.inside.issued)
+    (ap (λ z. z.root) v) (ap (λ z. z.rows) v)
+    (record { before = kept_sound _ _ _ _ _ _ c.self.invariant.kept; sound = c.in-Ok.ensures.sound; stepped = ap (λ p. p.0) c.in-Ok.ensures.step; answered = ap (λ p. p.1) c.in-Ok.ensures.step; leads = c.in-Ok.ensures.leads; told = c.in-Ok.ensures.told.told })
+    c.in-Ok-add.ensures.named c.add.ensures.grows.kept c.add.ensures.grows.within
 
-pub returns-in-Ok-grow-clause-ok : goal.returns-in-Ok-grow-clause-ok
-returns-in-Ok-grow-clause-ok g c =
+pub returns-in-Ok-add-clause-ok : goal.returns-in-Ok-add-clause-ok
+returns-in-Ok-add-clause-ok g c =
     let i = c.self.inside.position in
-    let n = c.grow.new.self in
-    let m = c.in-Ok-grow.ensures.ok _ i.store c.self.invariant.stands (step_next _ _ _ _ c.in-Ok.ensures.step) (undoes_applied _ _ _ _ _ c.in-Ok.ensures.sound (kept_sound _ _ _ _ _ _ c.self.invariant) c.in-Ok.ensures.step c.in-Ok.ensures.leads c.in-Ok.ensures.told) (step_outcome _ _ _ _ c.in-Ok.ensures.step) in
-    let k = goes_on_is c.self.inside.issued i.base i.way.items i.here (kept_tree _ _ _ _ _ _ c.self.invariant) (kept_path _ _ _ _ _ _ c.self.invariant) c.self.invariant.proper in
-    rw (← c.self.view_is) (play_state _ i.store n.store i.base n.base i.way.items n.way.items i.here n.here c.self.inside.issued (c.self.inside.issued + 1) (plain_step c.args.step) c.self.invariant (add-one c.self.inside.issued) (eqb i.here (length (reach i.base i.way.items).run)) _ k m)
+    let n = c.add.new.position in
+    let m = c.in-Ok-add.ensures.ok _ i.store c.self.invariant.kept.stands (step_next _ _ _ _ c.in-Ok.ensures.step) (undoes_applied _ _ _ _ _ c.in-Ok.ensures.sound (kept_sound _ _ _ _ _ _ c.self.invariant.kept) c.in-Ok.ensures.step c.in-Ok.ensures.leads c.in-Ok.ensures.told) (step_outcome _ _ _ _ c.in-Ok.ensures.step) in
+    let k = goes_on_is c.self.inside.issued i.base i.way.items i.here (kept_tree _ _ _ _ _ _ c.self.invariant.kept) (kept_path _ _ _ _ _ _ c.self.invariant.kept) c.self.invariant.kept.proper in
+    rw (← c.self.view_is) (play_state _ i.store n.store i.base n.base i.way.items n.way.items i.here n.here c.self.inside.issued (c.self.inside.issued + 1) (plain_step c.args.step) c.self.invariant.kept (add-one c.self.inside.issued) (eqb i.here (length (reach i.base i.way.items).run)) _ k m)
 
-pub returns-in-Ok-grow-clause-node : goal.returns-in-Ok-grow-clause-node
-returns-in-Ok-grow-clause-node g c = rw (← c.self.view_is) (ap (λ z. z + 1) (sym (length_rows c.self.inside.issued c.self.inside.position.base)))
+pub returns-in-Ok-add-clause-node : goal.returns-in-Ok-add-clause-node
+returns-in-Ok-add-clause-node g c = rw (← c.self.view_is) (ap (λ z. z + 1) (sym (length_rows c.self.inside.issued c.self.inside.position.base)))
 
-pub returns-in-Ok-grow-clause-outcome : goal.returns-in-Ok-grow-clause-outcome
-returns-in-Ok-grow-clause-outcome g c =
+pub returns-in-Ok-add-clause-outcome : goal.returns-in-Ok-add-clause-outcome
+returns-in-Ok-add-clause-outcome g c =
     let i = c.self.inside.position in
-    rw (← c.self.view_is) (step_outcome _ _ _ _ c.in-Ok.ensures.step ∙ ap (λ z. outcome_of z (plain_step c.args.step)) (stands_at _ i.store i.base i.way.items i.here c.self.inside.issued c.self.invariant))
+    rw (← c.self.view_is) (step_outcome _ _ _ _ c.in-Ok.ensures.step ∙ ap (λ z. outcome_of z (plain_step c.args.step)) (stands_at _ i.store i.base i.way.items i.here c.self.inside.issued c.self.invariant.kept))
 
-pub grow-requires-clause-room : goal.grow-requires-clause-room
-grow-requires-clause-room g c = c.has_room.ensures.value.0 (let h = c.if-not-has_room.false in cc)
+pub add-requires-clause-room : goal.add-requires-clause-room
+add-requires-clause-room g c = c.has_room.ensures.value.0 (let h = c.if-not-has_room.false in cc)
 
 pub returns-then-self-eq-MAX_NODES-clause-many : goal.returns-then-self-eq-MAX_NODES-clause-many
 returns-then-self-eq-MAX_NODES-clause-many g c = (λ _. rw (← c.self.view_is) (length_rows c.self.inside.issued c.self.inside.position.base ∙ c.if-self-eq-MAX_NODES.true), λ _. refl)
@@ -69,8 +80,8 @@ returns-then-not-has_room-clause-deep g c =
     let i = c.self.inside.position in
     let l = length_rows c.self.inside.issued i.base in
     let h = c.if-self-eq-MAX_NODES.false in
-    let f = c.self.invariant.few in
-    let d = deep_is c.self.inside.issued i.base i.way.items i.here (kept_tree _ _ _ _ _ _ c.self.invariant) (kept_path _ _ _ _ _ _ c.self.invariant) c.self.invariant.proper c.has_room.ensures.fits (λ y. let z = c.has_room.ensures.value.1 y in let x = c.if-not-has_room.true in cc) in
+    let f = c.self.invariant.kept.few in
+    let d = deep_is c.self.inside.issued i.base i.way.items i.here (kept_tree _ _ _ _ _ _ c.self.invariant.kept) (kept_path _ _ _ _ _ _ c.self.invariant.kept) c.self.invariant.kept.proper c.has_room.ensures.fits (λ y. let z = c.has_room.ensures.value.1 y in let x = c.if-not-has_room.true in cc) in
     (λ _. rw (← c.self.view_is) (omega (arith, l, h, f), d), λ _. refl)
 
 pub returns-in_default-clause-many : goal.returns-in_default-clause-many
@@ -85,11 +96,11 @@ returns-in_default-clause-many g c = (
 pub returns-in_default-clause-deep : goal.returns-in_default-clause-deep
 returns-in_default-clause-deep g c =
     let i = c.self.inside.position in
-    let d = deep_not c.self.inside.issued i.base i.way.items i.here (kept_tree _ _ _ _ _ _ c.self.invariant) (kept_path _ _ _ _ _ _ c.self.invariant) c.self.invariant.proper c.has_room.ensures.fits (c.has_room.ensures.value.0 (let h = c.if-not-has_room.false in cc)) in
+    let d = deep_not c.self.inside.issued i.base i.way.items i.here (kept_tree _ _ _ _ _ _ c.self.invariant.kept) (kept_path _ _ _ _ _ _ c.self.invariant.kept) c.self.invariant.kept.proper c.has_room.ensures.fits (c.has_room.ensures.value.0 (let h = c.if-not-has_room.false in cc)) in
     (λ e. cc, λ p. let q = rw (← c.self.view_is) at p.1 in absurd (omega (arith, q, d)))
 
-pub returns-in-Ok-grow-clause-many : goal.returns-in-Ok-grow-clause-many
-returns-in-Ok-grow-clause-many g c = (
+pub returns-in-Ok-add-clause-many : goal.returns-in-Ok-add-clause-many
+returns-in-Ok-add-clause-many g c = (
   λ e. absurd e,
   λ p.
       let q = rw (← c.self.view_is) at p in
@@ -97,10 +108,10 @@ returns-in-Ok-grow-clause-many g c = (
       let h = c.if-self-eq-MAX_NODES.false in omega (arith, q, l, h),
 )
 
-pub returns-in-Ok-grow-clause-deep : goal.returns-in-Ok-grow-clause-deep
-returns-in-Ok-grow-clause-deep g c =
+pub returns-in-Ok-add-clause-deep : goal.returns-in-Ok-add-clause-deep
+returns-in-Ok-add-clause-deep g c =
     let i = c.self.inside.position in
-    let d = deep_not c.self.inside.issued i.base i.way.items i.here (kept_tree _ _ _ _ _ _ c.self.invariant) (kept_path _ _ _ _ _ _ c.self.invariant) c.self.invariant.proper c.has_room.ensures.fits (c.has_room.ensures.value.0 (let h = c.if-not-has_room.false in cc)) in
+    let d = deep_not c.self.inside.issued i.base i.way.items i.here (kept_tree _ _ _ _ _ _ c.self.invariant.kept) (kept_path _ _ _ _ _ _ c.self.invariant.kept) c.self.invariant.kept.proper c.has_room.ensures.fits (c.has_room.ensures.value.0 (let h = c.if-not-has_room.false in cc)) in
     (λ e. absurd e, λ p. let q = rw (← c.self.view_is) at p.1 in omega (arith, q, d))
 
 pub returns-in-Err-clause-many : goal.returns-in-Err-clause-many
@@ -115,5 +126,12 @@ returns-in-Err-clause-many g c = (
 pub returns-in-Err-clause-deep : goal.returns-in-Err-clause-deep
 returns-in-Err-clause-deep g c =
     let i = c.self.inside.position in
-    let d = deep_not c.self.inside.issued i.base i.way.items i.here (kept_tree _ _ _ _ _ _ c.self.invariant) (kept_path _ _ _ _ _ _ c.self.invariant) c.self.invariant.proper c.has_room.ensures.fits (c.has_room.ensures.value.0 (let h = c.if-not-has_room.false in cc)) in
+    let d = deep_not c.self.inside.issued i.base i.way.items i.here (kept_tree _ _ _ _ _ _ c.self.invariant.kept) (kept_path _ _ _ _ _ _ c.self.invariant.kept) c.self.invariant.kept.proper c.has_room.ensures.fits (c.has_room.ensures.value.0 (let h = c.if-not-has_room.false in cc)) in
     (λ e. cc, λ p. let q = rw (← c.self.view_is) at p.1 in absurd (omega (arith, q, d)))
+
+pub invariant_of-self-in-Err : goal.invariant_of-self-in-Err
+invariant_of-self-in-Err g c =
+    let i = c.self.inside.position in
+    let e = c.in-Err.ensures.err in
+    let s : c.turn.new.self ≡ i.store = search rules in
+    rw (s, e.1, e.2, e.3) (noted_more _ _ _ _ _ _ _ _ c.self.invariant c.add.ensures.grows.kept c.add.ensures.grows.within)

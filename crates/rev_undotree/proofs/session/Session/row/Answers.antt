@@ -6,10 +6,10 @@ use Rattle.rev_undotree.proofs.Outcomes.{placed_row, step_read, outcome_read}
 use Rattle.rev_undotree.proofs.session.Session.row.Goals as goal
 
 pub find-requires-clause-fewer : goal.find-requires-clause-fewer
-find-requires-clause-fewer g c = kept_fewer _ _ _ _ _ _ _ c.self.invariant
+find-requires-clause-fewer g c = kept_fewer _ _ _ _ _ _ _ c.self.invariant.kept
 
 pub find-requires-clause-rises : goal.find-requires-clause-rises
-find-requires-clause-rises g c = kept_rises _ _ _ _ _ _ c.self.invariant
+find-requires-clause-rises g c = kept_rises _ _ _ _ _ _ c.self.invariant.kept
 
 pub reach-requires : goal.reach-requires
 reach-requires g c = rw c.as_slice.ensures.value (path_way _ _ _ c.in-Some.ensures.some.path)
@@ -23,7 +23,7 @@ step_at-requires g c =
 pub returns-in-Some-clause-some : goal.returns-in-Some-clause-some
 returns-in-Some-clause-some g c =
     let l = placed_inside c.args.node.0 _ _ _ c.if-node-eq0.false c.in-Some.ensures.some in
-    rw (← c.self.view_is) (placed_row _ _ c.self.inside.position.base c.self.inside.position.way.items c.find.new.way.items c.as_slice.result.now c.self.inside.position.here c.in-Some.at (c.in-Some.at - 1) c.self.inside.issued c.args.node.0 _ _ c.self.invariant c.in-Some.ensures.some (omega (arith, l)) c.as_slice.ensures.value (c.step_at.ensures.step ∙ step_read _ _ (c.in-Some.at - 1) c.reach.ensures) (c.step_at.ensures.outcome ∙ outcome_read _ _ (c.in-Some.at - 1) c.reach.ensures))
+    rw (← c.self.view_is) (placed_row _ _ c.self.inside.position.base c.self.inside.position.way.items c.find.new.way.items c.as_slice.result.now c.self.inside.position.here c.in-Some.at (c.in-Some.at - 1) c.self.inside.issued c.args.node.0 _ _ c.self.invariant.kept c.in-Some.ensures.some (omega (arith, l)) c.as_slice.ensures.value (c.step_at.ensures.step ∙ step_read _ _ (c.in-Some.at - 1) c.reach.ensures) (c.step_at.ensures.outcome ∙ outcome_read _ _ (c.in-Some.at - 1) c.reach.ensures))
 
 pub returns-in-None-clause-none : goal.returns-in-None-clause-none
 returns-in-None-clause-none g c = rw (← c.self.view_is) (missing_row c.self.inside.issued c.self.inside.position.base c.args.node.0 c.in-None.ensures.missing)

@@ -9,12 +9,12 @@ use Rattle.rev_undotree.proofs.Trails.{cut_inside, take_length, trailed}
 use Rattle.rev_undotree.proofs.session.Session.trail.Goals as goal
 
 pub depth-requires : goal.depth-requires
-depth-requires g c = depth_within _ _ _ _ _ _ c.self.invariant
+depth-requires g c = depth_within _ _ _ _ _ _ c.self.invariant.kept
 
 pub returns-then-depth-clause-none : goal.returns-then-depth-clause-none
 returns-then-depth-clause-none g c =
     let i = c.self.inside.position in
-    let l = lineage_depth _ i.base i.way.items i.here (kept_tree _ _ _ _ _ _ c.self.invariant) (kept_path _ _ _ _ _ _ c.self.invariant) c.self.invariant.proper in
+    let l = lineage_depth _ i.base i.way.items i.here (kept_tree _ _ _ _ _ _ c.self.invariant.kept) (kept_path _ _ _ _ _ _ c.self.invariant.kept) c.self.invariant.kept.proper in
     let e = c.depth.ensures in
     let t = c.if-depth.true in
     rw (← c.self.view_is) (λ _. inr (omega (arith, l, e, t)), λ _. refl)
@@ -25,7 +25,7 @@ slice_bounds-reach-end g c = sym (take_length _ c.ancestor-level.result.0 (subst
 pub reach-requires : goal.reach-requires
 reach-requires g c =
     let i = c.self.inside.position in
-    let p = kept_path _ _ _ _ _ _ c.self.invariant in
+    let p = kept_path _ _ _ _ _ _ c.self.invariant.kept in
     let e = c.depth.ensures in
     let t = c.if-depth.false in
     let z = c.if-depth-eq0.false in
@@ -35,7 +35,7 @@ reach-requires g c =
 pub overflow_sub-at : goal.overflow_sub-at
 overflow_sub-at g c =
     let i = c.self.inside.position in
-    let p = kept_path _ _ _ _ _ _ c.self.invariant in
+    let p = kept_path _ _ _ _ _ _ c.self.invariant.kept in
     let e = c.depth.ensures in
     let t = c.if-depth.false in
     let z = c.if-depth-eq0.false in
@@ -46,7 +46,7 @@ overflow_sub-at g c =
 pub node-node-requires : goal.node-node-requires
 node-node-requires g c =
     let i = c.self.inside.position in
-    let p = kept_path _ _ _ _ _ _ c.self.invariant in
+    let p = kept_path _ _ _ _ _ _ c.self.invariant.kept in
     let e = c.depth.ensures in
     let t = c.if-depth.false in
     let z = c.if-depth-eq0.false in
@@ -58,7 +58,7 @@ node-node-requires g c =
 pub returns-clause-some : goal.returns-clause-some
 returns-clause-some g c =
     let i = c.self.inside.position in
-    let p = kept_path _ _ _ _ _ _ c.self.invariant in
+    let p = kept_path _ _ _ _ _ _ c.self.invariant.kept in
     let e = c.depth.ensures in
     let t = c.if-depth.false in
     let z = c.if-depth-eq0.false in
@@ -66,12 +66,12 @@ returns-clause-some g c =
     let l = n.0 in
     let q = c.node.inside in
     let d : PlainNode = record { number = q.number; step = plain_step q.step; outcome = q.outcome; undo = q.undo } in
-    rw (← c.self.view_is) (trailed _ i.store i.base i.way.items (take c.ancestor-level.result.0 i.way.items) _ i.here c.args.depth c.ancestor-level.result.1 (c.ancestor-level.result.1 - 1) c.self.inside.issued d c.reach.result.now c.self.invariant (omega (arith, z)) (omega (arith, e, t)) c.ancestor-level.ensures.cut (omega (arith, l)) (ap (λ x. take c.ancestor-level.result.0 x) c.deref.ensures.0) c.reach.ensures (c.node.view_is ∙ c.node-node.ensures))
+    rw (← c.self.view_is) (trailed _ i.store i.base i.way.items (take c.ancestor-level.result.0 i.way.items) _ i.here c.args.depth c.ancestor-level.result.1 (c.ancestor-level.result.1 - 1) c.self.inside.issued d c.reach.result.now c.self.invariant.kept (omega (arith, z)) (omega (arith, e, t)) c.ancestor-level.ensures.cut (omega (arith, l)) (ap (λ x. take c.ancestor-level.result.0 x) c.deref.ensures.0) c.reach.ensures (c.node.view_is ∙ c.node-node.ensures))
 
 pub returns-clause-none : goal.returns-clause-none
 returns-clause-none g c =
     let i = c.self.inside.position in
-    let l = lineage_depth _ i.base i.way.items i.here (kept_tree _ _ _ _ _ _ c.self.invariant) (kept_path _ _ _ _ _ _ c.self.invariant) c.self.invariant.proper in
+    let l = lineage_depth _ i.base i.way.items i.here (kept_tree _ _ _ _ _ _ c.self.invariant.kept) (kept_path _ _ _ _ _ _ c.self.invariant.kept) c.self.invariant.kept.proper in
     let e = c.depth.ensures in
     let t = c.if-depth.false in
     rw (← c.self.view_is) (λ h. cc, λ h. absurd (⊎_elim (λ z. c.if-depth-eq0.false z) (λ z. omega (arith, l, e, t, z)) h))

@@ -1,0 +1,75 @@
+-- What is mentioned stays so.
+use Rattle.std.proofs.Common.{◌≡◌, ℕ, suc, zero, ◌+◌, ◌<◌, ◌≤◌, Bool, true, false, cond, List, [], ◌∷◌, ◌++◌, length, drop, refl, ap, sym, ◌∙◌, subst, arith, ◌⊎◌, inl, inr, ⊎_elim, Result, Ok, Err, OnOk, is_err}
+use Rattle.std.specs.Prelude.{nat_eq, slice_index_or}
+use Rattle.std.proofs.lemmas.Bool.{false≢true}
+use Rattle.std.proofs.lemmas.Bool.Decides.{nat_tests}
+use Rattle.std.proofs.lemmas.List.{drop_all}
+use Rattle.rev_mentions.specs.declared.mention.Mention.{Mention}
+use Rattle.rev_mentions.specs.Mentions.{Holds, Within}
+use Rattle.rev_model.specs.Lists.{has}
+use Rattle.rev_model.specs.Move.{Move}
+use Rattle.rev_undotree.specs.Steps.{State}
+use Rattle.rev_undotree.specs.Named.{named_by, named}
+use Rattle.rev_undotree.specs.Mentioned.{AreMentioned, Grows}
+
+pub grows_none : (ms : List Mention) (n : ℕ) → Within ms n → Grows ms ms n
+grows_none ms n w = record { kept = λ h m x. x; within = w }
+
+pub grows_more : (a b c : List Mention) (n : ℕ) → Grows a b n → Grows b c n → Grows a c n
+grows_more a b c n p q = record { kept = λ h m x. q.kept h m (p.kept h m x); within = q.within }
+
+pub none_mentioned : (ms : List Mention) (n : ℕ) → AreMentioned ms [] n
+none_mentioned ms n h e = absurd (false≢true e)
+
+same_number : (a b : ℕ) → nat_eq a b ≡ true → b ≡ a
+same_number a b e = grind (arith, nat_tests)
+
+one_case : (ms : List Mention) (g n h : ℕ) → Holds ms g n → (b : Bool) → nat_eq h g ≡ b → cond b true false ≡ true → Holds ms h n
+one_case ms g n h x true e f = subst (λ z. Holds ms z n) (same_number h g e) x
+one_case ms g n h x false e f = absurd (false≢true f)
+
+pub one_mentioned : (ms : List Mention) (g n : ℕ) → Holds ms g n → AreMentioned ms (g ∷ []) n
+one_mentioned ms g n x h e = one_case ms g n h x (nat_eq h g) refl e
+
+either_case : (h : ℕ) (xs ys : List ℕ) (b : Bool) → (has nat_eq h (xs ++ ys) ≡ true → (has nat_eq h xs ≡ true) ⊎ (has nat_eq h ys ≡ true)) → cond b true (has nat_eq h (xs ++ ys)) ≡ true → (cond b true (has nat_eq h xs) ≡ true) ⊎ (has nat_eq h ys ≡ true)
+either_case h xs ys true g f = inl refl
+either_case h xs ys false g f = g f
+
+has_either : (h : ℕ) (xs ys : List ℕ) → has nat_eq h (xs ++ ys) ≡ true → (has nat_eq h xs ≡ true) ⊎ (has nat_eq h ys ≡ true)
+has_either h [] ys e = inr e
+has_either h (x ∷ xs) ys e = either_case h xs ys (nat_eq h x) (λ f. has_either h xs ys f) e
+
+pub both_mentioned : (ms more : List Mention) (xs ys : List ℕ) (n : ℕ) → AreMentioned ms xs n → Grows ms more n → AreMentioned more ys n → AreMentioned more (xs ++ ys) n
+both_mentioned ms more xs ys n a g b h e = ⊎_elim (λ f. g.kept h n (a h f)) (λ f. b h f) (has_either h xs ys e)
+
+-- ---- what holds where a call answered Ok
+
+pub ok_any : {T E : Type 0} → (r : Result T E) (P : Type 0) → P → OnOk r P
+ok_any (Ok x) P p = p
+ok_any (Err e) P p = tt
+
+pub ok_value : {T E : Type 0} → (r : Result T E) (P : Type 0) → false ≡ is_err r → OnOk r P → P
+ok_value (Ok x) P e p = p
+ok_value (Err f) P e p = absurd (false≢true e)
+
+-- ---- along a record: what it names is mentioned, or still to come
+
+abbrev pub IsSoFar : List Mention → State → List Move → ℕ → ℕ → Type 0
+IsSoFar now t ms i n = (h : ℕ) → has nat_eq h (named t ms) ≡ true → Holds now h n ⊎ (has nat_eq h (named t (drop i ms)) ≡ true)
+
+pub so_far_starts : (now : List Mention) (t : State) (ms : List Move) (n : ℕ) → IsSoFar now t ms 0 n
+so_far_starts now t ms n h e = inr e
+
+drop_at : {X : Type 0} (xs : List X) (i : ℕ) (x : X) → i < length xs → x ≡ slice_index_or xs i x → drop i xs ≡ x ∷ drop (i + 1) xs
+drop_at [] i x lt e = absurd (omega (arith, lt))
+drop_at (y ∷ ys) zero x lt e = ap (λ z. z ∷ ys) (sym e)
+drop_at (y ∷ ys) (suc i) x lt e = let n : suc i + 1 ≡ suc (i + 1) = omega arith in rw n (drop_at ys i x (omega (arith, lt)) e)
+
+pub so_far_more : (now more : List Mention) (t : State) (ms : List Move) (i n : ℕ) (m : Move) → i < length ms → m ≡ slice_index_or ms i m → Grows now more n → AreMentioned more (named_by t m) n → IsSoFar now t ms i n → IsSoFar more t ms (i + 1) n
+so_far_more now more t ms i n m lt e g a s h f =
+    ⊎_elim (λ x. inl (g.kept h n x))
+    (λ x. ⊎_elim (λ y. inl (a h y)) (λ y. inr y) (has_either h (named_by t m) (named t (drop (i + 1) ms)) (sym (ap (λ l. has nat_eq h (named t l)) (drop_at ms i m lt e)) ∙ x)))
+    (s h f)
+
+pub so_far_ends : (now : List Mention) (t : State) (ms : List Move) (i n : ℕ) → length ms ≤ i → IsSoFar now t ms i n → AreMentioned now (named t ms) n
+so_far_ends now t ms i n le s h f = ⊎_elim (λ x. x) (λ x. absurd (false≢true (sym (ap (λ l. has nat_eq h (named t l)) (drop_all i ms le)) ∙ x))) (s h f)

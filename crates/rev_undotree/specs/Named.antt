@@ -1,0 +1,54 @@
+-- Which keys the record of a step names, by their hashes.
+use Rattle.std.specs.Prelude.{ℕ, Bool, cond, nat_eq, List, [], ◌∷◌, ◌++◌, Option, None, Some}
+use Rattle.rev_items.specs.Plain.{PlainItem}
+use Rattle.rev_items.specs.Hash.{hash_of}
+use Rattle.rev_model.specs.Lists.{has}
+use Rattle.rev_model.specs.State.{State, item_at}
+use Rattle.rev_model.specs.Move.{Move, Takes, Puts, Fills, Binds, Unbinds, Shifts}
+use Rattle.rev_model.specs.Client.{Stores, Joins, Counts}
+use Rattle.rev_model.specs.Actor.{Step, Client}
+use Rattle.rev_model.specs.Events.{is_stored}
+use Rattle.rev_model.specs.declared.Entry.TheVariants.{Chunk}
+use Rattle.rev_model.specs.declared.Listed.TheVariants.{InQueue}
+use Rattle.rev_model.specs.declared.Placed.TheVariants.{ToQueue}
+use Rattle.rev_model.specs.declared.Outcome.{Outcome}
+
+-- what is there, as a list
+abbrev pub none_or : Option ℕ → List ℕ
+none_or None = []
+none_or (Some h) = h ∷ []
+
+-- the hash of an item's key, if there is an item
+abbrev pub hashed : Option PlainItem → List ℕ
+hashed None = []
+hashed (Some i) = hash_of i.key ∷ []
+
+-- the keys that a move names: those of the chunks that it concerns, by what they hold at t, and that of its own item
+abbrev pub named_by : State → Move → List ℕ
+named_by t (Takes (InQueue c q (Chunk x))) = hashed (item_at t x)
+named_by t (Puts (ToQueue c q (Chunk x) a)) = hashed (item_at t x)
+named_by t (Fills x i) = hashed i ++ hashed (item_at t x)
+named_by t (Binds x) = hashed (item_at t x)
+named_by t (Unbinds x) = hashed (item_at t x)
+named_by t (Shifts x y) = hashed (item_at t x) ++ hashed (item_at t y)
+named_by t m = []
+
+-- the keys that the moves of a record name, whose step left t
+abbrev pub named : State → List Move → List ℕ
+named t [] = []
+named t (m ∷ ms) = named_by t m ++ named t ms
+
+-- the key under which a command may store
+abbrev pub step_keys : Step → List ℕ
+step_keys (Client (Stores v k flags e d)) = hash_of k ∷ []
+step_keys (Client (Joins side k d)) = hash_of k ∷ []
+step_keys (Client (Counts side k d)) = hash_of k ∷ []
+step_keys e = []
+
+-- the same, where it did
+abbrev pub stored_keys : Step → Outcome → List ℕ
+stored_keys e o = cond (is_stored o) (step_keys e) []
+
+-- whether a step that answered o and left t, or its record's moves, names a key of this hash
+abbrev pub is_named : ℕ → State → Step → Outcome → List Move → Bool
+is_named h t e o ms = has nat_eq h (stored_keys e o ++ named t ms)

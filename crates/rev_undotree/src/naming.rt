@@ -1,0 +1,178 @@
+//! Which keys the step of a node names, and the mentions of them.
+ghost use Rattle.std.specs.Prelude.{◌≡◌, ◌++◌, ℕ, cond, OnOk, drop};
+ghost use Rattle.std.specs.Option.{option_map};
+ghost use Rattle.rev_items.specs.Hash.{hash_of};
+ghost use Rattle.rev_mentions.specs.Mentions.{Within};
+ghost use Rattle.rev_model.specs.Events.{is_stored};
+ghost use Rattle.rev_model.specs.State.{item_at};
+ghost use Rattle.rev_moves.specs.Seen.{plain_move};
+ghost use Rattle.rev_requests.specs.Plain.{plain_step};
+ghost use Rattle.rev_undotree.specs.Named.{hashed, named_by, named, step_keys, stored_keys, none_or};
+ghost use Rattle.rev_undotree.specs.Mentioned.{AreMentioned, Grows};
+
+use crate::branch::Node;
+use rev_inverse::Store;
+use rev_items::Item;
+use rev_mentions::Mentions;
+use rev_model::{ChunkRef, Entry, Listed, Outcome, Placed};
+use rev_moves::{Move, Record};
+use rev_requests::{ClientStep, KeyCommand, Step};
+use std::alloc::{AllocError, Allocator};
+
+/// The hash of the key under which a step may store.
+fn key_hash<A: Allocator>(step: &Step<A>) -> Option<u64>
+    ensures { none_or result ≡ step_keys (plain_step step.now) }
+{
+    match step {
+        Step::Client(client) => match client {
+            ClientStep::Store { key, .. } => Some(key.hash()),
+            ClientStep::Join { key, .. } => Some(key.hash()),
+            ClientStep::Keyed { command, key } => match command {
+                KeyCommand::Count(_) => Some(key.hash()),
+                KeyCommand::Get | KeyCommand::Delete | KeyCommand::Touch(_) => None,
+            },
+            ClientStep::FlushAll { .. } => None,
+        },
+        Step::Actor(_) => None,
+        Step::Tune(_) => None,
+    }
+}
+
+/// Whether a command that answered this stored its key.
+fn has_stored(outcome: Outcome) -> bool
+    ensures { result ≡ is_stored outcome }
+{
+    match outcome {
+        Outcome::Stored | Outcome::Number(_) => true,
+        _ => false,
+    }
+}
+
+/// The hash of the key that a step stored, where it answered `outcome`.
+fn stored_hash<A: Allocator>(step: &Step<A>, outcome: Outcome) -> Option<u64>
+    ensures { none_or result ≡ stored_keys (plain_step step.now) outcome }
+{
+    if has_stored(outcome) {
+        key_hash(step)
+    } else {
+        None
+    }
+}
+
+/// Mentions a hash, if there is one.
+fn mention_hash<A: Allocator>(
+    mentions: &mut Mentions<A>,
+    hash: Option<u64>,
+    node: u32,
+) -> Result<(), AllocError>
+    requires { Within mentions.old node }
+    ensures named { OnOk result (AreMentioned mentions.new (none_or hash) node) }
+    ensures grows { Grows mentions.old mentions.new node }
+{
+    match hash {
+        Some(hash) => mentions.note(hash, node),
+        None => Ok(()),
+    }
+}
+
+/// The hash of an item's key.
+fn item_hash<A: Allocator>(item: Option<&Item<A>>) -> Option<u64>
+    ensures { none_or result ≡ hashed (option_map (λ i. i.now) item.entry) }
+{
+    match item {
+        Some(item) => Some(item.key().hash()),
+        None => None,
+    }
+}
+
+/// Mentions the key of the item that a chunk holds.
+fn mention_chunk<A: Allocator>(
+    mentions: &mut Mentions<A>,
+    store: &Store<A>,
+    chunk: ChunkRef,
+    node: u32,
+) -> Result<(), AllocError>
+    requires { Within mentions.old node }
+    ensures named { OnOk result (AreMentioned mentions.new (hashed (item_at store.now chunk)) node) }
+    ensures grows { Grows mentions.old mentions.new node }
+{
+    mention_hash(mentions, item_hash(store.content(chunk)), node)
+}
+
+/// Mentions the keys that a move names.
+fn mention_move<A: Allocator>(
+    mentions: &mut Mentions<A>,
+    store: &Store<A>,
+    undo: &Move<A>,
+    node: u32,
+) -> Result<(), AllocError>
+    requires { Within mentions.old node }
+    ensures named { OnOk result (AreMentioned mentions.new (named_by store.now (plain_move undo.now)) node) }
+    ensures grows { Grows mentions.old mentions.new node }
+{
+    match undo {
+        Move::Take(Listed::InQueue(_, _, Entry::Chunk(chunk)))
+        | Move::Put(Placed::ToQueue(_, _, Entry::Chunk(chunk), _))
+        | Move::Bind(chunk)
+        | Move::Unbind(chunk) => mention_chunk(mentions, store, *chunk, node),
+        Move::Fill(chunk, item) => {
+            mention_hash(mentions, item_hash(item.as_ref()), node)?;
+            mention_chunk(mentions, store, *chunk, node)
+        }
+        Move::Shift(from, to) => {
+            mention_chunk(mentions, store, *from, node)?;
+            mention_chunk(mentions, store, *to, node)
+        }
+        Move::Take(Listed::InQueue(_, _, Entry::Mark))
+        | Move::Take(Listed::InFree(_, _))
+        | Move::Put(Placed::ToQueue(_, _, Entry::Mark, _))
+        | Move::Put(Placed::ToFree(_, _, _))
+        | Move::Touch(_, _)
+        | Move::Lay(_, _, _, _)
+        | Move::Lift(_, _, _)
+        | Move::Count(_, _, _)
+        | Move::Globals(_)
+        | Move::BumpIn(_)
+        | Move::BumpBack
+        | Move::BumpOut
+        | Move::BumpFront(_)
+        | Move::Marks(_)
+        | Move::Unmarks(_) => Ok(()),
+    }
+}
+
+/// Mentions the keys that a record names.
+fn mention_record<A: Allocator>(
+    mentions: &mut Mentions<A>,
+    store: &Store<A>,
+    undo: &Record<A>,
+    node: u32,
+) -> Result<(), AllocError>
+    requires { Within mentions.old node }
+    ensures named { OnOk result (AreMentioned mentions.new (named store.now undo.now.moves) node) }
+    ensures grows { Grows mentions.old mentions.new node }
+{
+    for i in 0..undo.len() {
+        match undo.part(i) {
+            Some((part, _)) => mention_move(mentions, store, part, node)?,
+            None => unreachable!(),
+        }
+    }
+    Ok(())
+}
+
+/// Mentions the keys that a node's step names, which left `store`: under the node's number.
+///
+/// Err: a growth was refused; some may be mentioned.
+pub fn mention<A: Allocator>(
+    mentions: &mut Mentions<A>,
+    store: &Store<A>,
+    node: &Node<A>,
+) -> Result<(), AllocError>
+    requires { Within mentions.old node.now.number }
+    ensures named { OnOk result (AreMentioned mentions.new (stored_keys node.now.step node.now.outcome ++ named store.now node.now.undo.moves) node.now.number) }
+    ensures grows { Grows mentions.old mentions.new node.now.number }
+{
+    mention_hash(mentions, stored_hash(&node.step, node.outcome), node.number)?;
+    mention_record(mentions, store, &node.undo, node.number)
+}
