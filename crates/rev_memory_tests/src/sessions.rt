@@ -1,4 +1,6 @@
 //! Sessions that are opened and played on, and whole runs.
+ghost use Rattle.rev_model.specs.Sound.{Sound};
+
 use crate::heap::{BYTES, UNIT, fill};
 use crate::parts::SMALL;
 use crate::pictures::{picture_of, session_picture};
@@ -17,21 +19,43 @@ use std::alloc::Global;
 use std::process::Abort;
 use std::test::Fail;
 
-// Opens a session with so many bytes left. A store that is handed back tells what it told before.
+// The store that is handed back where a session is opened with so many bytes left, none where it opened.
+fn refused_store<'a>(
+    alloc: Global,
+    heap: &'a LocalHeap,
+    store: Store<&'a LocalHeap>,
+    left: usize,
+) -> Result<Option<Store<&'a LocalHeap>>, Fail>
+    requires { Sound store }
+{
+    let _ballast = fill(alloc, heap, left)?;
+    match Session::open(heap, store) {
+        Ok(_session) => Ok(None),
+        Err((_, store)) => Ok(Some(store)),
+    }
+}
+
+// Opens a session on a heap with so many bytes left. A store that is handed back tells what it told before.
+fn opens_or_hands_back<'a, R: Abort>(
+    rt: &R,
+    alloc: Global,
+    heap: &'a LocalHeap,
+    left: usize,
+) -> Result<bool, Fail> {
+    let store = Store::open(heap, SMALL)?;
+    let before = picture_of(alloc, &store)?;
+    let Some(store) = refused_store(alloc, heap, store, left)? else {
+        return Ok(true);
+    };
+    let after = picture_of(alloc, &store)?;
+    assert!(rt; before.is_same(&after), "{left} bytes left");
+    Ok(false)
+}
+
+// The same on a heap of its own.
 fn try_open<R: Abort>(rt: &R, alloc: Global, left: usize) -> Result<bool, Fail> {
     let heap = LocalHeap::new(alloc, BYTES)?;
-    let store = Store::open(&heap, SMALL)?;
-    let before = picture_of(alloc, &store)?;
-    let ballast = fill(alloc, &heap, left)?;
-    match Session::open(&heap, store) {
-        Ok(_session) => Ok(true),
-        Err((_, store)) => {
-            drop(ballast);
-            let after = picture_of(alloc, &store)?;
-            assert!(rt; before.is_same(&after), "{left} bytes left");
-            Ok(false)
-        }
-    }
+    opens_or_hands_back(rt, alloc, &heap, left)
 }
 
 #[test]
@@ -114,11 +138,17 @@ fn take_turn<'a>(
     }
 }
 
+// A session on which nothing was played.
+fn new_session<'a>(heap: &'a LocalHeap) -> Result<Session<&'a LocalHeap>, Fail> {
+    match Session::open(heap, Store::open(heap, SMALL)?) {
+        Ok(session) => Ok(session),
+        Err(_) => Err(Fail::new("no session")),
+    }
+}
+
 // A session on which these turns were taken.
 fn session_after<'a>(heap: &'a LocalHeap, turns: &[Turn]) -> Result<Session<&'a LocalHeap>, Fail> {
-    let Ok(mut session) = Session::open(heap, Store::open(heap, SMALL)?) else {
-        return Err(Fail::new("no session"));
-    };
+    let mut session = new_session(heap)?;
     for turn in turns {
         take_turn(heap, &mut session, *turn)?;
     }
@@ -151,14 +181,19 @@ fn try_play<'a>(
     Ok(refusal(session, step, &like))
 }
 
-// Plays the case's command with so many bytes left. A session that was refused memory tells what it told before, and the
-// step is handed back.
-fn try_case<R: Abort>(rt: &R, alloc: Global, case: &Case, left: usize) -> Result<bool, Fail> {
-    let heap = LocalHeap::new(alloc, BYTES)?;
-    let mut session = session_after(&heap, case.before)?;
-    let before = session_picture(alloc, &session)?;
-    let refusal = try_play(alloc, &heap, &mut session, case.command, left)?;
-    let after = session_picture(alloc, &session)?;
+// Plays the command with so many bytes left. A session that was refused memory tells what it told before, and the step is
+// handed back.
+fn plays_or_keeps<'a, R: Abort>(
+    rt: &R,
+    alloc: Global,
+    heap: &'a LocalHeap,
+    session: &mut Session<&'a LocalHeap>,
+    case: &Case,
+    left: usize,
+) -> Result<bool, Fail> {
+    let before = session_picture(alloc, session)?;
+    let refusal = try_play(alloc, heap, session, case.command, left)?;
+    let after = session_picture(alloc, session)?;
     let name = case.name;
     let is_same = before.is_same(&after);
     assert!(rt; is_same == refusal.is_some(), "{name}: {left} bytes left");
@@ -173,6 +208,24 @@ fn try_case<R: Abort>(rt: &R, alloc: Global, case: &Case, left: usize) -> Result
             Ok(false)
         }
     }
+}
+
+// Plays the case's command on a session of its own.
+fn try_session<'a, R: Abort>(
+    rt: &R,
+    alloc: Global,
+    heap: &'a LocalHeap,
+    case: &Case,
+    left: usize,
+) -> Result<bool, Fail> {
+    let mut session = session_after(heap, case.before)?;
+    plays_or_keeps(rt, alloc, heap, &mut session, case, left)
+}
+
+// The same on a heap of its own.
+fn try_case<R: Abort>(rt: &R, alloc: Global, case: &Case, left: usize) -> Result<bool, Fail> {
+    let heap = LocalHeap::new(alloc, BYTES)?;
+    try_session(rt, alloc, &heap, case, left)
 }
 
 #[test]
@@ -213,15 +266,36 @@ fn story_length<'a>(
     }
 }
 
-// Asks for the story with so many bytes left.
-fn try_story<R: Abort>(rt: &R, alloc: Global, left: usize) -> Result<bool, Fail> {
-    let heap = LocalHeap::new(alloc, BYTES)?;
-    let session = session_after(&heap, &LIFE)?;
+// Asks for the story with so many bytes left. Whatever comes of it, no memory is kept.
+fn tells_or_refuses<'a, R: Abort>(
+    rt: &R,
+    alloc: Global,
+    heap: &'a LocalHeap,
+    session: &Session<&'a LocalHeap>,
+    left: usize,
+) -> Result<bool, Fail> {
     let free = heap.free();
-    let length = story_length(alloc, &heap, &session, left)?;
+    let length = story_length(alloc, heap, session, left)?;
     assert_eq!(rt; heap.free(), free);
     assert_eq!(rt; length.unwrap_or(LIFE.len()), LIFE.len());
     Ok(length.is_some())
+}
+
+// Asks a session of its own.
+fn ask_session<'a, R: Abort>(
+    rt: &R,
+    alloc: Global,
+    heap: &'a LocalHeap,
+    left: usize,
+) -> Result<bool, Fail> {
+    let session = session_after(heap, &LIFE)?;
+    tells_or_refuses(rt, alloc, heap, &session, left)
+}
+
+// The same on a heap of its own.
+fn try_story<R: Abort>(rt: &R, alloc: Global, left: usize) -> Result<bool, Fail> {
+    let heap = LocalHeap::new(alloc, BYTES)?;
+    ask_session(rt, alloc, &heap, left)
 }
 
 #[test]

@@ -365,20 +365,45 @@ fn store_after<'a>(
 }
 
 // Applies the case's command with so many bytes left. A store that was refused memory tells what it told before.
-fn try_case<R: Abort>(rt: &R, alloc: Global, case: &Case, left: usize) -> Result<bool, Fail> {
-    let heap = LocalHeap::new(alloc, BYTES)?;
-    let mut store = store_after(&heap, case.pages, case.before)?;
-    let before = picture_of(alloc, &store)?;
+fn applies_or_keeps<'a, R: Abort>(
+    rt: &R,
+    alloc: Global,
+    heap: &'a LocalHeap,
+    store: &mut Store<&'a LocalHeap>,
+    case: &Case,
+    left: usize,
+) -> Result<bool, Fail>
+    requires { Sound store.old }
+{
+    let before = picture_of(alloc, store)?;
     let free = heap.free();
-    let is_done = try_apply(alloc, &heap, &mut store, case.command, left)?;
+    let is_done = try_apply(alloc, heap, store, case.command, left)?;
     let name = case.name;
     if !is_done {
         assert_eq!(rt; heap.free(), free, "{name}: {left} bytes left");
     }
-    let after = picture_of(alloc, &store)?;
+    let after = picture_of(alloc, store)?;
     let is_same = before.is_same(&after);
     assert!(rt; is_same != is_done, "{name}: {left} bytes left");
     Ok(is_done)
+}
+
+// Applies it to a store of its own.
+fn try_store<'a, R: Abort>(
+    rt: &R,
+    alloc: Global,
+    heap: &'a LocalHeap,
+    case: &Case,
+    left: usize,
+) -> Result<bool, Fail> {
+    let mut store = store_after(heap, case.pages, case.before)?;
+    applies_or_keeps(rt, alloc, heap, &mut store, case, left)
+}
+
+// The same on a heap of its own.
+fn try_case<R: Abort>(rt: &R, alloc: Global, case: &Case, left: usize) -> Result<bool, Fail> {
+    let heap = LocalHeap::new(alloc, BYTES)?;
+    try_store(rt, alloc, &heap, case, left)
 }
 
 #[test]
