@@ -1,9 +1,10 @@
 //! Sessions that are opened and played on, and whole runs.
+ghost use Rattle.std.specs.Prelude.{IfOk, IfSome};
 ghost use Rattle.rev_model.specs.Sound.{Sound};
 
 use crate::heap::{BYTES, UNIT, fill};
 use crate::parts::SMALL;
-use crate::pictures::{picture_of, session_picture};
+use crate::pictures::{Picture, picture_of, session_picture};
 use crate::steps::{Command, step_of};
 use linked_list_allocator::LocalHeap;
 use rev_classes::fault_of;
@@ -27,6 +28,7 @@ fn refused_store<'a>(
     left: usize,
 ) -> Result<Option<Store<&'a LocalHeap>>, Fail>
     requires { Sound store }
+    ensures { IfOk result (λ handed. IfSome handed Sound) }
 {
     let _ballast = fill(alloc, heap, left)?;
     match Session::open(heap, store) {
@@ -35,8 +37,29 @@ fn refused_store<'a>(
     }
 }
 
-// Opens a session on a heap with so many bytes left. A store that is handed back tells what it told before.
+// Opens a session with so many bytes left. A store that is handed back tells what it told before.
 fn opens_or_hands_back<'a, R: Abort>(
+    rt: &R,
+    alloc: Global,
+    heap: &'a LocalHeap,
+    store: Store<&'a LocalHeap>,
+    before: &Picture,
+    left: usize,
+) -> Result<bool, Fail>
+    requires { Sound store }
+{
+    match refused_store(alloc, heap, store, left)? {
+        None => Ok(true),
+        Some(store) => {
+            let after = picture_of(alloc, &store)?;
+            assert!(rt; before.is_same(&after), "{left} bytes left");
+            Ok(false)
+        }
+    }
+}
+
+// Opens one over a store of its own.
+fn open_over_store<'a, R: Abort>(
     rt: &R,
     alloc: Global,
     heap: &'a LocalHeap,
@@ -44,18 +67,13 @@ fn opens_or_hands_back<'a, R: Abort>(
 ) -> Result<bool, Fail> {
     let store = Store::open(heap, SMALL)?;
     let before = picture_of(alloc, &store)?;
-    let Some(store) = refused_store(alloc, heap, store, left)? else {
-        return Ok(true);
-    };
-    let after = picture_of(alloc, &store)?;
-    assert!(rt; before.is_same(&after), "{left} bytes left");
-    Ok(false)
+    opens_or_hands_back(rt, alloc, heap, store, &before, left)
 }
 
 // The same on a heap of its own.
 fn try_open<R: Abort>(rt: &R, alloc: Global, left: usize) -> Result<bool, Fail> {
     let heap = LocalHeap::new(alloc, BYTES)?;
-    opens_or_hands_back(rt, alloc, &heap, left)
+    open_over_store(rt, alloc, &heap, left)
 }
 
 #[test]

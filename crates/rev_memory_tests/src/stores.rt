@@ -43,19 +43,42 @@ fn opens(rt: HostRuntime) -> Result<(), Fail> {
     Ok(())
 }
 
-// Makes a record, or the slots of a page, with so many bytes left.
-fn try_room<R: Abort>(rt: &R, alloc: Global, of_page: bool, left: usize) -> Result<bool, Fail> {
-    let heap = LocalHeap::new(alloc, BYTES)?;
-    let store = Store::open(&heap, SMALL)?;
-    let _ballast = fill(alloc, &heap, left)?;
+// Makes a record, or the slots of a page of the store, with so many bytes left.
+fn makes_room<'a, R: Abort>(
+    rt: &R,
+    alloc: Global,
+    heap: &'a LocalHeap,
+    store: &Store<&'a LocalHeap>,
+    of_page: bool,
+    left: usize,
+) -> Result<bool, Fail> {
+    let _ballast = fill(alloc, heap, left)?;
     let is_made = if of_page {
         assert!(rt; store.table().last() >= 1);
         store.parts(1).is_ok()
     } else {
-        Record::with_room(&heap, 64).is_ok()
+        Record::with_room(heap, 64).is_ok()
     };
     assert_eq!(rt; heap.free(), left);
     Ok(is_made)
+}
+
+// The same with a store of its own.
+fn make_for_store<'a, R: Abort>(
+    rt: &R,
+    alloc: Global,
+    heap: &'a LocalHeap,
+    of_page: bool,
+    left: usize,
+) -> Result<bool, Fail> {
+    let store = Store::open(heap, SMALL)?;
+    makes_room(rt, alloc, heap, &store, of_page, left)
+}
+
+// The same on a heap of its own.
+fn try_room<R: Abort>(rt: &R, alloc: Global, of_page: bool, left: usize) -> Result<bool, Fail> {
+    let heap = LocalHeap::new(alloc, BYTES)?;
+    make_for_store(rt, alloc, &heap, of_page, left)
 }
 
 #[test]

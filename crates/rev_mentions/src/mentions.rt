@@ -47,7 +47,7 @@ impl<A: Allocator> Mentions<A> {
         })
     }
 
-    /// Notes that the hash is mentioned at `node`. What the last entry says already is left out.
+    /// Notes that the hash is mentioned at `node`. What one of the last two entries says already is left out.
     ///
     /// Err: a growth was refused, or the log has 2³² - 1 entries, and nothing is changed.
     pub fn note(&mut self, hash: u64, node: u32) -> Result<(), AllocError>
@@ -74,14 +74,23 @@ impl<A: Allocator> Mentions<A> {
         seek(&self.heads, &self.entries, hash, bound)
     }
 
-    // Whether the last entry says that the hash is mentioned at the node.
-    fn ends_with(&self, hash: u64, node: u32) -> bool
+    // Whether the entry `at` is there, and says that the hash is mentioned at the node.
+    fn says(&self, at: usize, hash: u64, node: u32) -> bool
         ensures { IsTrue result → Holds self.now hash node }
     {
-        match self.entries.last() {
+        match self.entries.get(at) {
             Some(entry) => entry.mention() == Mention { hash, node },
             None => false,
         }
+    }
+
+    // Whether one of the last two entries says that the hash is mentioned at the node.
+    fn ends_with(&self, hash: u64, node: u32) -> bool
+        ensures { IsTrue result → Holds self.now hash node }
+    {
+        let count = self.entries.len();
+        self.says(count.saturating_sub(1), hash, node)
+            || self.says(count.saturating_sub(2), hash, node)
     }
 
     // Makes twice as many buckets where there are as many entries. Err: the growth was refused.
