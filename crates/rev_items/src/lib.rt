@@ -43,7 +43,7 @@ pub struct Bits {
 }
 
 /// The name of an item: 1 to 250 bytes, none of them 0 to 32 or 127 (protocol.txt). It keeps the hash of its bytes, so
-/// that a search in an index hashes a key once and reads the bytes of no other key but its own.
+/// that a search in an index hashes a key once and reads the bytes of no key of another hash.
 #[derive(Drop)]
 pub struct Key<A: Allocator> {
     bytes: Vec<u8, A>,
@@ -74,7 +74,7 @@ struct Held<A: Allocator> {
     bits: Bits,
 }
 
-/// What a chunk holds. It lies behind one pointer, so that lists of slots and records of moves hold it in eight bytes.
+/// What a chunk holds. It lies behind one pointer, so that lists of slots and records of moves hold just that.
 #[derive(Drop)]
 pub struct Item<A: Allocator> {
     held: Box<Held<A>, A>,

@@ -323,7 +323,7 @@ no_event : (p : Option KeyPlace) → event_by false p p None ≡ None
 no_event None = refl
 no_event (Some p) = same_queue p.lru
 
--- THE LEMMA: what is not named by a step's record, nor stored by the step, keeps its place and tells no event
+-- what is not named by a step's record, nor stored by the step, keeps its place and tells no event
 pub unnamed_still : (s t : State) (e : Step) (o : Outcome) (r : PlainRecord) → Recalled s t e o r → (k : List ℕ) → is_named (hash_of k) t e o r.moves ≡ false → (event s e k ≡ None) × (key_place_of s k ≡ key_place_of t k)
 unnamed_still s t e o r h k f =
     let parts : Lacks (hash_of k) (stored_keys e o) × Lacks (hash_of k) (named t r.moves) = lacks_both (hash_of k) (stored_keys e o) (named t r.moves) f in
