@@ -67,8 +67,8 @@ fn find_departure<A: Allocator + Clone>(session: &Session<A>, key: &Key<A>) -> W
 }
 
 /// Why a key is not held at the current node: the node on the way from the root at which it last left the index, and the
-/// cause. A key whose item is dead is held until something unlinks it. No node is visited but those that mention the
-/// key's hash, each at most once; no record is turned, and no memory is taken.
+/// cause. A key whose item is dead is held until something unlinks it. Nodes that cannot matter to the key are passed by,
+/// the others are visited at most once; no record is turned, and no memory is taken.
 pub fn why<A: Allocator + Clone>(session: &Session<A>, key: &Key<A>) -> Why
     ensures { result ≡ why_of session.now.root session.now.rows session.now.current key.now }
 {
@@ -172,7 +172,7 @@ fn add<A: Allocator>(
 }
 
 /// What happened to a key on the way from the root to the current node, at most one event a node (this project's own
-/// rules). No node is visited but those that mention the key's hash, and no record is turned. The list is the store's
+/// rules). Nodes that cannot matter to the key are passed by, and no record is turned. The list is the store's
 /// allocator's.
 ///
 /// Err: a growth of the list was refused.

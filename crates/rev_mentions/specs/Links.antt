@@ -7,12 +7,15 @@ use Rattle.rev_mentions.specs.declared.links.Entry.{Entry}
 abbrev pub mention_of : Entry → Mention
 mention_of e = record { hash = e.hash; node = e.node }
 
+-- what a list of entries notes
 abbrev pub mentions_of : List Entry → List Mention
 mentions_of es = map mention_of es
 
+-- the links of a list of entries
 abbrev pub links_of : List Entry → List ℕ
 links_of es = map (λ e. e.earlier) es
 
+-- stands in where there is no mention
 abbrev pub no_mention : Mention
 no_mention = record { hash = 0; node = 0 }
 
@@ -20,6 +23,7 @@ no_mention = record { hash = 0; node = 0 }
 abbrev pub bucket_at : List Mention → ℕ → ℕ → ℕ
 bucket_at ms m i = (get_or ms i no_mention).hash % m
 
+-- the node of mention i
 abbrev pub node_at : List Mention → ℕ → ℕ
 node_at ms i = (get_or ms i no_mention).node
 

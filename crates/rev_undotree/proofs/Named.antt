@@ -3,7 +3,7 @@ use Rattle.std.proofs.Common.{◌≡◌, ℕ, suc, zero, ◌+◌, ◌<◌, ◌�
 use Rattle.std.specs.Prelude.{nat_eq, slice_index_or}
 use Rattle.std.proofs.lemmas.Bool.{false≢true}
 use Rattle.std.proofs.lemmas.Bool.Decides.{nat_tests}
-use Rattle.std.proofs.lemmas.List.{drop_all}
+use Rattle.std.proofs.lemmas.List.{drop_all, at_drop_more}
 use Rattle.rev_mentions.specs.declared.mention.Mention.{Mention}
 use Rattle.rev_mentions.specs.Mentions.{Holds, Within}
 use Rattle.rev_model.specs.Lists.{has}
@@ -60,15 +60,10 @@ IsSoFar now t ms i n = (h : ℕ) → has nat_eq h (named t ms) ≡ true → Hold
 pub so_far_starts : (now : List Mention) (t : State) (ms : List Move) (n : ℕ) → IsSoFar now t ms 0 n
 so_far_starts now t ms n h e = inr e
 
-drop_at : {X : Type 0} (xs : List X) (i : ℕ) (x : X) → i < length xs → x ≡ slice_index_or xs i x → drop i xs ≡ x ∷ drop (i + 1) xs
-drop_at [] i x lt e = absurd (omega (arith, lt))
-drop_at (y ∷ ys) zero x lt e = ap (λ z. z ∷ ys) (sym e)
-drop_at (y ∷ ys) (suc i) x lt e = let n : suc i + 1 ≡ suc (i + 1) = omega arith in rw n (drop_at ys i x (omega (arith, lt)) e)
-
 pub so_far_more : (now more : List Mention) (t : State) (ms : List Move) (i n : ℕ) (m : Move) → i < length ms → m ≡ slice_index_or ms i m → Grows now more n → AreMentioned more (named_by t m) n → IsSoFar now t ms i n → IsSoFar more t ms (i + 1) n
 so_far_more now more t ms i n m lt e g a s h f =
     ⊎_elim (λ x. inl (g.kept h n x))
-    (λ x. ⊎_elim (λ y. inl (a h y)) (λ y. inr y) (has_either h (named_by t m) (named t (drop (i + 1) ms)) (sym (ap (λ l. has nat_eq h (named t l)) (drop_at ms i m lt e)) ∙ x)))
+    (λ x. ⊎_elim (λ y. inl (a h y)) (λ y. inr y) (has_either h (named_by t m) (named t (drop (i + 1) ms)) (sym (at_drop_more (λ l. has nat_eq h (named t l)) ms i m lt ∙ ap (λ z. has nat_eq h (named t (z ∷ drop (i + 1) ms))) (sym e)) ∙ x)))
     (s h f)
 
 pub so_far_ends : (now : List Mention) (t : State) (ms : List Move) (i n : ℕ) → length ms ≤ i → IsSoFar now t ms i n → AreMentioned now (named t ms) n

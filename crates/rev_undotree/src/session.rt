@@ -277,8 +277,8 @@ impl<A: Allocator + Clone> Session<A> {
     }
 
     /// A depth, at most `depth`, behind which nothing befell the key up to `depth` on the way to the current node: it had
-    /// no event there, and stayed where it was. What the key's hash is mentioned at is looked up, and the nodes between
-    /// are not visited.
+    /// no event there, and stayed where it was. It is found by the last node that mentions the key's hash; that it is not
+    /// further down than it must be is speed, and not promised.
     pub fn last_mention(&self, key: &Key<A>, depth: usize) -> usize
         ensures within { result ≤ depth }
         ensures still { IsStill self.now key.now result depth }
