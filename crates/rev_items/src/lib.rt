@@ -12,6 +12,7 @@ mod hash;
 use crate::hash::hash;
 use std::alloc::{AllocError, Allocator};
 use std::marker::Model;
+use std::sync::Arc;
 use thiserror::Error;
 
 /// The most bytes that a key has (protocol.txt).
@@ -62,11 +63,13 @@ impl<A: Allocator> Model for Key<A> {
     ghost invariant = { λ k. IsKey k.bytes.items × (k.hash ≡ hash_of k.bytes.items) };
 }
 
-// What an item holds.
+// What an item holds. Its data are shared with the step that brought them; their length stands here too, so that a
+// footprint reads no further.
 #[derive(Drop)]
 struct Held<A: Allocator> {
     key: Key<A>,
-    value: Vec<u8, A>,
+    value: Arc<Vec<u8, A>, A>,
+    data_length: u32,
     flags: u32,
     moment: u64,
     time: u32,
@@ -81,14 +84,14 @@ pub struct Item<A: Allocator> {
 }
 
 impl<A: Allocator> Model for Item<A> {
-    ghost use Rattle.std.specs.Prelude.{length, ◌≤◌};
+    ghost use Rattle.std.specs.Prelude.{length, ◌≡◌, ◌≤◌};
     ghost use Rattle.rev_items.specs.Plain.{PlainItem};
 
     ghost Value = { PlainItem };
 
-    ghost view = { λ i. record { key = i.held.value.key; value = i.held.value.value.items; flags = i.held.value.flags; moment = i.held.value.moment; time = i.held.value.time; cas = i.held.value.cas; bits = i.held.value.bits } };
+    ghost view = { λ i. record { key = i.held.value.key; value = i.held.value.value.value.items; flags = i.held.value.flags; moment = i.held.value.moment; time = i.held.value.time; cas = i.held.value.cas; bits = i.held.value.bits } };
 
-    ghost invariant = { λ i. length i.held.value.value.items ≤ 1048576 };
+    ghost invariant = { λ i. (i.held.value.data_length ≡ length i.held.value.value.value.items) × (i.held.value.data_length ≤ 1048576) };
 }
 
 fn is_key_byte(byte: u8) -> bool
@@ -210,22 +213,24 @@ impl<A: Allocator> Item<A> {
     pub fn new(
         alloc: A,
         key: Key<A>,
-        value: Vec<u8, A>,
+        value: Arc<Vec<u8, A>, A>,
         flags: u32,
         moment: u64,
         time: u32,
         cas: u64,
     ) -> Result<Item<A>, AllocError>
-        requires data { length value.items ≤ 1048576 }
-        ensures { IfOk result (λ item. item ≡ record { key = key; value = value.items; flags = flags; moment = moment; time = time; cas = cas; bits = record { fetched = false; active = false } }) }
+        requires data { length value.value.items ≤ 1048576 }
+        ensures { IfOk result (λ item. item ≡ record { key = key; value = value.value.items; flags = flags; moment = moment; time = time; cas = cas; bits = record { fetched = false; active = false } }) }
     {
         let bits = Bits {
             fetched: false,
             active: false,
         };
+        let data_length = value.len() as u32;
         let held = Held {
             key,
             value,
+            data_length,
             flags,
             moment,
             time,
@@ -248,6 +253,13 @@ impl<A: Allocator> Item<A> {
         ensures { result.now ≡ self.now.value }
     {
         &self.held.value
+    }
+
+    /// How many bytes the item's data are: at most 1048576.
+    pub fn data_length(&self) -> u32
+        ensures { result ≡ length self.now.value }
+    {
+        self.held.data_length
     }
 
     /// The number that the client keeps with the item.
@@ -290,7 +302,11 @@ impl<A: Allocator> Item<A> {
         ensures within { result < 2 ^ 32 }
     {
         let held = &self.held;
-        footprint(held.key.bytes().len(), held.flags, held.value.len() as u64)
+        footprint(
+            held.key.bytes().len(),
+            held.flags,
+            u64::from(held.data_length),
+        )
     }
 
     /// Whether the item is dead at `now`, after a flush of all items up to the cas number `mark`: it has expired, or

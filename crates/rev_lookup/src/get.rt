@@ -28,7 +28,7 @@ fn answer<A: Allocator>(store: &Store<A>, chunk: ChunkRef) -> Outcome
         None => Outcome::Miss,
         Some(item) => Outcome::Hit {
             cas: item.cas(),
-            len: item.value().len(),
+            len: item.data_length() as usize,
         },
     }
 }

@@ -1,6 +1,6 @@
 -- A recording may cross threads, and so threads may share its recorder.
 use denote.Param.Send.{IsSend, IsSync, sendable}
-use Rattle.std.proofs.Crossing.{crosses, frees, send, Box-send, Vec-send}
+use Rattle.std.proofs.Crossing.{crosses, frees, send, sync, Box-send, Vec-send}
 use Rattle.std.specs.contracts.alloc.Global as Heap
 use Rattle.std.specs.contracts.impls.GlobalAllocator.TheImpl.{ghosts}
 use Rattle.rev_inverse.specs.contracts.store.Store as store
@@ -17,11 +17,11 @@ use Rattle.rev_recorder.specs.contracts.recorder.Recorder as recorder
 
 -- a store
 store_send : IsSend (store.the_row Heap.the_row ghosts)
-store_send = sent_store.the_send Heap.the_row ghosts send frees
+store_send = sent_store.the_send Heap.the_row ghosts send sync frees
 
 -- a node of a branch
 node_send : IsSend (node.the_row Heap.the_row ghosts)
-node_send = sent_node.the_send Heap.the_row ghosts send frees
+node_send = sent_node.the_send Heap.the_row ghosts send sync frees
 
 -- the index of a tree
 index_send : IsSend (index.the_row Heap.the_row ghosts)

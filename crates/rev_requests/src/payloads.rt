@@ -1,25 +1,39 @@
 //! The data of a command.
 ghost use Rattle.std.specs.Prelude.{◌≡◌, ◌↔◌, IsTrue, IfOk};
+ghost use Rattle.rev_model.specs.Client.{Bytes};
 ghost use Rattle.rev_requests.specs.Plain.{plain_payload};
 
 use std::alloc::{AllocError, Allocator};
+use std::sync::Arc;
 
 /// The data of a storage command: its bytes, or, where they are more than 1048576, only how many were skipped.
 #[derive(Drop)]
 pub enum Payload<A: Allocator> {
-    Bytes(Vec<u8, A>),
+    Bytes(Arc<Vec<u8, A>, A>),
     Skipped(u32),
+}
+
+impl<A: Allocator + Clone> Payload<A> {
+    /// The payload of these bytes, which are not copied.
+    ///
+    /// Err: a growth was refused.
+    pub fn from_vec(bytes: Vec<u8, A>) -> Result<Payload<A>, AllocError>
+        ensures { IfOk result (λ payload. plain_payload payload ≡ Bytes bytes.items) }
+    {
+        let alloc = bytes.allocator().clone()?;
+        Ok(Payload::Bytes(Arc::new(alloc, bytes)?))
+    }
 }
 
 impl<A: Allocator> Payload<A> {
     /// Equal data.
     ///
     /// Err: a growth was refused.
-    pub fn copy<B: Allocator>(&self, alloc: B) -> Result<Payload<B>, AllocError>
+    pub fn copy<B: Allocator + Clone>(&self, alloc: B) -> Result<Payload<B>, AllocError>
         ensures { IfOk result (λ copy. plain_payload copy ≡ plain_payload self.now) }
     {
         match self {
-            Payload::Bytes(bytes) => Ok(Payload::Bytes(bytes.as_slice().to_vec(alloc)?)),
+            Payload::Bytes(bytes) => Payload::from_vec(bytes.as_slice().to_vec(alloc)?),
             Payload::Skipped(n) => Ok(Payload::Skipped(*n)),
         }
     }

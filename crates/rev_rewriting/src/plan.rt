@@ -16,6 +16,7 @@ use rev_model::Outcome;
 use rev_requests::{Arithmetic, JoinSide, Payload};
 use rev_storage::fresh::{class_for, new_item};
 use std::alloc::{AllocError, Allocator};
+use std::sync::Arc;
 
 /// An item that is to take the place of the key's item.
 #[derive(Drop)]
@@ -82,6 +83,7 @@ fn plan_data<A: Allocator + Clone>(
         None => Ok(Plan::Refused(Outcome::TooLarge)),
         Some(class) => {
             let value = joined(store.alloc()?, first, second)?;
+            let value = Arc::new(store.alloc()?, value)?;
             let item = new_item(store, old.key(), old.flags(), old.moment(), value)?;
             Ok(Plan::Replaced(Draft {
                 class,

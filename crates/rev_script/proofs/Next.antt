@@ -1,11 +1,11 @@
 -- The next line, from what was read of it.
-use Rattle.std.proofs.Common.{◌≡◌, ℕ, ◌+◌, ◌-◌, ◌<◌, ◌≤◌, ◌⊎◌, inl, inr, Bool, true, false, cond, nat_lt, List, [], ◌∷◌, ◌++◌, length, take, drop, Some, refl, sym, ◌∙◌, ap, subst, arith, append_assoc, append-nil, take_all}
+use Rattle.std.proofs.Common.{◌≡◌, ◌≢◌, ℕ, ◌+◌, ◌-◌, ◌<◌, ◌≤◌, ◌⊎◌, inl, inr, Bool, true, false, cond, nat_lt, List, [], ◌∷◌, ◌++◌, length, take, drop, Some, refl, sym, ◌∙◌, ap, subst, arith, append_assoc, append-nil, take_all}
 use Rattle.std.proofs.lemmas.List.{nil_from_length}
 use Rattle.std.proofs.lemmas.Bool.Decides.{nat_tests}
 use Rattle.std.specs.Io.BufRead.{strip_last}
 use Rattle.rev_script.specs.ByteReader.{Took, AtEnd, StoppedBy}
 use Rattle.rev_script.specs.RawLine.{IsText, IsPart, ending}
-use Rattle.rev_script.specs.DataBlock.{IsShort}
+use Rattle.rev_script.specs.DataBlock.{IsBroken}
 use Rattle.std.specs.Str.{bytes_eq}
 use Rattle.std.proofs.Common.{length-drop, length-take, lit≤, codes}
 use Rattle.std.specs.Io.BufRead.{ends_with_byte}
@@ -18,6 +18,7 @@ use Rattle.rev_script.specs.Line.{IsNext, IsFault, IsStorageLine}
 use Rattle.rev_script.specs.Source.{Told}
 use Rattle.rev_script.specs.declared.byte_reader.ByteReader.{ByteReader}
 use Rattle.rev_script.specs.declared.byte_reader.LineFault.{LineFault}
+use Rattle.rev_script.specs.declared.byte_reader.LineFault.TheVariants as faults
 use Rattle.rev_script.specs.declared.raw_line.RawLine.{RawLine}
 use Rattle.rev_grammar.specs.declared.command.Command.TheVariants.{Storage, Bad}
 use Rattle.rev_grammar.specs.declared.command.BadAnswer.TheVariants.{LineTooLong, BadChunk}
@@ -120,9 +121,9 @@ fault_text e p s = (p.text, p.took, (λ _. none_whole-text p.text p.no_lf), s)
 -- a fault in its data block
 pub fault_block : {S : Type 0} {told : S → Told} {old mid new : ByteReader S} {raw : RawLine} {kept : List ℕ} {storage : StorageCommand} {flags : ℕ} {exptime : ℤ} {size : ℕ} {noreply : Bool} (e : LineFault) →
     (t : IsText told old mid raw kept) → raw.feed ≡ true → asked (strip_last 13 t.text) ≡ Storage storage flags exptime size noreply →
-    IsShort told mid new (size + 1) → StoppedBy told new e → IsFault told old new e
+    IsBroken told mid new size e → StoppedBy told new e → IsFault told old new e
 fault_block {S} {told} {old} {mid} {new} {raw} {kept} {storage} {flags} {exptime} {size} {noreply} e t feed c s stop =
     let first : Took told old mid (t.text ++ 10 ∷ []) = subst (λ f. Took told old mid (t.text ++ ending f)) feed t.took in
     let both : Took told old new (t.text ++ 10 ∷ s.taken) = subst (λ l. Took told old new l) (append_assoc t.text (10 ∷ []) s.taken) (Took-then first s.took) in
-    let short : length s.taken < block_size (asked (strip_last 13 t.text)) = omega (arith, s.short, ap block_size c) in
-    (t.text ++ 10 ∷ s.taken, both, (λ _. none_whole (t.text ++ 10 ∷ s.taken) _ (last_block t.text s.taken t.no_lf short)), stop)
+    let short : e ≢ faults.Memory → length s.taken < block_size (asked (strip_last 13 t.text)) = λ other. omega (arith, s.short other, ap block_size c) in
+    (t.text ++ 10 ∷ s.taken, both, (λ other. none_whole (t.text ++ 10 ∷ s.taken) _ (last_block t.text s.taken t.no_lf (short other))), stop)

@@ -1,9 +1,11 @@
 -- What was read of a data block.
-use Rattle.std.specs.Prelude.{◌≡◌, ◌<◌, ◌≤◌, ◌+◌, ◌⊎◌, ℕ, Bool, true, false, List, [], ◌∷◌, length, take, drop}
+use Rattle.std.specs.Prelude.{◌≡◌, ◌≢◌, ◌<◌, ◌≤◌, ◌+◌, ◌⊎◌, ℕ, Bool, true, false, List, [], ◌∷◌, length, take, drop}
 use Rattle.std.specs.Str.{bytes_eq}
 use Rattle.rev_script.specs.ByteReader.{Took, AtEnd}
 use Rattle.rev_script.specs.Source.{Told}
 use Rattle.rev_script.specs.declared.byte_reader.ByteReader.{ByteReader}
+use Rattle.rev_script.specs.declared.byte_reader.LineFault.{LineFault}
+use Rattle.rev_script.specs.declared.byte_reader.LineFault.TheVariants as faults
 
 -- these bytes were taken: n of them, or fewer before the end
 pub record IsTaken {S : Type 0} (told : S → Told) (old new : ByteReader S) (n : ℕ) (all : Bool) (taken : List ℕ) : Type 0 where
@@ -16,6 +18,12 @@ pub record IsShort {S : Type 0} (told : S → Told) (old new : ByteReader S) (n 
   pub taken : List ℕ
   pub took : Took told old new taken
   pub short : length taken ≤ n
+
+-- a data block of so many bytes was not taken whole (at Memory perhaps it was)
+pub record IsBroken {S : Type 0} (told : S → Told) (old new : ByteReader S) (size : ℕ) (e : LineFault) : Type 0 where
+  pub taken : List ℕ
+  pub took : Took told old new taken
+  pub short : e ≢ faults.Memory → length taken ≤ size + 1
 
 -- two bytes were taken, or fewer before the end
 pub record IsEnding {S : Type 0} (told : S → Told) (old new : ByteReader S) (sound : Bool) : Type 0 where

@@ -1,15 +1,17 @@
 //! The lines of a script, one after another.
-ghost use Rattle.std.specs.Prelude.{◌≡◌, ◌≢◌, [], ◌∷◌, ◌≤◌, ◌<◌, ◌+◌, ◌^◌, ℕ, List, length, IfOk, IfErr, OnErr, IfSome, Some, None, Err, Ok, true};
+ghost use Rattle.std.specs.Prelude.{◌≡◌, ◌≢◌, [], ◌∷◌, ◌≤◌, ◌<◌, ◌+◌, ◌^◌, ℕ, List, length, IfOk, IfErr, OnErr, IfSome, Some, None, Err, Ok, true, nat_lt, if◌then◌else◌};
 ghost use Rattle.std.specs.Prelude.{map, drop};
 ghost use Rattle.std.specs.Option.{option_map};
 ghost use Rattle.std.specs.List.{list_all};
 ghost use Rattle.std.specs.Io.BufRead.{strip_last};
 ghost use Rattle.rev_items.specs.Keys.{is_key};
+ghost use Rattle.rev_model.specs.Client.{Bytes, Skipped};
+ghost use Rattle.rev_requests.specs.Plain.{plain_payload};
 ghost use Rattle.rev_grammar.specs.Commands.{asked};
 ghost use Rattle.rev_grammar.specs.Words.{words};
 ghost use Rattle.rev_script.specs.Line.{view, IsAsked, IsNext, IsFault, IsStorageLine};
 ghost use Rattle.rev_script.specs.ByteReader.{StoppedBy, IsEnded};
-ghost use Rattle.rev_script.specs.DataBlock.{IsShort};
+ghost use Rattle.rev_script.specs.DataBlock.{IsBroken};
 
 use crate::byte_reader::{ByteReader, LineFault};
 use crate::data_block::{MOST_DATA, take_block};
@@ -107,8 +109,18 @@ fn asked_line<A: Allocator + Clone>(alloc: A, body: &[u8]) -> Result<Asked<A>, A
     }
 }
 
+// The data of a storage line, from what was kept of its data block.
+fn payload_of<A: Allocator + Clone>(size: u32, kept: Vec<u8, A>) -> Result<Payload<A>, AllocError>
+    ensures { IfOk result (λ payload. plain_payload payload ≡ (if nat_lt 1048576 size then Skipped size else Bytes kept.items)) }
+{
+    if size > MOST_DATA {
+        return Ok(Payload::Skipped(size));
+    }
+    Payload::from_vec(kept)
+}
+
 // Takes a storage line's data block, and makes the line.
-fn storage_line<S: Source, A: Allocator>(
+fn storage_line<S: Source, A: Allocator + Clone>(
     bytes: &mut ByteReader<S>,
     alloc: A,
     command: StorageCommand,
@@ -119,7 +131,7 @@ fn storage_line<S: Source, A: Allocator>(
     noreply: bool,
 ) -> Result<Line<A>, LineFault>
     ensures ok { IfOk result (λ line. IsStorageLine S.told bytes.old bytes.new command key flags exptime size noreply (view line)) }
-    ensures err { IfErr result (λ e. IsShort S.told bytes.old bytes.new (size + 1) × StoppedBy S.told bytes.new e) }
+    ensures err { IfErr result (λ e. IsBroken S.told bytes.old bytes.new size e × StoppedBy S.told bytes.new e) }
 {
     let mut kept = Vec::new(alloc);
     let sound = match take_block(bytes, size, &mut kept) {
@@ -131,10 +143,9 @@ fn storage_line<S: Source, A: Allocator>(
             answer: BadAnswer::BadChunk,
         });
     }
-    let payload = if size > MOST_DATA {
-        Payload::Skipped(size)
-    } else {
-        Payload::Bytes(kept)
+    let payload = match payload_of(size, kept) {
+        Err(_) => return Err(LineFault::Memory),
+        Ok(payload) => payload,
     };
     Ok(Line::Client(ClientLine::Storage {
         command,

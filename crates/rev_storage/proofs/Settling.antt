@@ -84,9 +84,9 @@ stored_as s v c k value flags e f i r is time done =
     ∙ ap (λ g. stored_room v c k value flags g (room s c)) time
 
 -- and the class is that of its size
-pub stored_by_size : (s : State) (v : Verb) (c : ℕ) (k value l : List ℕ) (flags n : ℕ) (e f : ℤ) (d : Payload) (o : Option ℕ) → o ≡ class_of s.fixed (footprint (length k) flags n) → o ≡ Some c → n ≡ length value → l ≡ value → f ≡ e → d ≡ Bytes value → stored_in s v c k l flags f ≡ store s v k flags e d
+pub stored_by_size : (s : State) (v : Verb) (c : ℕ) (k value : List ℕ) (flags n : ℕ) (e f : ℤ) (d : Payload) (o : Option ℕ) → o ≡ class_of s.fixed (footprint (length k) flags n) → o ≡ Some c → n ≡ length value → f ≡ e → d ≡ Bytes value → stored_in s v c k value flags f ≡ store s v k flags e d
 unfolding stored_in
-stored_by_size s v c k value l flags n e f d o class some size same time is =
+stored_by_size s v c k value flags n e f d o class some size time is =
     let fits : class_of s.fixed (footprint (length k) flags (length value)) ≡ Some c = ap (λ m. class_of s.fixed (footprint (length k) flags m)) (sym size) ∙ sym class ∙ some in
-    ap (λ w. stored_room v c k w flags f (room s c)) same ∙ ap (λ g. stored_room v c k value flags g (room s c)) time
+    ap (λ g. stored_room v c k value flags g (room s c)) time
     ∙ ap (stored_class s v k value flags e) (sym fits) ∙ ap (store s v k flags e) (sym is)

@@ -8,6 +8,7 @@ ghost use Rattle.rev_model.specs.Places.{IsClass};
 use rev_inverse::Store;
 use rev_items::{Item, Key, footprint};
 use std::alloc::{AllocError, Allocator};
+use std::sync::Arc;
 
 /// The most bytes of an item's data: a page of the largest size holds no more.
 const MAX_DATA: usize = 1048576;
@@ -41,10 +42,10 @@ pub fn new_item<A: Allocator + Clone>(
     key: &Key<A>,
     flags: u32,
     moment: u64,
-    value: Vec<u8, A>,
+    value: Arc<Vec<u8, A>, A>,
 ) -> Result<Item<A>, AllocError>
-    requires { length value.items ≤ 1048576 }
-    ensures { IfOk result (λ item. item ≡ new_item_of store.now key.now value.items flags moment) }
+    requires { length value.value.items ≤ 1048576 }
+    ensures { IfOk result (λ item. item ≡ new_item_of store.now key.now value.value.items flags moment) }
 {
     let key = key.copy(store.alloc()?)?;
     let globals = store.globals();

@@ -23,6 +23,7 @@ use rev_model::Outcome;
 use rev_moves::Record;
 use rev_requests::{Payload, StoreVerb};
 use std::alloc::{AllocError, Allocator};
+use std::sync::Arc;
 
 /// The new item of a command, whose time to live counts from now.
 ///
@@ -32,12 +33,12 @@ fn item_for<A: Allocator + Clone>(
     key: &Key<A>,
     flags: u32,
     exptime: i32,
-    value: &[u8],
+    value: &Arc<Vec<u8, A>, A>,
 ) -> Result<Item<A>, AllocError>
-    requires { length value.now ≤ 1048576 }
-    ensures { IfOk result (λ item. item ≡ new_item_of store.now key.now value.now flags (moment_of store.now.globals.clock exptime)) }
+    requires { length value.now.value.items ≤ 1048576 }
+    ensures { IfOk result (λ item. item ≡ new_item_of store.now key.now value.now.value.items flags (moment_of store.now.globals.clock exptime)) }
 {
-    let value = value.to_vec(store.alloc()?)?;
+    let value = value.clone()?;
     let expires = moment(store.globals().clock, exptime);
     new_item(store, key, flags, expires, value)
 }
@@ -50,13 +51,13 @@ fn store_in<A: Allocator + Clone>(
     key: &Key<A>,
     flags: u32,
     exptime: i32,
-    value: &[u8],
+    value: &Arc<Vec<u8, A>, A>,
 ) -> Result<(Outcome, Record<A>), AllocError>
     requires sound { Sound store.old }
     requires class { IsClass store.old.fixed class }
-    requires fits { class_of store.old.fixed (footprint (length key.now) flags (length value.now)) ≡ Some class }
-    requires small { length value.now ≤ 1048576 }
-    ensures step { IfOk result (λ p. (store.new, p.0) ≡ stored_in store.old (plain_verb verb) class key.now value.now flags exptime) }
+    requires fits { class_of store.old.fixed (footprint (length key.now) flags (length value.now.value.items)) ≡ Some class }
+    requires small { length value.now.value.items ≤ 1048576 }
+    ensures step { IfOk result (λ p. (store.new, p.0) ≡ stored_in store.old (plain_verb verb) class key.now value.now.value.items flags exptime) }
     ensures sound { OnOk result (Sound store.new) }
     ensures leads { IfOk result (λ p. LeadsBack p.1.moves store.new store.old) }
     ensures few { IfOk result (λ p. length p.1.moves ≤ 64) }
