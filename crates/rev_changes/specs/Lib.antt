@@ -1,6 +1,5 @@
 pub mod Seats
 pub mod Rest
-pub mod Notes
 pub mod Telling
 pub mod Taking
 pub mod Linking

@@ -54,6 +54,28 @@ tells_made r t m n s u well possible state moves notes =
       told = λ e. ap (λ l. removals l t.notes u) moves ∙ ap (λ l. removals (r.moves ++ reverse m s ∷ []) l u) notes ∙ ap (removals (r.moves ++ reverse m s ∷ []) (r.notes ++ n ∷ [])) state ∙ removals-made r.moves r.notes m n s e well possible.ready;
     }
 
+-- two moves that are kept as one
+pub tells_two : (r t : PlainRecord) (a b : Move) (n o : Option Cause) (s u : State) → WellFormed s → Possible a s → Possible b (moved a s) → u ≡ moved b (moved a s)
+    → t.moves ≡ r.moves ++ reverse a s ∷ reverse b (moved a s) ∷ [] → t.notes ≡ r.notes ++ n ∷ o ∷ [] → Tells r s t u (removed a n s ++ removed b o (moved a s))
+tells_two r t a b n o s u well first next state moves notes =
+    let x : PlainRecord = record r { moves = r.moves ++ reverse a s ∷ []; notes = r.notes ++ n ∷ [] } in
+    tells_then r x t s (moved a s) u (removed a n s) (removed b o (moved a s))
+    (tells_made r x a n s (moved a s) well first refl refl refl)
+    (tells_made x t b o (moved a s) u first.after next state
+    (moves ∙ sym (append_more r.moves (reverse a s ∷ []) (reverse b (moved a s) ∷ [])))
+    (notes ∙ sym (append_more r.notes (n ∷ []) (o ∷ []))))
+
+-- three
+pub tells_three : (r t : PlainRecord) (a b c : Move) (n o p : Option Cause) (s u : State) → WellFormed s → Possible a s → Possible b (moved a s) → Possible c (moved b (moved a s)) → u ≡ moved c (moved b (moved a s))
+    → t.moves ≡ r.moves ++ reverse a s ∷ reverse b (moved a s) ∷ reverse c (moved b (moved a s)) ∷ [] → t.notes ≡ r.notes ++ n ∷ o ∷ p ∷ [] → Tells r s t u (removed a n s ++ (removed b o (moved a s) ++ removed c p (moved b (moved a s))))
+tells_three r t a b c n o p s u well first second third state moves notes =
+    let x : PlainRecord = record r { moves = r.moves ++ reverse a s ∷ []; notes = r.notes ++ n ∷ [] } in
+    tells_then r x t s (moved a s) u (removed a n s) (removed b o (moved a s) ++ removed c p (moved b (moved a s)))
+    (tells_made r x a n s (moved a s) well first refl refl refl)
+    (tells_two x t b c o p (moved a s) u first.after second third state
+    (moves ∙ sym (append_more r.moves (reverse a s ∷ []) (reverse b (moved a s) ∷ reverse c (moved b (moved a s)) ∷ [])))
+    (notes ∙ sym (append_more r.notes (n ∷ []) (o ∷ p ∷ []))))
+
 -- a whole record: a note beside each move, and these removals
 pub record TellsAll (t : PlainRecord) (u : State) (rs : List Removal) : Type 0 where
   pub beside : length t.notes ≡ length t.moves

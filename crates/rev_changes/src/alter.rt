@@ -6,6 +6,7 @@ ghost use Rattle.rev_model.specs.State.{State, WellFormed, item_at, queue_of, qu
 ghost use Rattle.rev_model.specs.Move.{touched};
 ghost use Rattle.rev_model.specs.Lists.{has};
 ghost use Rattle.rev_model.specs.Chunk.{same_entry};
+ghost use Rattle.rev_model.specs.declared.Entry.TheVariants.{Chunk};
 ghost use Rattle.rev_model.specs.Words.{counted, headed, with_item, header_of};
 ghost use Rattle.rev_model.specs.Pull.{warmed, cooled};
 ghost use Rattle.rev_model.specs.Sound.{Stands};
@@ -16,7 +17,7 @@ ghost use Rattle.rev_changes.specs.Telling.{Tells};
 use crate::moving::change;
 use rev_inverse::Store;
 use rev_items::Bits;
-use rev_model::{ChunkRef, Counter, Entry, ItemHeader, Listed, Placed, Queue, Touched};
+use rev_model::{ChunkRef, Counter, ItemHeader, Queue, Touched};
 use rev_moves::{Move, Record};
 use std::alloc::Allocator;
 
@@ -72,7 +73,7 @@ pub fn to_head<A: Allocator>(
 )
     requires well { WellFormed store.old }
     requires class { IsClass store.old.fixed class }
-    requires there { has same_entry (Entry.Chunk chunk) (queue_of store.old class from) ≡ true }
+    requires there { has same_entry (Chunk chunk) (queue_of store.old class from) ≡ true }
     requires room { length undo.old.moves + 1 < undo.old.room }
     ensures state { store.new ≡ headed class from to chunk store.old }
     ensures well { WellFormed store.new }
@@ -81,13 +82,14 @@ pub fn to_head<A: Allocator>(
     ensures made { length undo.new.moves ≡ length undo.old.moves + 2 }
     ensures told { Tells undo.old store.old undo.new store.new [] }
 {
-    let entry = Entry::Chunk(chunk);
-    change(store, Move::Take(Listed::InQueue(class, from, entry)), undo);
-    change(
-        store,
-        Move::Put(Placed::ToQueue(class, to, entry, None)),
-        undo,
-    );
+    let requeue = Move::Requeue {
+        class,
+        after: None,
+        chunk,
+        from,
+        to,
+    };
+    store.make(requeue, undo);
 }
 
 /// ACTIVE is cleared, the item goes to WARM's head, and a counter is raised: four moves.

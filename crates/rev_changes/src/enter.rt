@@ -15,7 +15,7 @@ ghost use Rattle.rev_changes.specs.Taking.{paired};
 use crate::moving::change;
 use rev_inverse::Store;
 use rev_items::Item;
-use rev_model::{ChunkRef, Entry, GlobalPart, Globals, Listed, Placed, Queue};
+use rev_model::{ChunkRef, Globals, Listed, Queue};
 use rev_moves::{Move, Record};
 use std::alloc::Allocator;
 
@@ -84,12 +84,14 @@ pub fn link<A: Allocator>(
 {
     let queue = queue_of_new(store.globals(), item.moment());
     let cas = item.cas();
-    change(store, Move::Fill(chunk, Some(item)), undo);
-    change(store, Move::Bind(chunk), undo);
-    change(
-        store,
-        Move::Put(Placed::ToQueue(class, queue, Entry::Chunk(chunk), None)),
-        undo,
-    );
-    change(store, Move::Globals(GlobalPart::LastCas(cas)), undo);
+    let enter = Move::Enter {
+        class,
+        item,
+        after: None,
+        chunk,
+        cause: None,
+        queue,
+    };
+    store.make(enter, undo);
+    change(store, Move::LastCas(cas), undo);
 }

@@ -11,9 +11,9 @@ ghost use Rattle.rev_model.specs.Track.{removal};
 ghost use Rattle.rev_changes.specs.Telling.{Tells};
 
 use crate::alter::raise;
-use crate::moving::{change, unbind};
+use crate::moving::change;
 use rev_inverse::Store;
-use rev_model::{Cause, ChunkRef, Counter, Entry, Listed, Placed, Queue};
+use rev_model::{Cause, ChunkRef, Counter, Placed, Queue};
 use rev_moves::{Move, Record};
 use std::alloc::Allocator;
 
@@ -37,13 +37,14 @@ pub fn unlink<A: Allocator>(
     ensures made { length undo.new.moves ≡ length undo.old.moves + 3 }
     ensures told { Tells undo.old store.old undo.new store.new (removal (item_at store.old chunk) cause) }
 {
-    change(
-        store,
-        Move::Take(Listed::InQueue(class, queue, Entry::Chunk(chunk))),
-        undo,
-    );
-    unbind(store, chunk, cause, undo);
-    change(store, Move::Fill(chunk, None), undo);
+    let leave = Move::Leave {
+        class,
+        under: None,
+        chunk,
+        cause,
+        queue,
+    };
+    store.make(leave, undo);
 }
 
 /// A chunk that is in no list and empty goes to the front of its class's free list: one move.

@@ -10,7 +10,7 @@ ghost use Rattle.rev_commands.specs.Flushing.{flushed};
 use rev_changes::moving::change;
 use rev_inverse::Store;
 use rev_items::moment;
-use rev_model::{GlobalPart, Globals, Outcome, Timing};
+use rev_model::{Globals, Outcome, Timing};
 use rev_moves::{Move, Record};
 use std::alloc::{AllocError, Allocator};
 
@@ -61,7 +61,6 @@ pub fn flush_all<A: Allocator + Clone>(
     let mut undo = Record::with_room(store.alloc()?, 1)?;
     let globals = store.globals();
     let due = flush_moment(globals.clock, delay);
-    let next = GlobalPart::Timing(flushed(globals, due));
-    change(store, Move::Globals(next), &mut undo);
+    change(store, Move::Timing(flushed(globals, due)), &mut undo);
     Ok((Outcome::Okay, undo))
 }

@@ -1,12 +1,12 @@
 -- The way over a record from its front.
-use Rattle.std.specs.Prelude.{ℕ, zero, suc, ◌≡◌, ◌+◌, ◌<◌, ◌≤◌, Bool, true, false, cond, List, [], ◌∷◌, Option, None, Some, length, drop, slice_index_or, refl}
-use Rattle.std.proofs.Common.{sym, ◌∙◌, ap, arith, inl, inr, ControlFlow, Continue, Break}
+use Rattle.std.specs.Prelude.{ℕ, ◌≡◌, ◌+◌, ◌<◌, ◌≤◌, Bool, true, false, cond, List, [], ◌∷◌, ◌++◌, Option, None, Some, length, drop, slice_index_or, refl}
+use Rattle.std.proofs.Common.{sym, ◌∙◌, ap, inl, inr, ControlFlow, Continue, Break}
 use Rattle.std.proofs.lemmas.Bool.{cases_Bool, false≢true}
-use Rattle.std.proofs.lemmas.List.{drop_all}
+use Rattle.std.proofs.lemmas.List.{drop_all, drop_more}
 use Rattle.rev_model.specs.Chunk.{same_chunk}
 use Rattle.rev_model.specs.Move.{Move, Takes, Puts, Fills, Touches, Binds, Unbinds, Lays, Lifts, Counts, Sets, BumpsIn, BumpsBack, BumpsOut, BumpsFront, Shifts, MarksIn, MarksOut}
 use Rattle.rev_model.specs.Laws.{same_key-self, same_key-exact}
-use Rattle.rev_model.specs.Track.{same_key, has_key, is_chunk, keyed, first_note, more_notes, shift_change, key_change, class_queue_before}
+use Rattle.rev_model.specs.Track.{same_key, has_key, is_chunk, keyed, shift_change, key_change, class_queue_before}
 use Rattle.rev_model.specs.declared.ChunkRef.{ChunkRef}
 use Rattle.rev_model.specs.declared.Cause.{Cause}
 use Rattle.rev_model.specs.declared.ClassQueue.{ClassQueue}
@@ -14,18 +14,18 @@ use Rattle.rev_model.specs.declared.Entry.TheVariants.{Chunk, Mark}
 use Rattle.rev_model.specs.declared.KeyChange.{KeyChange}
 use Rattle.rev_model.specs.declared.Listed.TheVariants.{InFree, InQueue}
 use Rattle.rev_model.specs.declared.Placed.TheVariants.{ToFree, ToQueue}
-use Rattle.rev_explain.specs.declared.readings.Binding.{Binding}
-use Rattle.rev_explain.specs.Readings.{keyed_after, queue_after, binding_of, note_of}
+use Rattle.rev_model.specs.Undo.{same_chunk-self}
+use Rattle.rev_moves.specs.Record.{Group, PlainRecord, IsWhole, group_of, moves_in, notes_in}
+use Rattle.rev_moves.specs.Seen.{plain_moves, plain_notes}
+use Rattle.rev_moves.specs.declared.moves.Move as kept
+use Rattle.rev_moves.specs.declared.moves.Move.TheVariants as stored
+use Rattle.rev_explain.specs.Readings.{keyed_after, queue_after, or_before, keyed_through, queue_through, note_of}
 
 -- ---- a move, and those that are played before it
 
 abbrev pub known_or : {T : Type 0} → ControlFlow T ChunkRef → (ChunkRef → T) → T
 known_or (Break t) f = t
 known_or (Continue x) f = f x
-
-abbrev pub change_by : Option Binding → Option Cause → (ChunkRef → Bool) → Option KeyChange → Option KeyChange
-change_by None n f o = o
-change_by (Some b) n f o = cond (f b.chunk) (Some (record { leads = b.leads; note = cond b.shifts (note_of o) n })) o
 
 known_cond : {T : Type 0} → (b : Bool) (p q : ControlFlow T ChunkRef) (f : ChunkRef → T) → cond b (known_or p f) (known_or q f) ≡ known_or (cond b p q) f
 known_cond true p q f = refl
@@ -79,69 +79,94 @@ queue-by home lru (Shifts a b) ms x = known_shift (same_chunk x b) (same_chunk x
 queue-by home lru (MarksIn set) ms x = refl
 queue-by home lru (MarksOut set) ms x = refl
 
+-- ---- a few moves that go together, and those that are played before them
+
+known_before : {T : Type 0} → (p : ControlFlow T ChunkRef) (f : ChunkRef → ControlFlow T ChunkRef) (g h : ChunkRef → T) → ((x : ChunkRef) → g x ≡ known_or (f x) h) → known_or p g ≡ known_or (or_before p f) h
+known_before (Break t) f g h e = refl
+known_before (Continue x) f g h e = e x
+
+keyed-through : (k : List ℕ) (home : Option ChunkRef) (ms rest : List Move) (x : ChunkRef) → keyed k home (ms ++ rest) x ≡ known_or (keyed_through k ms x) (keyed k home rest)
+keyed-through k home [] rest x = refl
+keyed-through k home (m ∷ ms) rest x =
+    keyed-by k home m (ms ++ rest) x
+    ∙ known_before (keyed_after k m x) (keyed_through k ms) (keyed k home (ms ++ rest)) (keyed k home rest) (λ y. keyed-through k home ms rest y)
+
+queue-through : (home : Option ChunkRef) (lru : Option ClassQueue) (ms rest : List Move) (x : ChunkRef) → class_queue_before home lru (ms ++ rest) x ≡ known_or (queue_through ms x) (class_queue_before home lru rest)
+queue-through home lru [] rest x = refl
+queue-through home lru (m ∷ ms) rest x =
+    queue-by home lru m (ms ++ rest) x
+    ∙ known_before (queue_after m x) (queue_through ms) (class_queue_before home lru (ms ++ rest)) (class_queue_before home lru rest) (λ y. queue-through home lru ms rest y)
+
+-- what a group does to the key where `rest` is played before it, or else what that does
+abbrev pub change_or : {A : Type 0} → List ℕ → Option ChunkRef → List Move → kept.Move A → Option KeyChange → Option KeyChange
+change_or k home rest (stored.Enter c i a x n q) o = cond (same_key k i.key) (Some (record { leads = Some x; note = n })) o
+change_or k home rest (stored.Leave c u x n q) o = cond (keyed k home rest x) (Some (record { leads = None; note = n })) o
+change_or k home rest (stored.Shift a b) o = cond (keyed k home rest a) (Some (record { leads = Some b; note = note_of o })) o
+change_or k home rest m o = o
+
 shifted-by : (b : ChunkRef) (o : Option KeyChange) → shift_change b o ≡ record { leads = Some b; note = note_of o }
 shifted-by b None = refl
 shifted-by b (Some t) = refl
 
-change-by : (k : List ℕ) (home : Option ChunkRef) (m : Move) (ms : List Move) (ns : List (Option Cause)) → key_change k home (m ∷ ms) ns ≡ change_by (binding_of m) (first_note ns) (keyed k home ms) (key_change k home ms (more_notes ns))
-change-by k home (Takes l) ms ns = refl
-change-by k home (Puts l) ms ns = refl
-change-by k home (Fills y o) ms ns = refl
-change-by k home (Touches y v) ms ns = refl
-change-by k home (Binds y) ms ns = refl
-change-by k home (Unbinds y) ms ns = refl
-change-by k home (Lays p c n f) ms ns = refl
-change-by k home (Lifts p f) ms ns = refl
-change-by k home (Counts c j v) ms ns = refl
-change-by k home (Sets g) ms ns = refl
-change-by k home (BumpsIn b) ms ns = refl
-change-by k home BumpsBack ms ns = refl
-change-by k home BumpsOut ms ns = refl
-change-by k home (BumpsFront b) ms ns = refl
-change-by k home (Shifts a b) ms ns = ap (λ t. cond (keyed k home ms a) (Some t) (key_change k home ms (more_notes ns))) (shifted-by b (key_change k home ms (more_notes ns)))
-change-by k home (MarksIn set) ms ns = refl
-change-by k home (MarksOut set) ms ns = refl
+change-through : {A : Type 0} → (k : List ℕ) (home : Option ChunkRef) (m : kept.Move A) (rest : List Move) (more : List (Option Cause)) → key_change k home (plain_moves m ++ rest) (plain_notes m ++ more) ≡ change_or k home rest m (key_change k home rest more)
+change-through k home (stored.Enter c i a x n q) rest more =
+    ap (λ b. cond (cond b (same_key k i.key) (keyed k home rest x)) (Some (record { leads = Some x; note = n })) (key_change k home rest more)) (same_chunk-self x)
+change-through k home (stored.Leave c u x n q) rest more = refl
+change-through k home (stored.Requeue c a x p q) rest more = refl
+change-through k home (stored.Take l) rest more = refl
+change-through k home (stored.Put l) rest more = refl
+change-through k home (stored.Touch y v) rest more = refl
+change-through k home (stored.Shift a b) rest more = ap (λ t. cond (keyed k home rest a) (Some t) (key_change k home rest more)) (shifted-by b (key_change k home rest more))
+change-through k home (stored.Lay p c n f) rest more = refl
+change-through k home (stored.Lift p f h) rest more = refl
+change-through k home (stored.Count c j v) rest more = refl
+change-through k home (stored.LastCas n) rest more = refl
+change-through k home (stored.Timing t) rest more = refl
+change-through k home (stored.Mover m) rest more = refl
+change-through k home (stored.Settings w) rest more = refl
+change-through k home (stored.BumpIn b) rest more = refl
+change-through k home stored.BumpBack rest more = refl
+change-through k home stored.BumpOut rest more = refl
+change-through k home (stored.BumpFront b) rest more = refl
+change-through k home (stored.Marks set) rest more = refl
+change-through k home (stored.Unmarks set) rest more = refl
 
--- ---- before the i-th move
+-- ---- before the i-th group
 
 drop_at : {X : Type 0} (xs : List X) (i : ℕ) (x : X) → i < length xs → x ≡ slice_index_or xs i x → drop i xs ≡ x ∷ drop (i + 1) xs
-drop_at [] i x lt e = absurd (omega (arith, lt))
-drop_at (y ∷ ys) zero x lt e = ap (λ z. z ∷ ys) (sym e)
-drop_at (y ∷ ys) (suc i) x lt e = let n : suc i + 1 ≡ suc (i + 1) = omega arith in rw n (drop_at ys i x (omega (arith, lt)) e)
+drop_at xs i x lt e = drop_more xs i x lt ∙ ap (λ z. z ∷ drop (i + 1) xs) (sym e)
 
-first_at : (ns : List (Option Cause)) (i : ℕ) → first_note (drop i ns) ≡ slice_index_or ns i None
-first_at [] zero = refl
-first_at [] (suc i) = refl
-first_at (n ∷ ns) zero = refl
-first_at (n ∷ ns) (suc i) = first_at ns i
+pub keyed_next : (k : List ℕ) (home : Option ChunkRef) (gs : List Group) (i : ℕ) (g : Group) (x : ChunkRef) → i < length gs → g ≡ slice_index_or gs i g → keyed k home (moves_in (drop i gs)) x ≡ known_or (keyed_through k g.moves x) (keyed k home (moves_in (drop (i + 1) gs)))
+keyed_next k home gs i g x lt e = ap (λ l. keyed k home (moves_in l) x) (drop_at gs i g lt e) ∙ keyed-through k home g.moves (moves_in (drop (i + 1) gs)) x
 
-more_at : (ns : List (Option Cause)) (i : ℕ) → more_notes (drop i ns) ≡ drop (i + 1) ns
-more_at [] zero = refl
-more_at [] (suc i) = let e : suc i + 1 ≡ suc (i + 1) = omega arith in rw e refl
-more_at (n ∷ ns) zero = refl
-more_at (n ∷ ns) (suc i) = let e : suc i + 1 ≡ suc (i + 1) = omega arith in rw e (more_at ns i)
+pub queue_next : (home : Option ChunkRef) (lru : Option ClassQueue) (gs : List Group) (i : ℕ) (g : Group) (x : ChunkRef) → i < length gs → g ≡ slice_index_or gs i g → class_queue_before home lru (moves_in (drop i gs)) x ≡ known_or (queue_through g.moves x) (class_queue_before home lru (moves_in (drop (i + 1) gs)))
+queue_next home lru gs i g x lt e = ap (λ l. class_queue_before home lru (moves_in l) x) (drop_at gs i g lt e) ∙ queue-through home lru g.moves (moves_in (drop (i + 1) gs)) x
 
-pub keyed_next : (k : List ℕ) (home : Option ChunkRef) (ms : List Move) (i : ℕ) (m : Move) (x : ChunkRef) → i < length ms → m ≡ slice_index_or ms i m → keyed k home (drop i ms) x ≡ known_or (keyed_after k m x) (keyed k home (drop (i + 1) ms))
-keyed_next k home ms i m x lt e = ap (λ l. keyed k home l x) (drop_at ms i m lt e) ∙ keyed-by k home m (drop (i + 1) ms) x
+-- what the groups from the i-th on do to the key
+abbrev pub change_at : List ℕ → Option ChunkRef → List Group → ℕ → Option KeyChange
+change_at k home gs i = key_change k home (moves_in (drop i gs)) (notes_in (drop i gs))
 
-pub queue_next : (home : Option ChunkRef) (lru : Option ClassQueue) (ms : List Move) (i : ℕ) (m : Move) (x : ChunkRef) → i < length ms → m ≡ slice_index_or ms i m → class_queue_before home lru (drop i ms) x ≡ known_or (queue_after m x) (class_queue_before home lru (drop (i + 1) ms))
-queue_next home lru ms i m x lt e = ap (λ l. class_queue_before home lru l x) (drop_at ms i m lt e) ∙ queue-by home lru m (drop (i + 1) ms) x
+pub change_next : {A : Type 0} → (k : List ℕ) (home : Option ChunkRef) (gs : List Group) (i : ℕ) (m : kept.Move A) → i < length gs → group_of m ≡ slice_index_or gs i (group_of m)
+    → change_at k home gs i ≡ change_or k home (moves_in (drop (i + 1) gs)) m (change_at k home gs (i + 1))
+change_next k home gs i m lt e =
+    ap (λ l. key_change k home (moves_in l) (notes_in l)) (drop_at gs i (group_of m) lt e)
+    ∙ change-through k home m (moves_in (drop (i + 1) gs)) (notes_in (drop (i + 1) gs))
 
-pub change_next : (k : List ℕ) (home : Option ChunkRef) (ms : List Move) (ns : List (Option Cause)) (i : ℕ) (m : Move) (n : Option Cause) → i < length ms → m ≡ slice_index_or ms i m → n ≡ slice_index_or ns i None
-    → key_change k home (drop i ms) (drop i ns) ≡ change_by (binding_of m) n (keyed k home (drop (i + 1) ms)) (key_change k home (drop (i + 1) ms) (drop (i + 1) ns))
-change_next k home ms ns i m n lt e f =
-    ap (λ l. key_change k home l (drop i ns)) (drop_at ms i m lt e) ∙ change-by k home m (drop (i + 1) ms) (drop i ns)
-    ∙ ap (λ j. change_by (binding_of m) j (keyed k home (drop (i + 1) ms)) (key_change k home (drop (i + 1) ms) (more_notes (drop i ns)))) (first_at ns i ∙ sym f)
-    ∙ ap (λ js. change_by (binding_of m) n (keyed k home (drop (i + 1) ms)) (key_change k home (drop (i + 1) ms) js)) (more_at ns i)
+pub keyed_end : (k : List ℕ) (home : Option ChunkRef) (gs : List Group) (i : ℕ) (x : ChunkRef) → length gs ≤ i → keyed k home (moves_in (drop i gs)) x ≡ is_chunk home x
+keyed_end k home gs i x le = ap (λ l. keyed k home (moves_in l) x) (drop_all i gs le)
 
-pub keyed_end : (k : List ℕ) (home : Option ChunkRef) (ms : List Move) (i : ℕ) (x : ChunkRef) → length ms ≤ i → keyed k home (drop i ms) x ≡ is_chunk home x
-keyed_end k home ms i x le = ap (λ l. keyed k home l x) (drop_all i ms le)
+pub queue_end : (home : Option ChunkRef) (lru : Option ClassQueue) (gs : List Group) (i : ℕ) (x : ChunkRef) → length gs ≤ i → class_queue_before home lru (moves_in (drop i gs)) x ≡ cond (is_chunk home x) lru None
+queue_end home lru gs i x le = ap (λ l. class_queue_before home lru (moves_in l) x) (drop_all i gs le)
 
-pub queue_end : (home : Option ChunkRef) (lru : Option ClassQueue) (ms : List Move) (i : ℕ) (x : ChunkRef) → length ms ≤ i → class_queue_before home lru (drop i ms) x ≡ cond (is_chunk home x) lru None
-queue_end home lru ms i x le = ap (λ l. class_queue_before home lru l x) (drop_all i ms le)
+pub change_end : (k : List ℕ) (home : Option ChunkRef) (gs : List Group) (i : ℕ) → length gs ≤ i → change_at k home gs i ≡ None
+change_end k home gs i le = ap (λ l. key_change k home (moves_in l) (notes_in l)) (drop_all i gs le)
 
-pub change_end : (k : List ℕ) (home : Option ChunkRef) (ms : List Move) (ns : List (Option Cause)) (i : ℕ) → length ms ≤ i → key_change k home (drop i ms) (drop i ns) ≡ None
-change_end k home ms ns i le = ap (λ l. key_change k home l (drop i ns)) (drop_all i ms le)
+-- the whole record
+pub queue_whole : (home : Option ChunkRef) (lru : Option ClassQueue) (r : PlainRecord) (x : ChunkRef) → IsWhole r → class_queue_before home lru r.moves x ≡ class_queue_before home lru (moves_in r.groups) x
+queue_whole home lru r x whole = ap (λ l. class_queue_before home lru l x) whole.moves
+
+pub change_whole : (k : List ℕ) (home : Option ChunkRef) (r : PlainRecord) → IsWhole r → key_change k home r.moves r.notes ≡ change_at k home r.groups 0
+change_whole k home r whole = ap (λ l. key_change k home l r.notes) whole.moves ∙ ap (key_change k home (moves_in r.groups)) whole.notes
 
 -- a test of two keys
 pub same_named : (r : Bool) (k l : List ℕ) → (r ≡ true → k ≡ l) → (k ≡ l → r ≡ true) → r ≡ same_key k l

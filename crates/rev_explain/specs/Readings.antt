@@ -1,8 +1,8 @@
--- What one move of a record tells of a key.
-use Rattle.std.specs.Prelude.{ℕ, Bool, true, false, cond, List, Option, None, Some, is_some}
+-- What a move of a record tells of a key, and what a few do that go together.
+use Rattle.std.specs.Prelude.{ℕ, Bool, false, cond, List, [], ◌∷◌, Option, None, Some, is_some}
 use Rattle.std.proofs.Common.{ControlFlow, Continue, Break}
 use Rattle.rev_model.specs.Chunk.{same_chunk}
-use Rattle.rev_model.specs.Move.{Move, Takes, Puts, Fills, Binds, Unbinds, Shifts}
+use Rattle.rev_model.specs.Move.{Move, Takes, Puts, Fills, Shifts}
 use Rattle.rev_model.specs.Track.{has_key}
 use Rattle.rev_model.specs.declared.ChunkRef.{ChunkRef}
 use Rattle.rev_model.specs.declared.Cause.{Cause}
@@ -12,7 +12,6 @@ use Rattle.rev_model.specs.declared.KeyChange.{KeyChange}
 use Rattle.rev_model.specs.declared.Listed.TheVariants.{InQueue}
 use Rattle.rev_model.specs.declared.Placed.TheVariants.{ToQueue}
 pub use Rattle.rev_undotree.specs.Recalled.{note_of}
-use Rattle.rev_explain.specs.declared.readings.Binding.{Binding}
 
 -- whether the chunk's item has the key after the move, or else which chunk to ask for before it
 abbrev pub keyed_after : List ℕ → Move → ChunkRef → ControlFlow Bool ChunkRef
@@ -28,12 +27,19 @@ queue_after (Fills y o) x = cond (same_chunk x y) (Break None) (Continue x)
 queue_after (Shifts a b) x = cond (same_chunk x b) (Continue a) (cond (same_chunk x a) (Break None) (Continue x))
 queue_after m x = Continue x
 
--- where the move makes the key of a chunk's item lead
-abbrev pub binding_of : Move → Option Binding
-binding_of (Binds x) = Some (record { chunk = x; leads = Some x; shifts = false })
-binding_of (Unbinds x) = Some (record { chunk = x; leads = None; shifts = false })
-binding_of (Shifts a b) = Some (record { chunk = a; leads = Some b; shifts = true })
-binding_of m = None
+-- the answer of one move, or else that of those before it
+abbrev pub or_before : {T : Type 0} → ControlFlow T ChunkRef → (ChunkRef → ControlFlow T ChunkRef) → ControlFlow T ChunkRef
+or_before (Break t) f = Break t
+or_before (Continue x) f = f x
+
+-- the same of a few moves that go together, the last played first
+abbrev pub keyed_through : List ℕ → List Move → ChunkRef → ControlFlow Bool ChunkRef
+keyed_through k [] x = Continue x
+keyed_through k (m ∷ ms) x = or_before (keyed_after k m x) (keyed_through k ms)
+
+abbrev pub queue_through : List Move → ChunkRef → ControlFlow (Option ClassQueue) ChunkRef
+queue_through [] x = Continue x
+queue_through (m ∷ ms) x = or_before (queue_after m x) (queue_through ms)
 
 -- the cause that the record notes, where the key was held before the step
 abbrev pub left_cause : Option KeyChange → Option Cause

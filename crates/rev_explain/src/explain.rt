@@ -41,7 +41,7 @@ fn find_place<A: Allocator>(store: &Store<A>, key: &Key<A>) -> Option<KeyPlace>
 fn find_left<A: Allocator>(trace: &Record<A>, key: &Key<A>) -> Option<Cause>
     ensures { result ≡ left_cause (key_change key.now None trace.now.moves trace.now.notes) }
 {
-    match find_change(trace, 0, key, None) {
+    match find_change(trace, key, None) {
         Some(change) => match change.leads {
             Some(_) => change.note,
             None => None,
@@ -186,7 +186,7 @@ pub fn story<A: Allocator + Clone>(
     let mut place = find_place(session.store(), key);
     let mut depth = session.last_mention(key, session.depth());
     while let Some((node, step, outcome, trace)) = session.trail(depth) {
-        let change = find_change(trace, 0, key, home_of(place));
+        let change = find_change(trace, key, home_of(place));
         let before = find_before(trace, key, change, place);
         let stored = has_stored(step, outcome, key);
         let kind = find_event(stored, before, place, note_of(change));

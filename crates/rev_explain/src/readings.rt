@@ -1,28 +1,18 @@
 //! What the record of a step tells of a key: where the key was before the step, from where it is after it.
-//! A record's first move is the last that is played. So the search goes from the front, and the first move that concerns
+//! A record's first group is the last that is played. So the search goes from the front, and the first group that concerns
 //! the key decides.
 ghost use Rattle.std.specs.Prelude.{◌≡◌, drop, Some, None};
 ghost use Rattle.rev_model.specs.Chunk.{same_chunk};
 ghost use Rattle.rev_model.specs.Track.{same_key, has_key, is_chunk, keyed, key_change, class_queue_before, key_place_before, chunk_of};
-ghost use Rattle.rev_moves.specs.Seen.{plain_move};
-ghost use Rattle.rev_explain.specs.Readings.{keyed_after, queue_after, binding_of, note_of as note_in};
+ghost use Rattle.rev_moves.specs.Seen.{plain_moves};
+ghost use Rattle.rev_moves.specs.Record.{IsWhole, moves_in, notes_in};
+ghost use Rattle.rev_explain.specs.Readings.{keyed_through, queue_through, note_of as note_in};
 
 use rev_items::{Item, Key};
 use rev_model::{Cause, ChunkRef, ClassQueue, Entry, KeyChange, KeyPlace, Listed, Placed};
 use rev_moves::{Move, Record};
 use std::alloc::Allocator;
 use std::ops::ControlFlow;
-
-/// A move that makes a key lead elsewhere, or nowhere.
-#[derive(Clone, Copy, Debug, PartialEq, Eq)]
-pub struct Binding {
-    /// The chunk whose item has the key before the move.
-    pub chunk: ChunkRef,
-    /// Where the key leads after it.
-    pub leads: Option<ChunkRef>,
-    /// The item goes there with its key, which does not leave the index meanwhile.
-    pub shifts: bool,
-}
 
 /// Whether two chunks are the same.
 fn is_same(a: ChunkRef, b: ChunkRef) -> bool
@@ -58,148 +48,65 @@ fn has_key<A: Allocator>(key: &Key<A>, item: &Option<Item<A>>) -> bool
     }
 }
 
-/// Whether the chunk's item has the key after the move, or else which chunk to ask for before it.
+/// Whether the chunk's item has the key after the group, or else which chunk to ask for before it.
 fn keyed_after<A: Allocator>(
     undo: &Move<A>,
     key: &Key<A>,
     chunk: ChunkRef,
 ) -> ControlFlow<bool, ChunkRef>
-    ensures { result ≡ keyed_after key.now (plain_move undo.now) chunk }
+    ensures { result ≡ keyed_through key.now (plain_moves undo.now) chunk }
 {
     match undo {
-        Move::Fill(filled, item) => {
-            if is_same(chunk, *filled) {
-                ControlFlow::Break(has_key(key, item))
-            } else {
-                ControlFlow::Continue(chunk)
-            }
-        }
-        Move::Shift(from, to) => {
-            if is_same(chunk, *to) {
-                ControlFlow::Continue(*from)
-            } else if is_same(chunk, *from) {
-                ControlFlow::Break(false)
-            } else {
-                ControlFlow::Continue(chunk)
-            }
-        }
-        Move::Take(_)
-        | Move::Put(_)
-        | Move::Touch(_, _)
-        | Move::Bind(_)
-        | Move::Unbind(_)
-        | Move::Lay(_, _, _, _)
-        | Move::Lift(_, _, _)
-        | Move::Count(_, _, _)
-        | Move::Globals(_)
-        | Move::BumpIn(_)
-        | Move::BumpBack
-        | Move::BumpOut
-        | Move::BumpFront(_)
-        | Move::Marks(_)
-        | Move::Unmarks(_) => ControlFlow::Continue(chunk),
+        Move::Enter {
+            chunk: filled,
+            item,
+            ..
+        } if is_same(chunk, *filled) => ControlFlow::Break(is_key(key, item.key())),
+        Move::Leave {
+            chunk: left,
+            under,
+            ..
+        } if is_same(chunk, *left) => ControlFlow::Break(has_key(key, under)),
+        Move::Shift(from, to) if is_same(chunk, *to) => ControlFlow::Continue(*from),
+        Move::Shift(from, _) if is_same(chunk, *from) => ControlFlow::Break(false),
+        _ => ControlFlow::Continue(chunk),
     }
 }
 
-/// The queue of the chunk after the move, or else which chunk to ask for before it.
+/// The queue of the chunk after the group, or else which chunk to ask for before it.
 fn queue_after<A: Allocator>(
     undo: &Move<A>,
     chunk: ChunkRef,
 ) -> ControlFlow<Option<ClassQueue>, ChunkRef>
-    ensures { result ≡ queue_after (plain_move undo.now) chunk }
+    ensures { result ≡ queue_through (plain_moves undo.now) chunk }
 {
     match undo {
-        Move::Take(Listed::InQueue(_, _, Entry::Chunk(taken))) => {
-            if is_same(chunk, *taken) {
-                ControlFlow::Break(None)
-            } else {
-                ControlFlow::Continue(chunk)
-            }
+        Move::Put(Placed::ToQueue(class, queue, Entry::Chunk(put), _))
+        | Move::Enter {
+            class,
+            queue,
+            chunk: put,
+            ..
         }
-        Move::Put(Placed::ToQueue(class, queue, Entry::Chunk(put), _)) => {
-            if is_same(chunk, *put) {
-                ControlFlow::Break(Some(ClassQueue {
-                    class: *class,
-                    queue: *queue,
-                }))
-            } else {
-                ControlFlow::Continue(chunk)
-            }
-        }
-        Move::Fill(filled, _) => {
-            if is_same(chunk, *filled) {
-                ControlFlow::Break(None)
-            } else {
-                ControlFlow::Continue(chunk)
-            }
-        }
-        Move::Shift(from, to) => {
-            if is_same(chunk, *to) {
-                ControlFlow::Continue(*from)
-            } else if is_same(chunk, *from) {
-                ControlFlow::Break(None)
-            } else {
-                ControlFlow::Continue(chunk)
-            }
-        }
-        Move::Take(Listed::InQueue(_, _, Entry::Mark))
-        | Move::Take(Listed::InFree(_, _))
-        | Move::Put(Placed::ToQueue(_, _, Entry::Mark, _))
-        | Move::Put(Placed::ToFree(_, _, _))
-        | Move::Touch(_, _)
-        | Move::Bind(_)
-        | Move::Unbind(_)
-        | Move::Lay(_, _, _, _)
-        | Move::Lift(_, _, _)
-        | Move::Count(_, _, _)
-        | Move::Globals(_)
-        | Move::BumpIn(_)
-        | Move::BumpBack
-        | Move::BumpOut
-        | Move::BumpFront(_)
-        | Move::Marks(_)
-        | Move::Unmarks(_) => ControlFlow::Continue(chunk),
+        | Move::Requeue {
+            class,
+            to: queue,
+            chunk: put,
+            ..
+        } if is_same(chunk, *put) => ControlFlow::Break(Some(ClassQueue {
+            class: *class,
+            queue: *queue,
+        })),
+        Move::Shift(from, to) if is_same(chunk, *to) => ControlFlow::Continue(*from),
+        Move::Take(Listed::InQueue(_, _, Entry::Chunk(gone)))
+        | Move::Leave { chunk: gone, .. }
+        | Move::Shift(gone, _)
+            if is_same(chunk, *gone) => ControlFlow::Break(None),
+        _ => ControlFlow::Continue(chunk),
     }
 }
 
-/// Where the move makes the key of a chunk's item lead.
-fn read_binding<A: Allocator>(undo: &Move<A>) -> Option<Binding>
-    ensures { result ≡ binding_of (plain_move undo.now) }
-{
-    match undo {
-        Move::Bind(chunk) => Some(Binding {
-            chunk: *chunk,
-            leads: Some(*chunk),
-            shifts: false,
-        }),
-        Move::Unbind(chunk) => Some(Binding {
-            chunk: *chunk,
-            leads: None,
-            shifts: false,
-        }),
-        Move::Shift(from, to) => Some(Binding {
-            chunk: *from,
-            leads: Some(*to),
-            shifts: true,
-        }),
-        Move::Take(_)
-        | Move::Put(_)
-        | Move::Fill(_, _)
-        | Move::Touch(_, _)
-        | Move::Lay(_, _, _, _)
-        | Move::Lift(_, _, _)
-        | Move::Count(_, _, _)
-        | Move::Globals(_)
-        | Move::BumpIn(_)
-        | Move::BumpBack
-        | Move::BumpOut
-        | Move::BumpFront(_)
-        | Move::Marks(_)
-        | Move::Unmarks(_) => None,
-    }
-}
-
-/// Whether a chunk's item has the key once the moves from `start` on were played, where `home` is the key's chunk before
+/// Whether a chunk's item has the key once the groups from `start` on were played, where `home` is the key's chunk before
 /// them.
 fn is_keyed<A: Allocator>(
     trace: &Record<A>,
@@ -208,13 +115,13 @@ fn is_keyed<A: Allocator>(
     home: Option<ChunkRef>,
     chunk: ChunkRef,
 ) -> bool
-    ensures { result ≡ keyed key.now home (drop start trace.now.moves) chunk }
+    ensures { result ≡ keyed key.now home (moves_in (drop start trace.now.groups)) chunk }
 {
     let mut sought = chunk;
     for i in start..trace.len() {
-        match trace.part(i) {
+        match trace.group(i) {
             None => {}
-            Some((undo, _)) => match keyed_after(undo, key, sought) {
+            Some(undo) => match keyed_after(undo, key, sought) {
                 ControlFlow::Break(keyed) => return keyed,
                 ControlFlow::Continue(earlier) => sought = earlier,
             },
@@ -234,9 +141,9 @@ fn find_queue<A: Allocator>(
 {
     let mut sought = chunk;
     for i in 0..trace.len() {
-        match trace.part(i) {
+        match trace.group(i) {
             None => {}
-            Some((undo, _)) => match queue_after(undo, sought) {
+            Some(undo) => match queue_after(undo, sought) {
                 ControlFlow::Break(queue) => return queue,
                 ControlFlow::Continue(earlier) => sought = earlier,
             },
@@ -255,37 +162,49 @@ pub fn note_of(change: Option<KeyChange>) -> Option<Cause>
     }
 }
 
-/// What the moves from `start` on do to the key, where it leads to `home` before them.
-pub fn find_change<A: Allocator>(
+/// What the groups from `start` on do to the key, where it leads to `home` before them.
+fn change_from<A: Allocator>(
     trace: &Record<A>,
     start: usize,
     key: &Key<A>,
     home: Option<ChunkRef>,
 ) -> Option<KeyChange>
-    ensures { result ≡ key_change key.now home (drop start trace.now.moves) (drop start trace.now.notes) }
+    ensures value { result ≡ key_change key.now home (moves_in (drop start trace.now.groups)) (notes_in (drop start trace.now.groups)) }
+    ensures whole { IsWhole trace.now }
 {
     for i in start..trace.len() {
-        match trace.part(i) {
-            None => {}
-            Some((undo, note)) => match read_binding(undo) {
-                None => {}
-                Some(binding) => {
-                    if is_keyed(trace, i + 1, key, home, binding.chunk) {
-                        let note = if binding.shifts {
-                            note_of(find_change(trace, i + 1, key, home))
-                        } else {
-                            note
-                        };
-                        return Some(KeyChange {
-                            leads: binding.leads,
-                            note,
-                        });
-                    }
-                }
-            },
-        }
+        let (leads, note) = match trace.group(i) {
+            Some(
+                Move::Enter {
+                    chunk,
+                    item,
+                    cause,
+                    ..
+                },
+            ) if is_key(key, item.key()) => (Some(*chunk), *cause),
+            Some(Move::Leave { chunk, cause, .. }) if is_keyed(trace, i + 1, key, home, *chunk) => {
+                (None, *cause)
+            }
+            Some(Move::Shift(from, to)) if is_keyed(trace, i + 1, key, home, *from) => (
+                Some(*to),
+                note_of(change_from(trace, i + 1, key, home)),
+            ),
+            _ => continue,
+        };
+        return Some(KeyChange { leads, note });
     }
     None
+}
+
+/// What a record does to the key, where it leads to `home` before it.
+pub fn find_change<A: Allocator>(
+    trace: &Record<A>,
+    key: &Key<A>,
+    home: Option<ChunkRef>,
+) -> Option<KeyChange>
+    ensures { result ≡ key_change key.now home trace.now.moves trace.now.notes }
+{
+    change_from(trace, 0, key, home)
 }
 
 /// The chunk of a key.

@@ -1,13 +1,16 @@
 ghost use Rattle.std.specs.Prelude.{◌≡◌, ℕ, ◌+◌, ◌<◌, ◌≤◌, length};
 ghost use Rattle.rev_model.specs.State.{WellFormed, item_at, counter_of, counter_number};
 ghost use Rattle.rev_model.specs.Move as plain;
-ghost use Rattle.rev_model.specs.Move.{moved, reverse, Possible, retouched, part_like, back_of, out_of};
+ghost use Rattle.rev_model.specs.Move.{moved, reverse, Possible, retouched, back_of, out_of};
+ghost use Rattle.rev_model.specs.declared.GlobalPart.TheVariants as part;
 ghost use Rattle.rev_model.specs.Words.{weight};
 
 use crate::store::Store;
 use crate::uncounted::{put_entry, put_free, take_entry, take_free};
 use rev_items::Item;
-use rev_model::{BumpEntry, ChunkRef, Counter, Entry, GlobalPart, Listed, Placed, Timing, Touched};
+use rev_model::{
+    BumpEntry, ChunkRef, Counter, Entry, Listed, Mover, Placed, Settings, Timing, Touched,
+};
 use std::alloc::Allocator;
 use std::marker::Brand;
 use std::mem;
@@ -141,31 +144,41 @@ impl<A: Allocator> Store<A> {
         mem::replace(&mut self.counters[place], value)
     }
 
-    pub(crate) fn set(&mut self, next: GlobalPart) -> GlobalPart
-        ensures state { self.new ≡ moved (plain.Sets next) self.old }
-        ensures before { result ≡ part_like next self.old.globals }
+    pub(crate) fn set_last_cas(&mut self, next: u64) -> u64
+        ensures state { self.new ≡ moved (plain.Sets (part.LastCas next)) self.old }
+        ensures before { result ≡ self.old.globals.last_cas }
+    {
+        mem::replace(&mut self.globals.last_cas, next)
+    }
+
+    pub(crate) fn set_timing(&mut self, next: Timing) -> Timing
+        ensures state { self.new ≡ moved (plain.Sets (part.Timing next)) self.old }
+        ensures before { plain.Sets (part.Timing result) ≡ reverse (plain.Sets (part.Timing next)) self.old }
     {
         let globals = &mut self.globals;
-        match next {
-            GlobalPart::LastCas(cas) => {
-                GlobalPart::LastCas(mem::replace(&mut globals.last_cas, cas))
-            }
-            GlobalPart::Timing(timing) => {
-                let before = Timing {
-                    clock: globals.clock,
-                    mark: globals.mark,
-                    flush: globals.flush,
-                };
-                globals.clock = timing.clock;
-                globals.mark = timing.mark;
-                globals.flush = timing.flush;
-                GlobalPart::Timing(before)
-            }
-            GlobalPart::Mover(mover) => GlobalPart::Mover(mem::replace(&mut globals.mover, mover)),
-            GlobalPart::Settings(settings) => {
-                GlobalPart::Settings(mem::replace(&mut globals.settings, settings))
-            }
-        }
+        let before = Timing {
+            clock: globals.clock,
+            mark: globals.mark,
+            flush: globals.flush,
+        };
+        globals.clock = next.clock;
+        globals.mark = next.mark;
+        globals.flush = next.flush;
+        before
+    }
+
+    pub(crate) fn set_mover(&mut self, next: Option<Mover>) -> Option<Mover>
+        ensures state { self.new ≡ moved (plain.Sets (part.Mover next)) self.old }
+        ensures before { result ≡ self.old.globals.mover }
+    {
+        mem::replace(&mut self.globals.mover, next)
+    }
+
+    pub(crate) fn set_settings(&mut self, next: Settings) -> Settings
+        ensures state { self.new ≡ moved (plain.Sets (part.Settings next)) self.old }
+        ensures before { result ≡ self.old.globals.settings }
+    {
+        mem::replace(&mut self.globals.settings, next)
     }
 
     pub(crate) fn bump_in(&mut self, entry: BumpEntry)

@@ -1,37 +1,59 @@
-ghost use Rattle.std.specs.Prelude.{◌≡◌, ℕ, ◌<◌, [], ◌∷◌, ◌++◌, length, None, reverse as list_reverse};
+ghost use Rattle.std.specs.Prelude.{◌≡◌, ℕ, ◌+◌, ◌≤◌, ◌++◌, length, reverse as list_reverse};
 ghost use Rattle.rev_model.specs.State.{WellFormed};
-ghost use Rattle.rev_model.specs.Move.{moved, reverse, Possible, Fits, turned};
-ghost use Rattle.rev_moves.specs.Seen.{plain_move};
+ghost use Rattle.rev_model.specs.Move.{Fits, turned};
+ghost use Rattle.rev_moves.specs.Seen.{plain_moves, plain_notes};
 ghost use Rattle.rev_moves.specs.Leads.{Leads};
+ghost use Rattle.rev_inverse.specs.Groups.{Carries};
 
 use crate::store::Store;
 use rev_moves::{Move, Record};
 use std::alloc::Allocator;
+use std::mem;
 
 impl<A: Allocator> Store<A> {
-    // Makes a move, and gives the one that undoes it.
-    fn exchange(&mut self, next: Move<A>) -> Move<A>
+    // Makes a change that carries an item or a page's slots, and gives the one that undoes it.
+    fn carry(&mut self, next: Move<A>) -> Move<A>
+        requires carries { Carries next }
         requires well { WellFormed self.old }
-        requires possible { Possible (plain_move next) self.old }
-        ensures state { self.new ≡ moved (plain_move next) self.old }
-        ensures reverse { plain_move result ≡ reverse (plain_move next) self.old }
+        requires possible { Fits (plain_moves next) self.old }
+        ensures state { self.new ≡ (turned (plain_moves next) self.old).0 }
+        ensures reverse { plain_moves result ≡ (turned (plain_moves next) self.old).1 }
+        ensures notes { plain_notes result ≡ list_reverse (plain_notes next) }
     {
         match next {
-            Move::Take(at) => Move::Put(self.take(at)),
-            Move::Put(at) => Move::Take(self.put(at)),
-            Move::Fill(chunk, item) => Move::Fill(chunk, self.fill(chunk, item)),
-            Move::Touch(chunk, next) => Move::Touch(chunk, self.touch(chunk, next)),
-            Move::Bind(chunk) => {
-                self.bind(chunk);
-                Move::Unbind(chunk)
+            Move::Enter {
+                class,
+                item,
+                after,
+                chunk,
+                cause,
+                queue,
+            } => {
+                let under = self.enter(class, queue, chunk, after, item);
+                Move::Leave {
+                    class,
+                    under,
+                    chunk,
+                    cause,
+                    queue,
+                }
             }
-            Move::Unbind(chunk) => {
-                self.unbind(chunk);
-                Move::Bind(chunk)
-            }
-            Move::Shift(from, to) => {
-                self.shift(from, to);
-                Move::Shift(to, from)
+            Move::Leave {
+                class,
+                under,
+                chunk,
+                cause,
+                queue,
+            } => {
+                let (after, item) = self.leave(class, queue, chunk, under);
+                Move::Enter {
+                    class,
+                    item,
+                    after,
+                    chunk,
+                    cause,
+                    queue,
+                }
             }
             Move::Lay(page, class, parts, form) => {
                 let shelf = self.lay(page, class, parts, form);
@@ -41,45 +63,97 @@ impl<A: Allocator> Store<A> {
                 let (class, parts) = self.lift(page, form, shelf);
                 Move::Lay(page, class, parts, form)
             }
-            Move::Count(class, counter, value) => Move::Count(
+            Move::Requeue { .. }
+            | Move::Take(_)
+            | Move::Put(_)
+            | Move::Touch(_, _)
+            | Move::Shift(_, _)
+            | Move::Count(_, _, _)
+            | Move::LastCas(_)
+            | Move::Timing(_)
+            | Move::Mover(_)
+            | Move::Settings(_)
+            | Move::BumpIn(_)
+            | Move::BumpBack
+            | Move::BumpOut
+            | Move::BumpFront(_)
+            | Move::Marks(_)
+            | Move::Unmarks(_) => unreachable!(),
+        }
+    }
+
+    // Makes a change, which then is the one that undoes it. It is read and written where it stands.
+    fn exchange(&mut self, group: &mut Move<A>)
+        requires well { WellFormed self.old }
+        requires possible { Fits (plain_moves group.old) self.old }
+        ensures state { self.new ≡ (turned (plain_moves group.old) self.old).0 }
+        ensures reverse { plain_moves group.new ≡ (turned (plain_moves group.old) self.old).1 }
+        ensures notes { plain_notes group.new ≡ list_reverse (plain_notes group.old) }
+    {
+        match group {
+            Move::Enter { .. } | Move::Leave { .. } | Move::Lay(_, _, _, _) | Move::Lift(_, _, _) =>
+                {
+                    let next = mem::replace(group, Move::BumpOut);
+                    *group = self.carry(next);
+                }
+            Move::Requeue {
                 class,
-                counter,
-                self.count(class, counter, value),
-            ),
-            Move::Globals(part) => Move::Globals(self.set(part)),
-            Move::BumpIn(entry) => {
-                self.bump_in(entry);
-                Move::BumpBack
+                after,
+                chunk,
+                from,
+                to,
+            } => {
+                *after = self.requeue(*class, *from, *to, *chunk, *after);
+                mem::swap(from, to);
             }
-            Move::BumpBack => Move::BumpIn(self.bump_back()),
-            Move::BumpOut => Move::BumpFront(self.bump_out()),
+            Move::Take(at) => *group = Move::Put(self.take(*at)),
+            Move::Put(at) => *group = Move::Take(self.put(*at)),
+            Move::Touch(chunk, next) => *next = self.touch(*chunk, *next),
+            Move::Shift(from, to) => {
+                self.shift(*from, *to);
+                mem::swap(from, to);
+            }
+            Move::Count(class, counter, value) => *value = self.count(*class, *counter, *value),
+            Move::LastCas(cas) => *cas = self.set_last_cas(*cas),
+            Move::Timing(timing) => *timing = self.set_timing(*timing),
+            Move::Mover(mover) => *mover = self.set_mover(*mover),
+            Move::Settings(settings) => *settings = self.set_settings(*settings),
+            Move::BumpIn(entry) => {
+                self.bump_in(*entry);
+                *group = Move::BumpBack;
+            }
+            Move::BumpBack => *group = Move::BumpIn(self.bump_back()),
+            Move::BumpOut => *group = Move::BumpFront(self.bump_out()),
             Move::BumpFront(entry) => {
-                self.bump_front(entry);
-                Move::BumpOut
+                self.bump_front(*entry);
+                *group = Move::BumpOut;
             }
             Move::Marks(set) => {
-                self.mark_all(set);
-                Move::Unmarks(set)
+                self.mark_all(*set);
+                *group = Move::Unmarks(*set);
             }
             Move::Unmarks(set) => {
-                self.unmark_all(set);
-                Move::Marks(set)
+                self.unmark_all(*set);
+                *group = Move::Marks(*set);
             }
         }
     }
 
-    /// Makes a move, and adds the one that undoes it to the record, without a note. It takes no memory.
+    /// Makes a change, and adds the one that undoes it to the record. It takes no memory.
     pub fn make(&mut self, next: Move<A>, undo: &mut Record<A>)
         requires well { WellFormed self.old }
-        requires possible { Possible (plain_move next) self.old }
-        requires room { length undo.old.moves < undo.old.room }
-        ensures state { self.new ≡ moved (plain_move next) self.old }
-        ensures undo { undo.new ≡ record undo.old { moves = undo.old.moves ++ reverse (plain_move next) self.old ∷ []; notes = undo.old.notes ++ None ∷ [] } }
+        requires possible { Fits (plain_moves next) self.old }
+        requires room { length undo.old.moves + length (plain_moves next) ≤ undo.old.room }
+        ensures state { self.new ≡ (turned (plain_moves next) self.old).0 }
+        ensures moves { undo.new.moves ≡ undo.old.moves ++ (turned (plain_moves next) self.old).1 }
+        ensures notes { undo.new.notes ≡ undo.old.notes ++ list_reverse (plain_notes next) }
+        ensures room { undo.new.room ≡ undo.old.room }
         ensures well { WellFormed self.new }
         ensures leads { Leads undo.old self.old undo.new self.new }
     {
-        let back = self.exchange(next);
-        undo.push(back);
+        let mut group = next;
+        self.exchange(&mut group);
+        undo.push(group);
     }
 
     /// Plays the record from its last move to its first. The record then holds the reverses, each with the note that it
@@ -98,9 +172,7 @@ impl<A: Allocator> Store<A> {
         let mut place = undo.len();
         while place > 0 {
             place -= 1;
-            let next = undo.replace(place, Move::BumpOut);
-            let back = self.exchange(next);
-            undo.write(place, back);
+            self.exchange(undo.group_mut(place));
         }
         undo.turn_over();
     }

@@ -3,6 +3,7 @@
 
 mod changes;
 mod exchange;
+mod groups;
 mod marks;
 mod opening;
 mod pages;

@@ -6,7 +6,6 @@ pub mod Move
 pub mod Undo
 pub mod Codes
 pub mod Slots
-pub mod Turning
 pub mod Keeps
 pub mod Words
 pub mod Pull

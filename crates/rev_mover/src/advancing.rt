@@ -14,7 +14,7 @@ use crate::clearing::{Plan, clear, plan_for};
 use crate::finishing::finish;
 use rev_changes::moving::change;
 use rev_inverse::Store;
-use rev_model::{ChunkRef, GlobalPart, Mover, Outcome};
+use rev_model::{ChunkRef, Mover, Outcome};
 use rev_moves::{Move, Record};
 use std::alloc::{AllocError, Allocator};
 
@@ -34,7 +34,7 @@ fn pass_slot<A: Allocator>(store: &mut Store<A>, mover: Mover, undo: &mut Record
         slot: mover.slot + 1,
         ..mover
     };
-    change(store, Move::Globals(GlobalPart::Mover(Some(next))), undo);
+    change(store, Move::Mover(Some(next)), undo);
 }
 
 /// Does what was planned with the chunk at the mover's slot, and goes on to the next.

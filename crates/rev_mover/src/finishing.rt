@@ -11,7 +11,7 @@ ghost use Rattle.rev_mover.specs.Parting.{AreParts, parts_moves};
 
 use rev_changes::moving::change;
 use rev_inverse::Store;
-use rev_model::{Form, GlobalPart, Mover, Outcome};
+use rev_model::{Form, Mover, Outcome};
 use rev_moves::{Move, Parts, Record, Shelf};
 use std::alloc::{AllocError, Allocator};
 
@@ -28,7 +28,7 @@ fn release<A: Allocator>(store: &mut Store<A>, mover: Mover, shelf: Shelf<A>, un
     ensures told { Tells undo.old store.old undo.new store.new [] }
 {
     change(store, Move::Lift(mover.page, Form::Withdrawn, shelf), undo);
-    change(store, Move::Globals(GlobalPart::Mover(None)), undo);
+    change(store, Move::Mover(None), undo);
 }
 
 /// The slots for a page of the class; none where it goes to the pool.

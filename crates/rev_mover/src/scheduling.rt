@@ -9,7 +9,7 @@ ghost use Rattle.rev_mover.specs.Moving.{with_mover};
 
 use rev_changes::moving::change;
 use rev_inverse::Store;
-use rev_model::{GlobalPart, Mover, Outcome};
+use rev_model::{Mover, Outcome};
 use rev_moves::{Move, Record};
 use std::alloc::{AllocError, Allocator};
 
@@ -89,11 +89,7 @@ pub fn schedule<A: Allocator + Clone>(
         }
         Ok(mover) => {
             let mut undo = Record::with_room(store.alloc()?, 1)?;
-            change(
-                store,
-                Move::Globals(GlobalPart::Mover(Some(mover))),
-                &mut undo,
-            );
+            change(store, Move::Mover(Some(mover)), &mut undo);
             Ok((Outcome::Okay, undo))
         }
     }

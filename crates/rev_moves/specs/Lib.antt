@@ -1,4 +1,6 @@
 pub mod Record
 pub mod Seen
 pub mod Leads
+pub mod Turning
+pub mod Lending
 mod Shelves

@@ -1,10 +1,38 @@
 -- A record without its allocator.
-use Rattle.std.specs.Prelude.{ℕ, List, Option}
+use Rattle.std.specs.Prelude.{ℕ, ◌≡◌, ◌++◌, List, [], ◌∷◌, Option}
 use Rattle.rev_model.specs.Move.{Move}
 use Rattle.rev_model.specs.declared.Cause.{Cause}
+use Rattle.rev_moves.specs.declared.moves.Move as stored
+use Rattle.rev_moves.specs.Seen.{plain_moves, plain_notes}
 
--- the moves in the order made, the note beside each, and how many moves there is room for
+-- moves that are kept as one, and the note beside each
+pub record Group : Type 0 where
+  pub moves : List Move
+  pub notes : List (Option Cause)
+
+abbrev pub group_of : {A : Type 0} → stored.Move A → Group
+group_of m = record { moves = plain_moves m; notes = plain_notes m }
+
+abbrev pub moves_in : List Group → List Move
+moves_in [] = []
+moves_in (p ∷ ps) = p.moves ++ moves_in ps
+
+abbrev pub notes_in : List Group → List (Option Cause)
+notes_in [] = []
+notes_in (p ∷ ps) = p.notes ++ notes_in ps
+
+-- the moves in the order made, the note beside each, how many moves there is room for, and in which groups they are kept
 pub record PlainRecord : Type 0 where
   pub moves : List Move
   pub notes : List (Option Cause)
   pub room : ℕ
+  pub groups : List Group
+
+-- the moves and notes are those of the groups
+pub record IsWhole (r : PlainRecord) : Type 0 where
+  pub moves : r.moves ≡ moves_in r.groups
+  pub notes : r.notes ≡ notes_in r.groups
+
+-- the same, without a word on the groups
+abbrev pub flat : PlainRecord → PlainRecord
+flat r = record r { groups = [] }

@@ -1,33 +1,52 @@
 -- A move as contracts see it.
-use Rattle.std.specs.Prelude.{Option}
+use Rattle.std.specs.Prelude.{ℕ, List, [], ◌∷◌, ◌≡◌, Option, Some, None}
 use Rattle.rev_model.specs.Move as plain
 use Rattle.rev_model.specs.declared.Cause.{Cause}
+use Rattle.rev_model.specs.declared.Entry.TheVariants as entry
+use Rattle.rev_model.specs.declared.GlobalPart.TheVariants as part
+use Rattle.rev_model.specs.declared.Listed.TheVariants.{InQueue}
+use Rattle.rev_model.specs.declared.Placed.TheVariants.{ToQueue}
 use Rattle.rev_moves.specs.declared.moves.Move.{Move}
-use Rattle.rev_moves.specs.declared.moves.Move.TheVariants.{Take, Put, Fill, Touch, Bind, Unbind, Shift, Lay, Lift, Count, Globals, BumpIn, BumpBack, BumpOut, BumpFront, Marks, Unmarks}
-use Rattle.rev_moves.specs.declared.record.Noted.{Noted}
+use Rattle.rev_moves.specs.declared.moves.Move.TheVariants.{Enter, Leave, Requeue, Take, Put, Touch, Shift, Lay, Lift, Count, LastCas, Timing, Mover, Settings, BumpIn, BumpBack, BumpOut, BumpFront, Marks, Unmarks}
 
--- the plain move: an item without its allocator, and the number of slots for a page's parts
+-- the plain moves of which it is made, of which the last is played first: an item without its allocator, and the number of slots for a page's parts
+abbrev pub plain_moves : {A : Type 0} → Move A → List plain.Move
+plain_moves (Enter c i a x n q) = plain.Puts (ToQueue c q (entry.Chunk x) a) ∷ plain.Binds x ∷ plain.Fills x (Some i) ∷ []
+plain_moves (Leave c o x n q) = plain.Fills x o ∷ plain.Unbinds x ∷ plain.Takes (InQueue c q (entry.Chunk x)) ∷ []
+plain_moves (Requeue c a x p q) = plain.Puts (ToQueue c q (entry.Chunk x) a) ∷ plain.Takes (InQueue c p (entry.Chunk x)) ∷ []
+plain_moves (Take at) = plain.Takes at ∷ []
+plain_moves (Put at) = plain.Puts at ∷ []
+plain_moves (Touch x t) = plain.Touches x t ∷ []
+plain_moves (Shift a b) = plain.Shifts a b ∷ []
+plain_moves (Lay p c n f) = plain.Lays p c n f ∷ []
+plain_moves (Lift p f h) = plain.Lifts p f ∷ []
+plain_moves (Count c k v) = plain.Counts c k v ∷ []
+plain_moves (LastCas n) = plain.Sets (part.LastCas n) ∷ []
+plain_moves (Timing t) = plain.Sets (part.Timing t) ∷ []
+plain_moves (Mover m) = plain.Sets (part.Mover m) ∷ []
+plain_moves (Settings w) = plain.Sets (part.Settings w) ∷ []
+plain_moves (BumpIn b) = plain.BumpsIn b ∷ []
+plain_moves BumpBack = plain.BumpsBack ∷ []
+plain_moves BumpOut = plain.BumpsOut ∷ []
+plain_moves (BumpFront b) = plain.BumpsFront b ∷ []
+plain_moves (Marks set) = plain.MarksIn set ∷ []
+plain_moves (Unmarks set) = plain.MarksOut set ∷ []
+
+-- the note beside each of them: a cause beside the one by which the key enters or leaves the index
+abbrev pub plain_notes : {A : Type 0} → Move A → List (Option Cause)
+plain_notes (Enter c i a x n q) = None ∷ n ∷ None ∷ []
+plain_notes (Leave c o x n q) = None ∷ n ∷ None ∷ []
+plain_notes (Requeue c a x p q) = None ∷ None ∷ []
+plain_notes m = None ∷ []
+
+-- the plain move of one that is a single one
+abbrev pub first_move : List plain.Move → plain.Move
+first_move [] = plain.BumpsBack
+first_move (m ∷ ms) = m
+
 abbrev pub plain_move : {A : Type 0} → Move A → plain.Move
-plain_move (Take at) = plain.Takes at
-plain_move (Put at) = plain.Puts at
-plain_move (Fill x o) = plain.Fills x o
-plain_move (Touch x t) = plain.Touches x t
-plain_move (Bind x) = plain.Binds x
-plain_move (Unbind x) = plain.Unbinds x
-plain_move (Shift a b) = plain.Shifts a b
-plain_move (Lay p c n f) = plain.Lays p c n f
-plain_move (Lift p f h) = plain.Lifts p f
-plain_move (Count c k v) = plain.Counts c k v
-plain_move (Globals g) = plain.Sets g
-plain_move (BumpIn b) = plain.BumpsIn b
-plain_move BumpBack = plain.BumpsBack
-plain_move BumpOut = plain.BumpsOut
-plain_move (BumpFront b) = plain.BumpsFront b
-plain_move (Marks set) = plain.MarksIn set
-plain_move (Unmarks set) = plain.MarksOut set
+plain_move m = first_move (plain_moves m)
 
-abbrev pub noted_move : {A : Type 0} → Noted A → plain.Move
-noted_move n = plain_move n.undo
-
-abbrev pub noted_cause : {A : Type 0} → Noted A → Option Cause
-noted_cause n = n.cause
+-- it is a single move, without a note
+abbrev pub IsSingle : {A : Type 0} → Move A → Type 0
+IsSingle m = (plain_moves m ≡ plain_move m ∷ []) × (plain_notes m ≡ None ∷ [])

@@ -1,25 +1,52 @@
+ghost use Rattle.std.specs.Prelude.{◌≡◌, length};
+ghost use Rattle.rev_moves.specs.Seen.{plain_moves};
+
 use crate::parts::{Parts, Shelf};
 use rev_items::Item;
 use rev_model::{
-    BumpEntry, ChunkRef, ClassSet, Counter, Form, GlobalPart, Listed, Placed, Touched,
+    BumpEntry, Cause, ChunkRef, ClassSet, Counter, Entry, Form, Listed, Mover, Placed, Queue,
+    Settings, Timing, Touched,
 };
 use std::alloc::Allocator;
 
-/// A change of a store that another move undoes (this project's own set).
+/// A change of a store that another one undoes (this project's own set). The first three are a few moves of the plain
+/// model that always go together, each other one is a single move.
 #[derive(Drop)]
 pub enum Move<A: Allocator> {
+    /// An item enters a chunk that is in no list, the index, and its queue, behind an entry or in front.
+    Enter {
+        class: usize,
+        item: Item<A>,
+        after: Option<Entry>,
+        chunk: ChunkRef,
+        /// What removed the item, where this undoes a removal.
+        cause: Option<Cause>,
+        queue: Queue,
+    },
+    /// A chunk's item leaves its queue, the index and the chunk.
+    Leave {
+        class: usize,
+        /// What the chunk holds from then on, for each step of ours nothing.
+        under: Option<Item<A>>,
+        chunk: ChunkRef,
+        /// What removed the item, where this is no undoing.
+        cause: Option<Cause>,
+        queue: Queue,
+    },
+    /// A chunk goes to another queue of its class, or to another place of its own, behind an entry or in front.
+    Requeue {
+        class: usize,
+        after: Option<Entry>,
+        chunk: ChunkRef,
+        from: Queue,
+        to: Queue,
+    },
     /// A chunk leaves its free list, or an entry its queue.
     Take(Listed),
     /// A chunk that is in no list enters a free list, or an entry a queue, behind another or in front.
     Put(Placed),
-    /// What a chunk in no list holds is exchanged.
-    Fill(ChunkRef, Option<Item<A>>),
     /// Bits, time and moment of a chunk's item are exchanged.
     Touch(ChunkRef, Touched),
-    /// The key of a chunk's item enters the index.
-    Bind(ChunkRef),
-    /// It leaves the index.
-    Unbind(ChunkRef),
     /// The item of the first chunk goes to the second, with its place in its queue and in the index.
     Shift(ChunkRef, ChunkRef),
     /// A page gets a class and the slots for its chunks.
@@ -28,8 +55,14 @@ pub enum Move<A: Allocator> {
     Lift(u16, Form, Shelf<A>),
     /// A counter of a class is exchanged.
     Count(usize, Counter, u64),
-    /// A part of the globals is exchanged: the last cas number, clock and flush, the mover or the settings.
-    Globals(GlobalPart),
+    /// The last cas number is exchanged.
+    LastCas(u64),
+    /// The clock and what a flush goes by are exchanged.
+    Timing(Timing),
+    /// The page move under way is exchanged.
+    Mover(Option<Mover>),
+    /// The settings are exchanged.
+    Settings(Settings),
     /// An entry enters the bump queue at its back.
     BumpIn(BumpEntry),
     /// The entry at the back leaves.
@@ -42,4 +75,34 @@ pub enum Move<A: Allocator> {
     Marks(ClassSet),
     /// It leaves them.
     Unmarks(ClassSet),
+}
+
+impl<A: Allocator> Move<A> {
+    /// How many moves of the plain model it is: one to three.
+    pub fn count(&self) -> usize
+        ensures value { result ≡ length (plain_moves self.now) }
+    {
+        match self {
+            Move::Enter { .. } => 3,
+            Move::Leave { .. } => 3,
+            Move::Requeue { .. } => 2,
+            Move::Take(_)
+            | Move::Put(_)
+            | Move::Touch(_, _)
+            | Move::Shift(_, _)
+            | Move::Lay(_, _, _, _)
+            | Move::Lift(_, _, _)
+            | Move::Count(_, _, _)
+            | Move::LastCas(_)
+            | Move::Timing(_)
+            | Move::Mover(_)
+            | Move::Settings(_)
+            | Move::BumpIn(_)
+            | Move::BumpBack
+            | Move::BumpOut
+            | Move::BumpFront(_)
+            | Move::Marks(_)
+            | Move::Unmarks(_) => 1,
+        }
+    }
 }

@@ -1,8 +1,9 @@
 //! Steps of one move at most, which exchanges the globals.
 ghost use Rattle.std.specs.Prelude.{◌≡◌, ◌≤◌, length, IfOk, OnOk, OnErr, []};
-ghost use Rattle.rev_model.specs.Move.{with_part};
+ghost use Rattle.rev_model.specs.Move.{with_part, Sets};
 ghost use Rattle.rev_model.specs.Sound.{SettingsSound, Sound};
 ghost use Rattle.rev_model.specs.Undo.{LeadsBack};
+ghost use Rattle.rev_moves.specs.Seen.{plain_move, IsSingle};
 ghost use Rattle.rev_changes.specs.Telling.{TellsAll};
 ghost use Rattle.rev_steps.specs.Exchange.{exchanged};
 
@@ -27,6 +28,19 @@ pub fn unchanged<A: Allocator + Clone>(
     Ok((outcome, Record::with_room(store.alloc()?, 0)?))
 }
 
+/// The move that exchanges a part of the globals.
+fn exchanging<A: Allocator>(next: GlobalPart) -> Move<A>
+    ensures played { plain_move result ≡ Sets next }
+    ensures single { IsSingle result }
+{
+    match next {
+        GlobalPart::LastCas(cas) => Move::LastCas(cas),
+        GlobalPart::Timing(timing) => Move::Timing(timing),
+        GlobalPart::Mover(mover) => Move::Mover(mover),
+        GlobalPart::Settings(settings) => Move::Settings(settings),
+    }
+}
+
 /// A part of the globals, other than the mover's, becomes this one, in one move.
 ///
 /// Err: a growth was refused, and the store is as it was.
@@ -45,6 +59,6 @@ pub fn exchange<A: Allocator + Clone>(
     ensures told { IfOk result (λ p. TellsAll p.1 store.new []) }
 {
     let mut undo = Record::with_room(store.alloc()?, 1)?;
-    change(store, Move::Globals(next), &mut undo);
+    change(store, exchanging(next), &mut undo);
     Ok((Outcome::Okay, undo))
 }

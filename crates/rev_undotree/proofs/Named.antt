@@ -1,13 +1,14 @@
 -- What is mentioned stays so.
-use Rattle.std.proofs.Common.{◌≡◌, ℕ, suc, zero, ◌+◌, ◌<◌, ◌≤◌, Bool, true, false, cond, List, [], ◌∷◌, ◌++◌, length, drop, refl, ap, sym, ◌∙◌, subst, arith, ◌⊎◌, inl, inr, ⊎_elim, Result, Ok, Err, OnOk, is_err}
+use Rattle.std.proofs.Common.{◌≡◌, ℕ, ◌+◌, ◌<◌, ◌≤◌, Bool, true, false, cond, List, [], ◌∷◌, ◌++◌, length, drop, refl, ap, sym, ◌∙◌, subst, arith, ◌⊎◌, inl, inr, ⊎_elim, Result, Ok, Err, OnOk, is_err}
 use Rattle.std.specs.Prelude.{nat_eq, slice_index_or}
 use Rattle.std.proofs.lemmas.Bool.{false≢true}
 use Rattle.std.proofs.lemmas.Bool.Decides.{nat_tests}
-use Rattle.std.proofs.lemmas.List.{drop_all, at_drop_more}
+use Rattle.std.proofs.lemmas.List.{drop_all, at_drop_more, append_assoc}
 use Rattle.rev_mentions.specs.declared.mention.Mention.{Mention}
 use Rattle.rev_mentions.specs.Mentions.{Holds, Within}
 use Rattle.rev_model.specs.Lists.{has}
 use Rattle.rev_model.specs.Move.{Move}
+use Rattle.rev_moves.specs.Record.{Group, PlainRecord, IsWhole, moves_in}
 use Rattle.rev_undotree.specs.Steps.{State}
 use Rattle.rev_undotree.specs.Named.{named_by, named}
 use Rattle.rev_undotree.specs.Mentioned.{AreMentioned, Grows}
@@ -52,19 +53,32 @@ pub ok_value : {T E : Type 0} → (r : Result T E) (P : Type 0) → false ≡ is
 ok_value (Ok x) P e p = p
 ok_value (Err f) P e p = absurd (false≢true e)
 
+named-append : (t : State) (ms more : List Move) → named t (ms ++ more) ≡ named t ms ++ named t more
+named-append t [] more = refl
+named-append t (m ∷ ms) more = ap (λ l. named_by t m ++ l) (named-append t ms more) ∙ sym (append_assoc (named_by t m) (named t ms) (named t more))
+
 -- ---- along a record: what it names is mentioned, or still to come
 
-abbrev pub IsSoFar : List Mention → State → List Move → ℕ → ℕ → Type 0
-IsSoFar now t ms i n = (h : ℕ) → has nat_eq h (named t ms) ≡ true → Holds now h n ⊎ (has nat_eq h (named t (drop i ms)) ≡ true)
+abbrev pub IsSoFar : List Mention → State → List Group → ℕ → ℕ → Type 0
+IsSoFar now t gs i n = (h : ℕ) → has nat_eq h (named t (moves_in gs)) ≡ true → Holds now h n ⊎ (has nat_eq h (named t (moves_in (drop i gs))) ≡ true)
 
-pub so_far_starts : (now : List Mention) (t : State) (ms : List Move) (n : ℕ) → IsSoFar now t ms 0 n
-so_far_starts now t ms n h e = inr e
+pub so_far_starts : (now : List Mention) (t : State) (gs : List Group) (n : ℕ) → IsSoFar now t gs 0 n
+so_far_starts now t gs n h e = inr e
 
-pub so_far_more : (now more : List Mention) (t : State) (ms : List Move) (i n : ℕ) (m : Move) → i < length ms → m ≡ slice_index_or ms i m → Grows now more n → AreMentioned more (named_by t m) n → IsSoFar now t ms i n → IsSoFar more t ms (i + 1) n
-so_far_more now more t ms i n m lt e g a s h f =
-    ⊎_elim (λ x. inl (g.kept h n x))
-    (λ x. ⊎_elim (λ y. inl (a h y)) (λ y. inr y) (has_either h (named_by t m) (named t (drop (i + 1) ms)) (sym (at_drop_more (λ l. has nat_eq h (named t l)) ms i m lt ∙ ap (λ z. has nat_eq h (named t (z ∷ drop (i + 1) ms))) (sym e)) ∙ x)))
+so_far_next : (t : State) (gs : List Group) (i h : ℕ) (g : Group) → i < length gs → g ≡ slice_index_or gs i g → has nat_eq h (named t (moves_in (drop i gs))) ≡ has nat_eq h (named t g.moves ++ named t (moves_in (drop (i + 1) gs)))
+so_far_next t gs i h g lt e =
+    at_drop_more (λ l. has nat_eq h (named t (moves_in l))) gs i g lt
+    ∙ ap (λ z. has nat_eq h (named t (moves_in (z ∷ drop (i + 1) gs)))) (sym e)
+    ∙ ap (has nat_eq h) (named-append t g.moves (moves_in (drop (i + 1) gs)))
+
+pub so_far_more : (now more : List Mention) (t : State) (gs : List Group) (i n : ℕ) (g : Group) → i < length gs → g ≡ slice_index_or gs i g → Grows now more n → AreMentioned more (named t g.moves) n → IsSoFar now t gs i n → IsSoFar more t gs (i + 1) n
+so_far_more now more t gs i n g lt e grown a s h f =
+    ⊎_elim (λ x. inl (grown.kept h n x))
+    (λ x. ⊎_elim (λ y. inl (a h y)) (λ y. inr y) (has_either h (named t g.moves) (named t (moves_in (drop (i + 1) gs))) (sym (so_far_next t gs i h g lt e) ∙ x)))
     (s h f)
 
-pub so_far_ends : (now : List Mention) (t : State) (ms : List Move) (i n : ℕ) → length ms ≤ i → IsSoFar now t ms i n → AreMentioned now (named t ms) n
-so_far_ends now t ms i n le s h f = ⊎_elim (λ x. x) (λ x. absurd (false≢true (sym (ap (λ l. has nat_eq h (named t l)) (drop_all i ms le)) ∙ x))) (s h f)
+pub so_far_ends : (now : List Mention) (t : State) (r : PlainRecord) (i n : ℕ) → IsWhole r → length r.groups ≤ i → IsSoFar now t r.groups i n → AreMentioned now (named t r.moves) n
+so_far_ends now t r i n whole le s h f =
+    ⊎_elim (λ x. x)
+    (λ x. absurd (false≢true (sym (ap (λ l. has nat_eq h (named t (moves_in l))) (drop_all i r.groups le)) ∙ x)))
+    (s h (sym (ap (λ l. has nat_eq h (named t l)) whole.moves) ∙ f))

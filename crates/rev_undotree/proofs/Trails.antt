@@ -5,13 +5,14 @@ use Rattle.std.proofs.lemmas.Bool.Decides.{nat_tests}
 use Rattle.rev_model.specs.Actor.{step as played_step}
 use Rattle.rev_model.specs.Causes.{step_removals}
 use Rattle.rev_model.specs.Undo.{LeadsBack}
+use Rattle.rev_moves.specs.Record.{flat}
 use Rattle.rev_changes.specs.Telling.{TellsAll}
-use Rattle.rev_undotree.specs.Steps.{State, PlainRecord, Step, Sound, next, outcome_of, Undoes}
+use Rattle.rev_undotree.specs.Steps.{State, PlainRecord, Step, Outcome, Sound, next, outcome_of, Undoes}
 use Rattle.rev_undotree.specs.Tree.{PlainNode, PlainBranch, fork_at}
 use Rattle.rev_undotree.specs.Ways.{reach, undo_of, no_node}
 use Rattle.rev_undotree.specs.States.{after, RunHolds, base_at, Context, Ends, state_at}
 use Rattle.rev_undotree.specs.Rows.{Row, row, row_of, number_at, start_at, first_continues, rows_of, at}
-use Rattle.rev_undotree.specs.Positions.{Kept, Proper, Inner, Below, along, fork_off, depth}
+use Rattle.rev_undotree.specs.Positions.{SessionState, Kept, Proper, Inner, Below, along, fork_off, depth}
 use Rattle.rev_undotree.specs.Paths.{IsPath}
 use Rattle.rev_undotree.specs.Machine.{lineage}
 use Rattle.rev_undotree.specs.Trails.{cut, Trailed}
@@ -225,6 +226,22 @@ trailed root t b w v x k d i j issued e c h low high ec ei ex er en =
       leads = all.leads;
       told = all.told;
     }
+
+-- the groups in which the moves are kept tell nothing more
+pub trailed_groups : (s : SessionState) (d n : ℕ) (e : Step) (o : Outcome) (r : PlainRecord) → Trailed s d n e o (flat r) → Trailed s d n e o r
+trailed_groups s d n e o r h = record {
+  row = h.row;
+  numbered = h.numbered;
+  known = h.known;
+  falls = h.falls;
+  played = h.played;
+  answered = h.answered;
+  before = h.before;
+  sound = h.sound;
+  stepped = h.stepped;
+  leads = h.leads;
+  told = record { beside = h.told.beside; told = h.told.told };
+}
 
 -- the way cut in a loop
 abbrev pub rest_cut : List Junction → ℕ → ℕ → Position

@@ -7,6 +7,7 @@ use Rattle.rev_model.specs.Move as moves
 use Rattle.rev_model.specs.Actor as actor
 use Rattle.rev_model.specs.Causes.{step_removals}
 use Rattle.rev_model.specs.Undo.{LeadsBack, turns_back}
+use Rattle.rev_moves.specs.Record.{flat}
 use Rattle.rev_changes.specs.Telling.{TellsAll}
 use Rattle.rev_undotree.specs.Steps.{State, Step, Outcome, PlainRecord, Sound, next, outcome_of, Fits, turned, Leads, Recalls, Undoes}
 
@@ -24,12 +25,12 @@ pub turned_state : (r : PlainRecord) (s t : State) → t ≡ (moves.turned r.mov
 unfolding turned
 turned_state r s t e = e
 
-pub turned_record : (r x : PlainRecord) (s : State) → x.moves ≡ (moves.turned r.moves s).1 → x.notes ≡ reverse r.notes → x.room ≡ r.room → x ≡ (turned r s).1
+pub turned_record : (r x : PlainRecord) (s : State) → x.moves ≡ (moves.turned r.moves s).1 → x.notes ≡ reverse r.notes → x.room ≡ r.room → flat x ≡ (turned (flat r) s).1
 unfolding turned
 turned_record r x s em en er =
-    ap (λ z. let y : PlainRecord = record { moves = z; notes = x.notes; room = x.room } in y) em
-    ∙ ap (λ z. let y : PlainRecord = record { moves = (moves.turned r.moves s).1; notes = z; room = x.room } in y) en
-    ∙ ap (λ z. let y : PlainRecord = record { moves = (moves.turned r.moves s).1; notes = reverse r.notes; room = z } in y) er
+    ap (λ z. record (flat x) { moves = z }) em
+    ∙ ap (λ z. record (flat x) { moves = (moves.turned r.moves s).1; notes = z }) en
+    ∙ ap (λ z. record (flat r) { moves = (moves.turned r.moves s).1; notes = reverse r.notes; room = z }) er
 
 -- what a step gives
 pub step_next : (s u : State) (e : Step) (o : Outcome) → (u, o) ≡ actor.step s e → u ≡ next s e
@@ -44,8 +45,8 @@ step_outcome s u e o h = ap (λ p. p.1) h
 back_pair : (r : PlainRecord) (t : State) → moves.turned (moves.turned r.moves t).1 (moves.turned r.moves t).0 ≡ (t, r.moves) → turned (turned r t).1 (turned r t).0 ≡ (t, r)
 unfolding turned
 back_pair r t h =
-    ap (λ z. let p : State × PlainRecord = (z.0, record { moves = z.1; notes = reverse (reverse r.notes); room = r.room }) in p) h
-    ∙ ap (λ z. let p : State × PlainRecord = (t, record { moves = r.moves; notes = z; room = r.room }) in p) (reverse-reverse r.notes)
+    ap (λ z. let p : State × PlainRecord = (z.0, record r { moves = z.1; notes = reverse (reverse r.notes) }) in p) h
+    ∙ ap (λ z. let p : State × PlainRecord = (t, record r { notes = z }) in p) (reverse-reverse r.notes)
 
 pub leads_applied : (r : PlainRecord) (t s : State) → Sound t → Sound s → LeadsBack r.moves t s → Leads r t s
 unfolding Fits turned
@@ -68,15 +69,15 @@ unfolding Fits turned
 leads_moves h = record { fits = h.fits.1; there = h.there }
 
 -- what the contract of `apply` says of the record
-recalls_applied : (r : PlainRecord) (s : State) (e : Step) → TellsAll r (next s e) (step_removals s e) → Recalls r s e
+recalls_applied : (r : PlainRecord) (s : State) (e : Step) → TellsAll r (next s e) (step_removals s e) → Recalls (flat r) s e
 unfolding Recalls
-recalls_applied r s e h = h
+recalls_applied r s e h = record { beside = h.beside; told = h.told }
 
-pub undoes_applied : (r : PlainRecord) (s u : State) (e : Step) (o : Outcome) → Sound u → Sound s → (u, o) ≡ actor.step s e → LeadsBack r.moves u s → TellsAll r u (step_removals s e) → Undoes r s e
+pub undoes_applied : (r : PlainRecord) (s u : State) (e : Step) (o : Outcome) → Sound u → Sound s → (u, o) ≡ actor.step s e → LeadsBack r.moves u s → TellsAll r u (step_removals s e) → Undoes (flat r) s e
 undoes_applied r s u e o hu hs h l t =
     let n = step_next s u e o h in
     record {
-      leads = subst (λ z. Leads r z s) n (leads_applied r u s hu hs l);
+      leads = subst (λ z. Leads (flat r) z s) n (leads_applied (flat r) u s hu hs l);
       recalls = recalls_applied r s e (subst (λ z. TellsAll r z (step_removals s e)) n t);
     }
 

@@ -24,7 +24,7 @@ Fits r s = Sound s × moves.Fits r.moves s
 
 -- the state and the record that turning leaves
 unfoldable pub turned : PlainRecord → State → State × PlainRecord
-turned r s = ((moves.turned r.moves s).0, record { moves = (moves.turned r.moves s).1; notes = reverse r.notes; room = r.room })
+turned r s = ((moves.turned r.moves s).0, record r { moves = (moves.turned r.moves s).1; notes = reverse r.notes })
 
 -- r turns t into s, and what it becomes turns s into t and gives r back
 pub record Leads (r : PlainRecord) (t s : State) : Type 0 where

@@ -29,12 +29,14 @@ pub struct Node<A: Allocator> {
 }
 
 impl<A: Allocator> Model for Node<A> {
+    ghost use Rattle.rev_moves.specs.Record.{flat};
     ghost use Rattle.rev_steps.specs.Plain.{plain_step};
     ghost use Rattle.rev_undotree.specs.Tree.{PlainNode};
 
     ghost Value = { PlainNode };
 
-    ghost view = { λ a. record { number = a.number; step = plain_step a.step; outcome = a.outcome; undo = a.undo } };
+    // In which groups the record keeps its moves is not seen.
+    ghost view = { λ a. record { number = a.number; step = plain_step a.step; outcome = a.outcome; undo = flat a.undo } };
 }
 
 impl<A: Allocator> Node<A> {

@@ -5,9 +5,9 @@ ghost use Rattle.rev_items.specs.Hash.{hash_of};
 ghost use Rattle.rev_mentions.specs.Mentions.{Within};
 ghost use Rattle.rev_model.specs.Events.{is_stored};
 ghost use Rattle.rev_model.specs.State.{item_at};
-ghost use Rattle.rev_moves.specs.Seen.{plain_move};
+ghost use Rattle.rev_moves.specs.Seen.{plain_moves};
 ghost use Rattle.rev_requests.specs.Plain.{plain_step};
-ghost use Rattle.rev_undotree.specs.Named.{hashed, named_by, named, step_keys, stored_keys, none_or};
+ghost use Rattle.rev_undotree.specs.Named.{hashed, named, step_keys, stored_keys, none_or};
 ghost use Rattle.rev_undotree.specs.Mentioned.{AreMentioned, Grows};
 
 use crate::branch::Node;
@@ -99,7 +99,7 @@ fn mention_chunk<A: Allocator>(
     mention_hash(mentions, item_hash(store.content(chunk)), node)
 }
 
-/// Mentions the keys that a move names.
+/// Mentions the keys that a change names.
 fn mention_move<A: Allocator>(
     mentions: &mut Mentions<A>,
     store: &Store<A>,
@@ -107,37 +107,28 @@ fn mention_move<A: Allocator>(
     node: u32,
 ) -> Result<(), AllocError>
     requires { Within mentions.old node }
-    ensures named { OnOk result (AreMentioned mentions.new (named_by store.now (plain_move undo.now)) node) }
+    ensures named { OnOk result (AreMentioned mentions.new (named store.now (plain_moves undo.now)) node) }
     ensures grows { Grows mentions.old mentions.new node }
 {
     match undo {
-        Move::Take(Listed::InQueue(_, _, Entry::Chunk(chunk)))
-        | Move::Put(Placed::ToQueue(_, _, Entry::Chunk(chunk), _))
-        | Move::Bind(chunk)
-        | Move::Unbind(chunk) => mention_chunk(mentions, store, *chunk, node),
-        Move::Fill(chunk, item) => {
-            mention_hash(mentions, item_hash(item.as_ref()), node)?;
+        Move::Enter { chunk, item, .. } => {
+            mention_hash(mentions, item_hash(Some(item)), node)?;
+            mention_chunk(mentions, store, *chunk, node)
+        }
+        Move::Leave { chunk, under, .. } => {
+            mention_hash(mentions, item_hash(under.as_ref()), node)?;
+            mention_chunk(mentions, store, *chunk, node)
+        }
+        Move::Requeue { chunk, .. }
+        | Move::Take(Listed::InQueue(_, _, Entry::Chunk(chunk)))
+        | Move::Put(Placed::ToQueue(_, _, Entry::Chunk(chunk), _)) => {
             mention_chunk(mentions, store, *chunk, node)
         }
         Move::Shift(from, to) => {
             mention_chunk(mentions, store, *from, node)?;
             mention_chunk(mentions, store, *to, node)
         }
-        Move::Take(Listed::InQueue(_, _, Entry::Mark))
-        | Move::Take(Listed::InFree(_, _))
-        | Move::Put(Placed::ToQueue(_, _, Entry::Mark, _))
-        | Move::Put(Placed::ToFree(_, _, _))
-        | Move::Touch(_, _)
-        | Move::Lay(_, _, _, _)
-        | Move::Lift(_, _, _)
-        | Move::Count(_, _, _)
-        | Move::Globals(_)
-        | Move::BumpIn(_)
-        | Move::BumpBack
-        | Move::BumpOut
-        | Move::BumpFront(_)
-        | Move::Marks(_)
-        | Move::Unmarks(_) => Ok(()),
+        _ => Ok(()),
     }
 }
 
@@ -153,8 +144,8 @@ fn mention_record<A: Allocator>(
     ensures grows { Grows mentions.old mentions.new node }
 {
     for i in 0..undo.len() {
-        match undo.part(i) {
-            Some((part, _)) => mention_move(mentions, store, part, node)?,
+        match undo.group(i) {
+            Some(group) => mention_move(mentions, store, group, node)?,
             None => unreachable!(),
         }
     }

@@ -1,53 +1,48 @@
-use Rattle.std.proofs.Common.{ap, ◌∙◌, ◌≡◌, ◌-◌, slice_set}
-use Rattle.std.proofs.lemmas.List.{set-set}
-use Rattle.rev_model.specs.Move as plain
-use mathlib.Core.List as list
-use Rattle.rev_model.specs.Undo.{turned_well}
-use Rattle.rev_model.specs.Turning.{next, ended}
-use Rattle.rev_moves.specs.Record.{PlainRecord}
-use Rattle.rev_moves.specs.Seen.{plain_move}
+use Rattle.std.proofs.Common.{ap, sym, subst, ◌∙◌, ◌≡◌, arith, length}
+use Rattle.rev_model.specs.Move.{Fits}
+use Rattle.rev_moves.specs.Record.{group_of, moves_in}
+use Rattle.rev_moves.specs.Turning.{next, ended}
 use Rattle.rev_inverse.proofs.store.Store.turn.Goals as goal
 
-pub exchange-back-requires-clause-well : goal.exchange-back-requires-clause-well
-exchange-back-requires-clause-well g c =
-    let n = next _ _ c.requires.well c.requires.fits _ _ _ c.loop-place-test.true c.loop-place.invariant.0 _ c.replace-next.ensures.result in
-    n.well
+pub exchange-requires-clause-well : goal.exchange-requires-clause-well
+exchange-requires-clause-well g c =
+    let fits = subst (λ l. Fits l c.args.self.now) c.len-place.ensures.whole.moves c.requires.fits in
+    (next _ _ c.requires.well fits _ _ _ c.loop-place-test.true c.loop-place.invariant.0 _ c.group_mut.ensures.value).well
 
-pub exchange-back-requires-clause-possible : goal.exchange-back-requires-clause-possible
-exchange-back-requires-clause-possible g c =
-    let n = next _ _ c.requires.well c.requires.fits _ _ _ c.loop-place-test.true c.loop-place.invariant.0 _ c.replace-next.ensures.result in
-    n.possible
+pub exchange-requires-clause-possible : goal.exchange-requires-clause-possible
+exchange-requires-clause-possible g c =
+    let fits = subst (λ l. Fits l c.args.self.now) c.len-place.ensures.whole.moves c.requires.fits in
+    (next _ _ c.requires.well fits _ _ _ c.loop-place-test.true c.loop-place.invariant.0 _ c.group_mut.ensures.value).fits
 
 pub loop-place-preserved : goal.loop-place-preserved
 loop-place-preserved g c =
-    let n = next _ _ c.requires.well c.requires.fits _ _ _ c.loop-place-test.true c.loop-place.invariant.0 _ c.replace-next.ensures.result in
-    let p = c.loop-place.place - 1 in
-    let left = c.loop-place.undo.moves in
-    let back = plain_move c.exchange-back.result in
-    let e : c.write.new.self.moves ≡ slice_set left p (plain.reverse (plain_move c.replace-next.result) c.loop-place.self) =
-    ap (λ (r : PlainRecord). r.moves) c.write.ensures
-    ∙ ap (λ (r : PlainRecord). slice_set r.moves p back) c.replace-next.ensures.after
-    ∙ set-set left p plain.BumpsOut back
-    ∙ ap (slice_set left p) c.exchange-back.ensures.reverse in (
-      rw (c.exchange-back.ensures.state, e) n.turned,
-      ap (λ (r : PlainRecord). r.room) c.write.ensures ∙ ap (λ (r : PlainRecord). r.room) c.replace-next.ensures.after ∙ c.loop-place.invariant.1,
-      ap (λ (r : PlainRecord). r.notes) c.write.ensures ∙ ap (λ (r : PlainRecord). r.notes) c.replace-next.ensures.after ∙ c.loop-place.invariant.2,
+    let fits = subst (λ l. Fits l c.args.self.now) c.len-place.ensures.whole.moves c.requires.fits in
+    let n = next _ _ c.requires.well fits _ _ _ c.loop-place-test.true c.loop-place.invariant.0 _ c.group_mut.ensures.value in
+    let back = group_of c.exchange.new.group in (
+      rw c.exchange.ensures.state (n.turned back (record { moves = c.exchange.ensures.reverse; notes = c.exchange.ensures.notes })),
+      omega (arith, c.group_mut.ensures.room, c.loop-place.invariant.1),
     )
 
-pub returns-clause-notes : goal.returns-clause-notes
-returns-clause-notes g c = ap (λ (r : PlainRecord). r.notes) c.turn_over.ensures ∙ ap list.reverse c.loop-place.invariant.2
+pub returns-clause-room : goal.returns-clause-room
+returns-clause-room g c =
+    let fits = subst (λ l. Fits l c.args.self.now) c.len-place.ensures.whole.moves c.requires.fits in
+    let e = ended _ _ c.requires.well fits _ _ _ c.loop-place-test.false c.loop-place.invariant.0 in
+    let long : length c.turn_over.new.self.moves ≡ length c.args.undo.now.moves = ap length (c.turn_over.ensures.whole.moves ∙ ap moves_in c.turn_over.ensures.groups) ∙ e.length ∙ ap length (sym c.len-place.ensures.whole.moves) in
+    omega (arith, long, c.turn_over.ensures.room, c.loop-place.invariant.1)
 
 pub returns-clause-well : goal.returns-clause-well
 returns-clause-well g c =
-    let e = ended _ _ c.requires.well c.requires.fits _ _ _ c.loop-place-test.false c.loop-place.invariant.0 in
-    rw e.state (turned_well c.args.undo.now.moves c.args.self.now c.requires.well c.requires.fits)
+    let fits = subst (λ l. Fits l c.args.self.now) c.len-place.ensures.whole.moves c.requires.fits in
+    (ended _ _ c.requires.well fits _ _ _ c.loop-place-test.false c.loop-place.invariant.0).well
 
 pub returns-clause-fits : goal.returns-clause-fits
 returns-clause-fits g c =
-    let e = ended _ _ c.requires.well c.requires.fits _ _ _ c.loop-place-test.false c.loop-place.invariant.0 in
-    rw (ap (λ (r : PlainRecord). r.moves) c.turn_over.ensures) e.fits
+    let fits = subst (λ l. Fits l c.args.self.now) c.len-place.ensures.whole.moves c.requires.fits in
+    let e = ended _ _ c.requires.well fits _ _ _ c.loop-place-test.false c.loop-place.invariant.0 in
+    rw (c.turn_over.ensures.whole.moves, c.turn_over.ensures.groups) e.fits
 
 pub returns-clause-back : goal.returns-clause-back
 returns-clause-back g c =
-    let e = ended _ _ c.requires.well c.requires.fits _ _ _ c.loop-place-test.false c.loop-place.invariant.0 in
-    rw (ap (λ (r : PlainRecord). r.moves) c.turn_over.ensures) e.back
+    let fits = subst (λ l. Fits l c.args.self.now) c.len-place.ensures.whole.moves c.requires.fits in
+    let e = ended _ _ c.requires.well fits _ _ _ c.loop-place-test.false c.loop-place.invariant.0 in
+    rw (c.turn_over.ensures.whole.moves, c.turn_over.ensures.groups, c.len-place.ensures.whole.moves) e.back

@@ -1,11 +1,12 @@
 use Rattle.std.proofs.Common.{◌≤◌, ◌-◌, length, take, arith, ap, sym, ◌∙◌, refl, subst, inr, ⊎_elim}
+use Rattle.rev_moves.specs.Record.{flat}
 use Rattle.rev_steps.specs.Plain.{plain_step}
 use Rattle.rev_undotree.specs.Tree.{PlainNode}
 use Rattle.rev_undotree.specs.Ways.{IsWay}
 use Rattle.rev_undotree.proofs.Machine.{kept_tree, kept_path}
 use Rattle.rev_undotree.proofs.Trips.{lineage_depth, depth_within}
 use Rattle.rev_undotree.proofs.Spots.{path_way, path_within}
-use Rattle.rev_undotree.proofs.Trails.{cut_inside, take_length, trailed}
+use Rattle.rev_undotree.proofs.Trails.{cut_inside, take_length, trailed, trailed_groups}
 use Rattle.rev_undotree.proofs.session.Session.trail.Goals as goal
 
 pub depth-requires : goal.depth-requires
@@ -65,8 +66,8 @@ returns-clause-some g c =
     let n = cut_inside i.base i.way.items _ i.here c.args.depth c.ancestor-level.result.1 p (omega (arith, z)) (omega (arith, e, t)) c.ancestor-level.ensures.cut in
     let l = n.0 in
     let q = c.node.inside in
-    let d : PlainNode = record { number = q.number; step = plain_step q.step; outcome = q.outcome; undo = q.undo } in
-    rw (← c.self.view_is) (trailed _ i.store i.base i.way.items (take c.ancestor-level.result.0 i.way.items) _ i.here c.args.depth c.ancestor-level.result.1 (c.ancestor-level.result.1 - 1) c.self.inside.issued d c.reach.result.now c.self.invariant.kept (omega (arith, z)) (omega (arith, e, t)) c.ancestor-level.ensures.cut (omega (arith, l)) (ap (λ x. take c.ancestor-level.result.0 x) c.deref.ensures.0) c.reach.ensures (c.node.view_is ∙ c.node-node.ensures))
+    let d : PlainNode = record { number = q.number; step = plain_step q.step; outcome = q.outcome; undo = flat q.undo } in
+    rw (← c.self.view_is) (trailed_groups _ _ _ _ _ q.undo (trailed _ i.store i.base i.way.items (take c.ancestor-level.result.0 i.way.items) _ i.here c.args.depth c.ancestor-level.result.1 (c.ancestor-level.result.1 - 1) c.self.inside.issued d c.reach.result.now c.self.invariant.kept (omega (arith, z)) (omega (arith, e, t)) c.ancestor-level.ensures.cut (omega (arith, l)) (ap (λ x. take c.ancestor-level.result.0 x) c.deref.ensures.0) c.reach.ensures (c.node.view_is ∙ c.node-node.ensures)))
 
 pub returns-clause-none : goal.returns-clause-none
 returns-clause-none g c =
