@@ -96,7 +96,10 @@ fn open_recorder(
     };
     match Recorder::open(alloc, session, actors, SEAL) {
         Ok(opened) => Ok(opened),
-        Err(_) => Err(RecordingFault::Memory),
+        Err(refused) => {
+            drop(refused);
+            Err(RecordingFault::Memory)
+        }
     }
 }
 
@@ -170,7 +173,10 @@ fn settled(recorder: Recorder, hands: Vec<Hand>, stopped: Vec<u8>) -> Result<Pla
 {
     match recorder.settle(hands) {
         Ok(settled) => Ok(Played { settled, stopped }),
-        Err(_) => Err(RecordingFault::LogDiffers),
+        Err(fault) => {
+            drop(fault);
+            Err(RecordingFault::LogDiffers)
+        }
     }
 }
 

@@ -4,6 +4,8 @@
 #[cfg(test)]
 mod heap;
 #[cfg(test)]
+mod owned;
+#[cfg(test)]
 mod parts;
 #[cfg(test)]
 mod pictures;

@@ -1,5 +1,6 @@
 //! Keys, lines, and the parts of a store.
 use crate::heap::{BYTES, UNIT, fill};
+use crate::owned::is_made;
 use linked_list_allocator::LocalHeap;
 use rev_classes::{ClassTable, Config};
 use rev_index::Index;
@@ -47,31 +48,42 @@ const PARTS: [Part; 7] = [
 ];
 
 // Whether the heap had memory for the part.
-fn is_made(heap: &LocalHeap, part: Part) -> Result<bool, Fail> {
+fn has_memory(heap: &LocalHeap, part: Part) -> Result<bool, Fail> {
     let table = ClassTable::build(&SMALL)?;
-    let is_made = match part {
+    let has_memory = match part {
         Part::Key => match Key::new(heap, b"abc") {
             Ok(_) => true,
             Err(KeyFault::Memory) => false,
             Err(KeyFault::BadKey) => return Err(Fail::new("a bad key")),
         },
-        Part::Pages => Pages::open(heap, &SMALL, &table).is_ok(),
-        Part::PageSlots => rev_pages::slots(heap, 10).is_ok(),
-        Part::Queues => Queues::open(heap, &SMALL, &table).is_ok(),
-        Part::QueueSlots => rev_queues::slots(heap, 10).is_ok(),
-        Part::Index => Index::open(heap, &SMALL, &table).is_ok(),
-        Part::IndexSlots => rev_index::slots(heap, 10).is_ok(),
+        Part::Pages => is_made(Pages::open(heap, &SMALL, &table)),
+        Part::PageSlots => is_made(rev_pages::slots(heap, 10)),
+        Part::Queues => is_made(Queues::open(heap, &SMALL, &table)),
+        Part::QueueSlots => is_made(rev_queues::slots(heap, 10)),
+        Part::Index => is_made(Index::open(heap, &SMALL, &table)),
+        Part::IndexSlots => is_made(rev_index::slots(heap, 10)),
     };
-    Ok(is_made)
+    Ok(has_memory)
 }
 
 // Makes the part with so many bytes left. All memory is given back, also by what was refused.
-fn try_part<R: Abort>(rt: &R, alloc: Global, part: Part, left: usize) -> Result<bool, Fail> {
-    let heap = LocalHeap::new(alloc, BYTES)?;
-    let _ballast = fill(alloc, &heap, left)?;
-    let is_made = is_made(&heap, part)?;
+fn makes_or_refuses<R: Abort>(
+    rt: &R,
+    alloc: Global,
+    heap: &LocalHeap,
+    part: Part,
+    left: usize,
+) -> Result<bool, Fail> {
+    let _ballast = fill(alloc, heap, left)?;
+    let is_made = has_memory(heap, part)?;
     assert_eq!(rt; heap.free(), left, "{part:?} with {left} bytes");
     Ok(is_made)
+}
+
+// The same on a heap of its own.
+fn try_part<R: Abort>(rt: &R, alloc: Global, part: Part, left: usize) -> Result<bool, Fail> {
+    let heap = LocalHeap::new(alloc, BYTES)?;
+    makes_or_refuses(rt, alloc, &heap, part, left)
 }
 
 #[test]
@@ -97,26 +109,39 @@ static LINES: [&[u8]; 4] = [
     b":mark a\r\n",
 ];
 
+// Whether there was a next line.
+fn has_next<'a>(
+    lines: &mut Lines<FromRead<&'static [u8]>, &'a LocalHeap>,
+) -> Result<bool, LineFault> {
+    match lines.next() {
+        Ok(line) => {
+            let is_some = line.is_some();
+            drop(line);
+            Ok(is_some)
+        }
+        Err(fault) => Err(fault),
+    }
+}
+
 // Reads a line with so many bytes left. A reader that was refused memory stays refused.
-fn try_line<R: Abort>(
+fn reads_or_refuses<'a, R: Abort>(
     rt: &R,
     alloc: Global,
-    text: &'static [u8],
+    heap: &'a LocalHeap,
+    lines: &mut Lines<FromRead<&'static [u8]>, &'a LocalHeap>,
     left: usize,
 ) -> Result<bool, Fail> {
-    let heap = LocalHeap::new(alloc, BYTES)?;
-    let mut lines = Lines::over(&heap, FromRead::new(text));
-    let ballast = fill(alloc, &heap, left)?;
-    let line = lines.next();
+    let ballast = fill(alloc, heap, left)?;
+    let line = has_next(lines);
     drop(ballast);
     match line {
-        Ok(line) => {
-            assert!(rt; line.is_some());
+        Ok(is_some) => {
+            assert!(rt; is_some);
             Ok(true)
         }
         Err(fault) => {
             assert_eq!(rt; fault, LineFault::Memory, "{left} bytes left");
-            match lines.next() {
+            match has_next(lines) {
                 Ok(_) => Err(Fail::new("a line after a refused one")),
                 Err(again) => {
                     assert_eq!(rt; again, LineFault::Memory, "{left} bytes left");
@@ -125,6 +150,18 @@ fn try_line<R: Abort>(
             }
         }
     }
+}
+
+// The same on a heap of its own.
+fn try_line<R: Abort>(
+    rt: &R,
+    alloc: Global,
+    text: &'static [u8],
+    left: usize,
+) -> Result<bool, Fail> {
+    let heap = LocalHeap::new(alloc, BYTES)?;
+    let mut lines = Lines::over(&heap, FromRead::new(text));
+    reads_or_refuses(rt, alloc, &heap, &mut lines, left)
 }
 
 #[test]

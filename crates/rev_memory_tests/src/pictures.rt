@@ -57,6 +57,10 @@ impl Picture {
         Ok(())
     }
 
+    fn put_all(&mut self, numbers: &[u64]) -> Result<(), AllocError> {
+        self.numbers.extend_from_slice(numbers)
+    }
+
     fn put_bytes(&mut self, bytes: &[u8]) -> Result<(), AllocError> {
         self.put(bytes.len() as u64)?;
         for byte in bytes {
@@ -85,12 +89,14 @@ impl Picture {
     fn put_item<A: Allocator>(&mut self, item: &Item<A>) -> Result<(), AllocError> {
         self.put_bytes(item.key().bytes())?;
         self.put_bytes(item.value())?;
-        self.put(u64::from(item.flags()))?;
-        self.put(item.moment())?;
-        self.put(u64::from(item.time()))?;
-        self.put(item.cas())?;
-        self.put(u64::from(item.bits().fetched))?;
-        self.put(u64::from(item.bits().active))
+        self.put_all(&[
+            u64::from(item.flags()),
+            item.moment(),
+            u64::from(item.time()),
+            item.cas(),
+            u64::from(item.bits().fetched),
+            u64::from(item.bits().active),
+        ])
     }
 
     fn put_pages<A: Allocator>(&mut self, store: &Store<A>) -> Result<(), AllocError> {
@@ -193,27 +199,38 @@ impl Picture {
 
     fn put_globals<A: Allocator>(&mut self, store: &Store<A>) -> Result<(), AllocError> {
         let globals = store.globals();
-        self.put(u64::from(globals.clock))?;
-        self.put(globals.last_cas)?;
-        self.put(globals.mark)?;
-        self.put(globals.flush.unwrap_or(u64::MAX))?;
+        self.put_all(&[
+            u64::from(globals.clock),
+            globals.last_cas,
+            globals.mark,
+            globals.flush.unwrap_or(u64::MAX),
+        ])?;
         if let Some(mover) = globals.mover {
-            self.put(u64::from(mover.src))?;
-            self.put(u64::from(mover.dst))?;
-            self.put(u64::from(mover.page))?;
-            self.put(u64::from(mover.slot))?;
+            self.put_all(&[
+                u64::from(mover.src),
+                u64::from(mover.dst),
+                u64::from(mover.page),
+                u64::from(mover.slot),
+            ])?;
         }
         self.put(u64::MAX)
     }
 
     fn put_settings<A: Allocator>(&mut self, store: &Store<A>) -> Result<(), AllocError> {
         let settings = store.globals().settings;
-        self.put(u64::from(settings.hot_share))?;
-        self.put(u64::from(settings.warm_share))?;
-        self.put(u64::from(settings.hot_factor))?;
-        self.put(u64::from(settings.warm_factor))?;
-        self.put(u64::from(settings.temp_ttl < 0))?;
-        self.put(u64::from(settings.temp_ttl.unsigned_abs()))
+        self.put_all(&[
+            u64::from(settings.hot_share),
+            u64::from(settings.warm_share),
+            u64::from(settings.hot_factor),
+            u64::from(settings.warm_factor),
+            u64::from(settings.temp_ttl < 0),
+            u64::from(settings.temp_ttl.unsigned_abs()),
+        ])
+    }
+
+    fn put_key<A: Allocator + Clone>(&mut self, store: &Store<A>, name: &[u8]) -> Result<(), Fail> {
+        let key = Key::new(store.alloc()?, name)?;
+        Ok(self.put_chunk(store.find(&key))?)
     }
 
     /// Puts what the store tells: pages, contents, each class's lists and counters, the bump queue, the globals, the
@@ -228,8 +245,7 @@ impl Picture {
         self.put_globals(store)?;
         self.put_settings(store)?;
         for name in KEYS {
-            let key = Key::new(store.alloc()?, name)?;
-            self.put_chunk(store.find(&key))?;
+            self.put_key(store, name)?;
         }
         Ok(())
     }

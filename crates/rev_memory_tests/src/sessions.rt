@@ -3,6 +3,7 @@ ghost use Rattle.std.specs.Prelude.{IfOk, IfSome};
 ghost use Rattle.rev_model.specs.Sound.{Sound};
 
 use crate::heap::{BYTES, UNIT, fill};
+use crate::owned::{after, or_fail};
 use crate::parts::SMALL;
 use crate::pictures::{Picture, picture_of, session_picture};
 use crate::steps::{Command, step_of};
@@ -13,12 +14,26 @@ use rev_inverse::Store;
 use rev_items::Key;
 use rev_output::ToWrite;
 use rev_script::source::FromRead;
-use rev_shell::run::{RunFault, run};
+use rev_shell::run::{RunFault, Summary, run};
 use rev_steps::{KeyCommand, Step, StoreVerb};
 use rev_undotree::{PlayFault, Session};
-use std::alloc::Global;
+use std::alloc::{Allocator, Global};
 use std::process::Abort;
 use std::test::Fail;
+
+// The store that is handed back where no session can be opened.
+fn handed_back<'a>(heap: &'a LocalHeap, store: Store<&'a LocalHeap>) -> Option<Store<&'a LocalHeap>>
+    requires { Sound store }
+    ensures { IfSome result Sound }
+{
+    match Session::open(heap, store) {
+        Ok(session) => {
+            drop(session);
+            None
+        }
+        Err((_, store)) => Some(store),
+    }
+}
 
 // The store that is handed back where a session is opened with so many bytes left, none where it opened.
 fn refused_store<'a>(
@@ -30,11 +45,29 @@ fn refused_store<'a>(
     requires { Sound store }
     ensures { IfOk result (λ handed. IfSome handed Sound) }
 {
-    let _ballast = fill(alloc, heap, left)?;
-    match Session::open(heap, store) {
-        Ok(_session) => Ok(None),
-        Err((_, store)) => Ok(Some(store)),
+    match fill(alloc, heap, left) {
+        Ok(ballast) => {
+            let handed = handed_back(heap, store);
+            drop(ballast);
+            Ok(handed)
+        }
+        Err(fault) => {
+            drop(store);
+            Err(Fail::from(fault))
+        }
     }
+}
+
+// Whether the store tells what it told before.
+fn tells_the_same<A: Allocator + Clone>(
+    alloc: Global,
+    store: &Store<A>,
+    before: &Picture,
+) -> Result<bool, Fail>
+    requires { Sound store.now }
+{
+    let after = picture_of(alloc, store)?;
+    Ok(before.is_same(&after))
 }
 
 // Opens a session with so many bytes left. A store that is handed back tells what it told before.
@@ -51,8 +84,9 @@ fn opens_or_hands_back<'a, R: Abort>(
     match refused_store(alloc, heap, store, left)? {
         None => Ok(true),
         Some(store) => {
-            let after = picture_of(alloc, &store)?;
-            assert!(rt; before.is_same(&after), "{left} bytes left");
+            let is_same = tells_the_same(alloc, &store, before);
+            drop(store);
+            assert!(rt; is_same?, "{left} bytes left");
             Ok(false)
         }
     }
@@ -66,8 +100,13 @@ fn open_over_store<'a, R: Abort>(
     left: usize,
 ) -> Result<bool, Fail> {
     let store = Store::open(heap, SMALL)?;
-    let before = picture_of(alloc, &store)?;
-    opens_or_hands_back(rt, alloc, heap, store, &before, left)
+    match picture_of(alloc, &store) {
+        Ok(before) => opens_or_hands_back(rt, alloc, heap, store, &before, left),
+        Err(fail) => {
+            drop(store);
+            Err(fail)
+        }
+    }
 }
 
 // The same on a heap of its own.
@@ -158,19 +197,25 @@ fn take_turn<'a>(
 
 // A session on which nothing was played.
 fn new_session<'a>(heap: &'a LocalHeap) -> Result<Session<&'a LocalHeap>, Fail> {
-    match Session::open(heap, Store::open(heap, SMALL)?) {
-        Ok(session) => Ok(session),
-        Err(_) => Err(Fail::new("no session")),
+    or_fail(Session::open(heap, Store::open(heap, SMALL)?), "no session")
+}
+
+// Takes the turns, one after another.
+fn take_turns<'a>(
+    heap: &'a LocalHeap,
+    session: &mut Session<&'a LocalHeap>,
+    turns: &[Turn],
+) -> Result<(), Fail> {
+    for turn in turns {
+        take_turn(heap, session, *turn)?;
     }
+    Ok(())
 }
 
 // A session on which these turns were taken.
 fn session_after<'a>(heap: &'a LocalHeap, turns: &[Turn]) -> Result<Session<&'a LocalHeap>, Fail> {
     let mut session = new_session(heap)?;
-    for turn in turns {
-        take_turn(heap, &mut session, *turn)?;
-    }
-    Ok(session)
+    after(take_turns(heap, &mut session, turns), session)
 }
 
 // Why a play was refused, and whether the step that was handed back is as it was.
@@ -237,7 +282,9 @@ fn try_session<'a, R: Abort>(
     left: usize,
 ) -> Result<bool, Fail> {
     let mut session = session_after(heap, case.before)?;
-    plays_or_keeps(rt, alloc, heap, &mut session, case, left)
+    let is_done = plays_or_keeps(rt, alloc, heap, &mut session, case, left);
+    drop(session);
+    is_done
 }
 
 // The same on a heap of its own.
@@ -307,7 +354,9 @@ fn ask_session<'a, R: Abort>(
     left: usize,
 ) -> Result<bool, Fail> {
     let session = session_after(heap, &LIFE)?;
-    tells_or_refuses(rt, alloc, heap, &session, left)
+    let is_told = tells_or_refuses(rt, alloc, heap, &session, left);
+    drop(session);
+    is_told
 }
 
 // The same on a heap of its own.
@@ -352,17 +401,34 @@ fn answers_before(alloc: Global, line: u64) -> Result<Vec<u8>, Fail> {
     Ok(answers)
 }
 
+// Runs the script.
+fn run_script(
+    heap: &LocalHeap,
+    script: &[u8],
+    written: &mut Vec<u8>,
+) -> Result<Result<Summary, RunFault>, Fail> {
+    match fault_of(&SMALL) {
+        Some(fault) => Err(Fail::from(fault)),
+        None => Ok(run(
+            &heap,
+            &SMALL,
+            &mut FromRead::new(script),
+            &mut ToWrite::new(written),
+        )),
+    }
+}
+
 // Runs the lines with so many bytes left. Where memory is refused at a line, the answers before it are written.
-fn try_run<R: Abort>(rt: &R, alloc: Global, script: &[u8], left: usize) -> Result<bool, Fail> {
-    let heap = LocalHeap::new(alloc, BYTES)?;
-    let _ballast = fill(alloc, &heap, left)?;
+fn runs_or_refuses<R: Abort>(
+    rt: &R,
+    alloc: Global,
+    heap: &LocalHeap,
+    script: &[u8],
+    left: usize,
+) -> Result<bool, Fail> {
+    let _ballast = fill(alloc, heap, left)?;
     let mut written: Vec<u8> = Vec::new(alloc);
-    let mut source = FromRead::new(script);
-    let ended = match fault_of(&SMALL) {
-        Some(fault) => return Err(Fail::from(fault)),
-        None => run(&&heap, &SMALL, &mut source, &mut ToWrite::new(&mut written)),
-    };
-    let (line, is_done) = match ended {
+    let (line, is_done) = match run_script(heap, script, &mut written)? {
         Ok(_) => (u64::MAX, true),
         Err(RunFault::Memory { line }) => (line, false),
         Err(fault) => return Err(Fail::from(fault)),
@@ -374,6 +440,12 @@ fn try_run<R: Abort>(rt: &R, alloc: Global, script: &[u8], left: usize) -> Resul
     );
     assert_eq!(rt; heap.free(), left);
     Ok(is_done)
+}
+
+// The same on a heap of its own.
+fn try_run<R: Abort>(rt: &R, alloc: Global, script: &[u8], left: usize) -> Result<bool, Fail> {
+    let heap = LocalHeap::new(alloc, BYTES)?;
+    runs_or_refuses(rt, alloc, &heap, script, left)
 }
 
 #[test]

@@ -15,12 +15,12 @@ pub enum Command {
     Tune,
 }
 
-fn data_of<A: Allocator>(alloc: A, digits: usize) -> Result<Payload<A>, Fail> {
+fn data_of<A: Allocator + Clone>(alloc: A, digits: usize) -> Result<Payload<A>, Fail> {
     let mut data = Vec::with_capacity(alloc, digits)?;
     for _ in 0..digits {
         data.push(b'1')?;
     }
-    Ok(Payload::Bytes(data))
+    Ok(Payload::from_vec(data)?)
 }
 
 fn store_of<A: Allocator + Clone>(

@@ -3,6 +3,7 @@ ghost use Rattle.std.specs.Prelude.{OnOk, IfOk};
 ghost use Rattle.rev_model.specs.Sound.{Sound};
 
 use crate::heap::{BYTES, UNIT, fill};
+use crate::owned::{after, is_made};
 use crate::parts::SMALL;
 use crate::pictures::picture_of;
 use crate::steps::{Command, step_of};
@@ -17,17 +18,30 @@ use std::process::Abort;
 use std::test::Fail;
 
 // Opens a store with so many bytes left.
-fn try_open<R: Abort>(rt: &R, alloc: Global, left: usize) -> Result<bool, Fail> {
-    let heap = LocalHeap::new(alloc, BYTES)?;
-    let _ballast = fill(alloc, &heap, left)?;
-    match Store::open(&heap, SMALL) {
-        Ok(_store) => Ok(true),
+fn opens_or_refuses<R: Abort>(
+    rt: &R,
+    alloc: Global,
+    heap: &LocalHeap,
+    left: usize,
+) -> Result<bool, Fail> {
+    let _ballast = fill(alloc, heap, left)?;
+    match Store::open(heap, SMALL) {
+        Ok(store) => {
+            drop(store);
+            Ok(true)
+        }
         Err(fault) => {
             assert_eq!(rt; fault, ConfigFault::Memory, "{left} bytes left");
             assert_eq!(rt; heap.free(), left);
             Ok(false)
         }
     }
+}
+
+// The same on a heap of its own.
+fn try_open<R: Abort>(rt: &R, alloc: Global, left: usize) -> Result<bool, Fail> {
+    let heap = LocalHeap::new(alloc, BYTES)?;
+    opens_or_refuses(rt, alloc, &heap, left)
 }
 
 #[test]
@@ -53,14 +67,14 @@ fn makes_room<'a, R: Abort>(
     left: usize,
 ) -> Result<bool, Fail> {
     let _ballast = fill(alloc, heap, left)?;
-    let is_made = if of_page {
+    let has_room = if of_page {
         assert!(rt; store.table().last() >= 1);
-        store.parts(1).is_ok()
+        is_made(store.parts(1))
     } else {
-        Record::with_room(heap, 64).is_ok()
+        is_made(Record::with_room(heap, 64))
     };
     assert_eq!(rt; heap.free(), left);
-    Ok(is_made)
+    Ok(has_room)
 }
 
 // The same with a store of its own.
@@ -72,7 +86,9 @@ fn make_for_store<'a, R: Abort>(
     left: usize,
 ) -> Result<bool, Fail> {
     let store = Store::open(heap, SMALL)?;
-    makes_room(rt, alloc, heap, &store, of_page, left)
+    let has_room = makes_room(rt, alloc, heap, &store, of_page, left);
+    drop(store);
+    has_room
 }
 
 // The same on a heap of its own.
@@ -337,7 +353,7 @@ static CASES: [Case; 29] = [
 // Applies the commands, one after another.
 fn prepare<A: Allocator + Clone>(store: &mut Store<A>, commands: &[Command]) -> Result<(), Fail>
     requires { Sound store.old }
-    ensures { OnOk result (Sound store.new) }
+    ensures { Sound store.new }
 {
     for command in commands {
         let step = step_of(store.alloc()?, *command)?;
@@ -383,8 +399,7 @@ fn store_after<'a>(
 {
     let config = Config { pages, ..SMALL };
     let mut store = Store::open(heap, config)?;
-    prepare(&mut store, commands)?;
-    Ok(store)
+    after(prepare(&mut store, commands), store)
 }
 
 // Applies the case's command with so many bytes left. A store that was refused memory tells what it told before.
@@ -420,7 +435,9 @@ fn try_store<'a, R: Abort>(
     left: usize,
 ) -> Result<bool, Fail> {
     let mut store = store_after(heap, case.pages, case.before)?;
-    applies_or_keeps(rt, alloc, heap, &mut store, case, left)
+    let is_done = applies_or_keeps(rt, alloc, heap, &mut store, case, left);
+    drop(store);
+    is_done
 }
 
 // The same on a heap of its own.
@@ -445,21 +462,54 @@ fn applies(rt: HostRuntime) -> Result<(), Fail> {
     Ok(())
 }
 
-// Copies the step of a command with so many bytes left.
-fn try_copy<R: Abort>(rt: &R, alloc: Global, command: Command, left: usize) -> Result<bool, Fail> {
-    let heap = LocalHeap::new(alloc, BYTES)?;
-    let step = step_of(&heap, command)?;
-    let _ballast = fill(alloc, &heap, left)?;
-    match step.copy(&heap) {
-        Ok(copy) => {
-            assert!(rt; step.is_same(&copy), "{command:?}");
+// Whether a copy of the step is the same, none where there was no memory for it.
+fn is_copy_same<'a>(heap: &'a LocalHeap, step: &Step<&'a LocalHeap>) -> Option<bool> {
+    match step.copy(heap) {
+        Ok(copy) => Some(step.is_same(&copy)),
+        Err(_) => None,
+    }
+}
+
+// Copies the step with so many bytes left.
+fn copies_or_refuses<'a, R: Abort>(
+    rt: &R,
+    alloc: Global,
+    heap: &'a LocalHeap,
+    step: &Step<&'a LocalHeap>,
+    command: Command,
+    left: usize,
+) -> Result<bool, Fail> {
+    let _ballast = fill(alloc, heap, left)?;
+    match is_copy_same(heap, step) {
+        Some(is_same) => {
+            assert!(rt; is_same, "{command:?}");
             Ok(true)
         }
-        Err(_) => {
+        None => {
             assert_eq!(rt; heap.free(), left, "{command:?}");
             Ok(false)
         }
     }
+}
+
+// Copies the step of a command.
+fn copy_of_command<'a, R: Abort>(
+    rt: &R,
+    alloc: Global,
+    heap: &'a LocalHeap,
+    command: Command,
+    left: usize,
+) -> Result<bool, Fail> {
+    let step = step_of(heap, command)?;
+    let is_copied = copies_or_refuses(rt, alloc, heap, &step, command, left);
+    drop(step);
+    is_copied
+}
+
+// The same on a heap of its own.
+fn try_copy<R: Abort>(rt: &R, alloc: Global, command: Command, left: usize) -> Result<bool, Fail> {
+    let heap = LocalHeap::new(alloc, BYTES)?;
+    copy_of_command(rt, alloc, &heap, command, left)
 }
 
 #[test]

@@ -2,7 +2,7 @@
 ghost use Rattle.std.specs.Prelude.{◌≤◌};
 
 use crate::hands::{clock, set};
-use crate::openings::{Ending, SEAL, end, open};
+use crate::openings::{Ending, SEAL, end, open, or_fail};
 use rev_recorder::{Gate, Hand, RecordFault, Recorder, run_actors};
 use rev_requests::Step;
 use std::alloc::Global;
@@ -155,10 +155,8 @@ fn run_hands<R: Threads + Wait + Sync, G: Gate + Sync>(
     gate: &G,
 ) -> Result<Vec<Hand>, Fail> {
     let work = work_of(alloc, hands)?;
-    match run_actors(rt, recorder, work, gate) {
-        Ok(done) => hands_of(alloc, done),
-        Err(_) => Err(Fail::new("no memory")),
-    }
+    let done = or_fail(run_actors(rt, recorder, work, gate), "no memory")?;
+    hands_of(alloc, done)
 }
 
 // Records the steps of so many actors side by side.

@@ -22,7 +22,7 @@ pub fn set(alloc: Global, name: &str) -> Result<Step<Global>, Fail> {
         key,
         flags: 0,
         exptime: 0,
-        data: Payload::Bytes(data),
+        data: Payload::from_vec(data)?,
     }))
 }
 

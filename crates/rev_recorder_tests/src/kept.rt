@@ -3,7 +3,7 @@ ghost use Rattle.std.specs.Prelude.{IfOk};
 ghost use Rattle.rev_model.specs.Sound.{Sound};
 
 use crate::hands::{ROOT, clock, keyed, play_set, set};
-use crate::openings::{SEAL, SMALL, record};
+use crate::openings::{SEAL, SMALL, after, or_fail, record};
 use rev_inverse::Store;
 use rev_items::Key;
 use rev_model::Outcome;
@@ -12,6 +12,7 @@ use rev_requests::{KeyCommand, Step};
 use rev_steps::apply;
 use rev_undotree::{NodeId, Session};
 use std::alloc::Global;
+use std::process::Abort;
 use std::sync::Wait;
 use std::test::Fail;
 
@@ -38,24 +39,29 @@ const OUTCOMES: [Outcome; 5] = [
     Outcome::Miss,
 ];
 
-// A store that holds an item `r`.
-fn root_store(alloc: Global) -> Result<Store<Global>, Fail>
-    ensures { IfOk result (λ store. Sound store) }
+// Stores an item `r`.
+fn hold_root(alloc: Global, store: &mut Store<Global>) -> Result<(), Fail>
+    requires { Sound store.old }
+    ensures { Sound store.new }
 {
     let step = set(alloc, "r")?;
-    let mut store = Store::open(alloc, SMALL)?;
-    match apply(&mut store, &step) {
-        Ok(_) => Ok(store),
+    match apply(store, &step) {
+        Ok(_) => Ok(()),
         Err(_) => Err(Fail::new("no memory")),
     }
 }
 
+// A store that holds an item `r`.
+fn root_store(alloc: Global) -> Result<Store<Global>, Fail>
+    ensures { IfOk result (λ store. Sound store) }
+{
+    let mut store = Store::open(alloc, SMALL)?;
+    let held = hold_root(alloc, &mut store);
+    after(held, store)
+}
+
 fn root_session(alloc: Global) -> Result<Session<Global>, Fail> {
-    let store = root_store(alloc)?;
-    match Session::open(alloc, store) {
-        Ok(session) => Ok(session),
-        Err(_) => Err(Fail::new("no session")),
-    }
+    or_fail(Session::open(alloc, root_store(alloc)?), "no session")
 }
 
 // Plays the node's step.
@@ -78,8 +84,7 @@ fn play_all_before(alloc: Global, session: &mut Session<Global>) -> Result<(), F
 // A session with five nodes that stands at the third.
 fn session_before(alloc: Global) -> Result<Session<Global>, Fail> {
     let mut session = root_session(alloc)?;
-    play_all_before(alloc, &mut session)?;
-    Ok(session)
+    after(play_all_before(alloc, &mut session), session)
 }
 
 // Plays two sets, with the root in between.
@@ -99,25 +104,26 @@ fn record_calls<R: Wait>(
 
 // The session behind a recording.
 fn recorded<R: Wait>(rt: &R, alloc: Global) -> Result<Session<Global>, Fail> {
-    let session = session_before(alloc)?;
-    let (recorder, mut hands) = record(alloc, session, 1, SEAL)?;
-    record_calls(rt, alloc, &recorder, hands.as_mut_slice())?;
-    match recorder.settle(hands) {
-        Ok(settled) => Ok(settled.session),
-        Err(_) => Err(Fail::new("hands and log differ")),
+    let (recorder, mut hands) = record(alloc, session_before(alloc)?, 1, SEAL)?;
+    let called = record_calls(rt, alloc, &recorder, hands.as_mut_slice());
+    let (recorder, hands) = after(called, (recorder, hands))?;
+    let settled = or_fail(recorder.settle(hands), "hands and log differ")?;
+    Ok(settled.session)
+}
+
+// Whether the node has this step and the outcome that it was played with.
+fn has_row(session: &Session<Global>, node: u32, wanted: &Step<Global>) -> bool {
+    match session.row(NodeId(node)) {
+        Some((step, outcome)) => step.is_same(wanted)
+            && OUTCOMES.iter().nth(node as usize - 1).copied() == Some(outcome),
+        None => false,
     }
 }
 
 // Whether the node has the step and the outcome that it was played with.
 fn is_kept(alloc: Global, session: &Session<Global>, node: u32) -> Result<bool, Fail> {
     let wanted = step_before(alloc, node)?;
-    match session.row(NodeId(node)) {
-        Some((step, outcome)) => Ok(
-            step.is_same(&wanted)
-                && OUTCOMES.iter().nth(node as usize - 1).copied() == Some(outcome),
-        ),
-        None => Ok(false),
-    }
+    Ok(has_row(session, node, &wanted))
 }
 
 // Whether the store holds an item of this key.
@@ -126,18 +132,40 @@ fn holds(alloc: Global, session: &Session<Global>, name: &str) -> Result<bool, F
     Ok(session.store().find(&key).is_some())
 }
 
-#[test]
-fn base_kept(rt: HostRuntime) -> Result<(), Fail> {
-    let mut session = recorded(&rt, rt.alloc())?;
+// The nodes of before and those of the recording.
+fn look_at_nodes<R: Abort>(rt: &R, alloc: Global, session: &Session<Global>) -> Result<(), Fail> {
     for node in 1..=NODES {
-        assert!(rt; is_kept(rt.alloc(), &session, node)?, "node {node}");
+        assert!(rt; is_kept(alloc, session, node)?, "node {node}");
     }
     assert_eq!(rt; session.issued(), 7);
     assert_eq!(rt; session.parent(NodeId(6)), Some(NodeId(3)));
     assert_eq!(rt; session.parent(NodeId(7)), Some(ROOT));
+    Ok(())
+}
+
+// The store at the root.
+fn look_at_root<R: Abort>(
+    rt: &R,
+    alloc: Global,
+    session: &mut Session<Global>,
+) -> Result<(), Fail> {
     session.go(ROOT)?;
-    assert!(rt; holds(rt.alloc(), &session, "r")?);
+    assert!(rt; holds(alloc, session, "r")?);
     assert_eq!(rt; session.store().globals().clock, 1);
     assert_eq!(rt; session.store().globals().last_cas, 1);
     Ok(())
+}
+
+// All that is looked at.
+fn look_at<R: Abort>(rt: &R, alloc: Global, session: &mut Session<Global>) -> Result<(), Fail> {
+    look_at_nodes(rt, alloc, session)?;
+    look_at_root(rt, alloc, session)
+}
+
+#[test]
+fn base_kept(rt: HostRuntime) -> Result<(), Fail> {
+    let mut session = recorded(&rt, rt.alloc())?;
+    let looked = look_at(&rt, rt.alloc(), &mut session);
+    drop(session);
+    looked
 }

@@ -3,7 +3,7 @@
 ghost use Rattle.std.specs.Prelude.{◌≤◌};
 
 use crate::hands::{ROOT, last_call, set};
-use crate::openings::{Ending, SEAL, end, open, open_session};
+use crate::openings::{Ending, SEAL, end, open, open_session, or_fail};
 use rev_recorder::{Gate, Hand, RecordFault, Recorder, run_actors};
 use rev_requests::Step;
 use rev_undotree::Session;
@@ -22,10 +22,10 @@ fn open_again(
 {
     match Recorder::open(alloc, session, actors, SEAL) {
         Ok(opened) => Ok(opened),
-        Err((_, session)) => match Recorder::open(alloc, session, actors, SEAL) {
-            Ok(opened) => Ok(opened),
-            Err(_) => Err(Fail::new("no memory, twice")),
-        },
+        Err((_, session)) => or_fail(
+            Recorder::open(alloc, session, actors, SEAL),
+            "no memory, twice",
+        ),
     }
 }
 

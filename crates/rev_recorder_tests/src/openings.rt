@@ -1,9 +1,9 @@
 //! Recorders that are opened, and how their recordings end.
-ghost use Rattle.std.specs.Prelude.{◌≤◌};
+ghost use Rattle.std.specs.Prelude.{◌≡◌, ◌≤◌, IfOk};
 
 use rev_classes::Config;
 use rev_inverse::Store;
-use rev_recorder::{Hand, Recorder, SettleFault};
+use rev_recorder::{Hand, Recorder, SettleFault, Settled};
 use rev_undotree::Session;
 use std::alloc::Global;
 use std::test::Fail;
@@ -23,12 +23,31 @@ pub const SMALL: Config = Config {
     now: 1,
 };
 
+// A session has many parts, and a drop of it where it stands drops each of them there, once for each way out. A drop
+// by a call is short: so `or_fail`, `after` and `drop` stand where a `?` or the end of a function would do.
+
+/// The value, or a failed test with this text.
+pub fn or_fail<T, E: Drop>(given: Result<T, E>, text: &'static str) -> Result<T, Fail> {
+    match given {
+        Ok(value) => Ok(value),
+        Err(_) => Err(Fail::new(text)),
+    }
+}
+
+/// The value, where what was done with it went well.
+pub fn after<T: Drop>(done: Result<(), Fail>, value: T) -> Result<T, Fail>
+    ensures { IfOk result (λ kept. kept ≡ value) }
+{
+    done?;
+    Ok(value)
+}
+
 /// A session over an empty store.
 pub fn open_session(alloc: Global) -> Result<Session<Global>, Fail> {
-    match Session::open(alloc, Store::open(alloc, SMALL)?) {
-        Ok(session) => Ok(session),
-        Err(_) => Err(Fail::new("no session")),
-    }
+    or_fail(
+        Session::open(alloc, Store::open(alloc, SMALL)?),
+        "no session",
+    )
 }
 
 /// A recorder of a session, and its hands.
@@ -40,10 +59,7 @@ pub fn record(
 ) -> Result<(Recorder, Vec<Hand>), Fail>
     requires { (1 ≤ actors) × (actors ≤ 8) }
 {
-    match Recorder::open(alloc, session, actors, seal) {
-        Ok(opened) => Ok(opened),
-        Err(_) => Err(Fail::new("no recorder")),
-    }
+    or_fail(Recorder::open(alloc, session, actors, seal), "no recorder")
 }
 
 /// A recorder of a new session, and its hands.
@@ -68,7 +84,7 @@ pub enum Ending {
 }
 
 // How a recording ended that did not settle.
-fn ending_of(fault: SettleFault) -> Ending {
+fn ending_of(fault: &SettleFault) -> Ending {
     match fault {
         SettleFault::MissingHand { recorder: _, hands } => Ending::Missing { hands: hands.len() },
         SettleFault::StrangerHand { recorder: _, hands } => Ending::Strange { hands: hands.len() },
@@ -77,26 +93,48 @@ fn ending_of(fault: SettleFault) -> Ending {
             place,
             settled: _,
             hands: _,
-        } => Ending::Differs { actor, place },
+        } => {
+            Ending::Differs {
+                actor: *actor,
+                place: *place,
+            }
+        }
     }
 }
 
 /// Ends a recording.
 pub fn end(recorder: Recorder, hands: Vec<Hand>) -> Ending {
-    match recorder.settle(hands) {
+    let settled = recorder.settle(hands);
+    let ending = match &settled {
         Ok(settled) => Ending::Settled {
             rows: settled.log.len(),
             nodes: settled.session.issued(),
         },
         Err(fault) => ending_of(fault),
+    };
+    drop(settled);
+    ending
+}
+
+// The fault of a recording that did not settle.
+fn fault_of(settled: Result<Settled, SettleFault>) -> Result<SettleFault, Fail> {
+    match settled {
+        Ok(settled) => {
+            drop(settled);
+            Err(Fail::new("the hands agree"))
+        }
+        Err(fault) => Ok(fault),
     }
 }
 
 /// Tries to end a recording of which a hand is missing, and gives back what is handed back.
 pub fn end_early(recorder: Recorder, hands: Vec<Hand>) -> Result<(Recorder, Vec<Hand>), Fail> {
-    match recorder.settle(hands) {
-        Err(SettleFault::MissingHand { recorder, hands }) => Ok((recorder, hands)),
-        _ => Err(Fail::new("no hand is missing")),
+    match fault_of(recorder.settle(hands))? {
+        SettleFault::MissingHand { recorder, hands } => Ok((recorder, hands)),
+        other => {
+            drop(other);
+            Err(Fail::new("no hand is missing"))
+        }
     }
 }
 
@@ -105,8 +143,11 @@ pub fn end_with_stranger(
     recorder: Recorder,
     hands: Vec<Hand>,
 ) -> Result<(Recorder, Vec<Hand>), Fail> {
-    match recorder.settle(hands) {
-        Err(SettleFault::StrangerHand { recorder, hands }) => Ok((recorder, hands)),
-        _ => Err(Fail::new("no hand is strange")),
+    match fault_of(recorder.settle(hands))? {
+        SettleFault::StrangerHand { recorder, hands } => Ok((recorder, hands)),
+        other => {
+            drop(other);
+            Err(Fail::new("no hand is strange"))
+        }
     }
 }

@@ -3,7 +3,7 @@ ghost use Rattle.std.specs.Prelude.{◌≤◌, length};
 
 use crate::hands::{ROOT, clock, last_call, play, play_clocks};
 use crate::openings::{
-    Ending, SEAL, end, end_early, end_with_stranger, open, open_session, record,
+    Ending, SEAL, after, end, end_early, end_with_stranger, open, open_session, record,
 };
 use rev_recorder::{Call, Hand, RecordFault, Recorder};
 use rev_undotree::{NodeId, PlayFault, Session};
@@ -68,8 +68,7 @@ fn nest(session: &mut Session<Global>) -> Result<(), Fail> {
 // A session with 64 nested forks that stands where one more play is refused.
 fn nested_session(alloc: Global) -> Result<Session<Global>, Fail> {
     let mut session = open_session(alloc)?;
-    nest(&mut session)?;
-    Ok(session)
+    after(nest(&mut session), session)
 }
 
 #[test]
@@ -102,8 +101,7 @@ fn use_up(session: &mut Session<Global>) -> Result<(), Fail> {
 // A session that has given out all numbers of nodes.
 fn used_session(alloc: Global) -> Result<Session<Global>, Fail> {
     let mut session = open_session(alloc)?;
-    use_up(&mut session)?;
-    Ok(session)
+    after(use_up(&mut session), session)
 }
 
 #[test]

@@ -174,10 +174,11 @@ pub fn run<S: Source, K: Sink, A: Allocator + Clone>(
     ensures err { IfErr result (λ e. IsStopped (S.told reader.old).remaining (S.told reader.new).remaining (S.told reader.new).last (K.has_failed sink.new)
         (K.contents sink.old) (K.contents sink.new) (initial config.entry.now) e) }
 {
-    let Some(mut session) = open_session(alloc, config) else {
-        return Err(RunFault::Memory { line: 0 });
+    let ended = match open_session(alloc, config) {
+        None => return Err(RunFault::Memory { line: 0 }),
+        Some(mut session) => run_session(alloc, &mut session, reader, sink),
     };
-    match run_session(alloc, &mut session, reader, sink) {
+    match ended {
         Err(e) => Err(e),
         Ok(sum) => Ok(sum),
     }

@@ -3,7 +3,7 @@ use crate::actor_rows::{
     BUMP, CRAWLER, MOVER, NUMBERS, REASONS, REFUSED, ROOM, ROUNDS, SETTINGS, STORING, TIME, TREE,
 };
 use crate::rows::Row;
-use crate::scripts::{config_of, put_exchange, run_with};
+use crate::scripts::{config_of, put_exchange, run_whole};
 use crate::streams::Stutter;
 use rev_classes::Config;
 use std::alloc::Global;
@@ -23,19 +23,10 @@ fn try_row<R: Abort>(rt: &R, alloc: Global, row: &Row, hash_power: u32) -> Resul
         answers.extend_from_slice(exchange.answer.as_bytes())?;
     }
     let name = row.name;
-    let mut written: Vec<u8> = Vec::new(alloc);
-    let ended = run_with(alloc, &config, script.as_slice(), &mut written)?;
+    let ended = run_whole(rt, &config, name, script.as_slice(), &answers)?;
     assert!(rt; ended.is_ok(), "{name}");
-    assert!(rt; written.as_slice() == answers.as_slice(), "{name}");
-    let mut by_bytes: Vec<u8> = Vec::new(alloc);
-    let again = run_with(
-        alloc,
-        &config,
-        Stutter::new(script.as_slice()),
-        &mut by_bytes,
-    )?;
+    let again = run_whole(rt, &config, name, Stutter::new(script.as_slice()), &answers)?;
     assert_eq!(rt; again, ended, "{name}");
-    assert!(rt; by_bytes.as_slice() == answers.as_slice(), "{name}");
     Ok(())
 }
 

@@ -78,18 +78,78 @@ fn try_cut<R: Abort>(
     if bytes > LONG {
         return Ok(());
     }
-    let mut by_bytes: Vec<u8> = Vec::new(alloc);
-    let again = run_with(alloc, config, Stutter::new(script), &mut by_bytes)?;
+    let (again, by_bytes) = run_by_bytes(alloc, config, Stutter::new(script))?;
     assert_eq!(rt; again, ended, "cut after {bytes} bytes");
     assert!(rt;
         by_bytes.as_slice() == at_once.as_slice(),
         "cut after {bytes} bytes"
     );
-    let mut failed: Vec<u8> = Vec::new(alloc);
-    let fault = run_with(alloc, config, Stutter::failing(script), &mut failed)?;
+    try_failing(rt, alloc, config, script, whole)
+}
+
+// How a script ends that is read byte by byte, and what is written for it.
+fn run_by_bytes(
+    alloc: Global,
+    config: &Config,
+    reader: Stutter<'_>,
+) -> Result<(Result<Summary, RunFault>, Vec<u8>), Fail> {
+    let mut written: Vec<u8> = Vec::new(alloc);
+    let ended = run_with(alloc, config, reader, &mut written)?;
+    Ok((ended, written))
+}
+
+// Where a read fails instead of the end, the answers of the whole lines are written.
+fn try_failing<R: Abort>(
+    rt: &R,
+    alloc: Global,
+    config: &Config,
+    script: &[u8],
+    whole: &[u8],
+) -> Result<(), Fail> {
+    let bytes = script.len();
+    let (fault, failed) = run_by_bytes(alloc, config, Stutter::failing(script))?;
     assert_eq!(rt; fault, Err(RunFault::Read), "fails after {bytes} bytes");
     assert!(rt; failed.as_slice() == whole, "fails after {bytes} bytes");
     Ok(())
+}
+
+// Adds an exchange to a script that is answered by `answers`, and runs it cut after each byte of the exchange.
+fn try_exchange<R: Abort>(
+    rt: &R,
+    alloc: Global,
+    config: &Config,
+    script: &mut Vec<u8>,
+    answers: &[u8],
+    exchange: &Exchange,
+) -> Result<(), Fail> {
+    let start = script.len();
+    put_exchange(script, exchange)?;
+    let end = script.len();
+    let is_long = end.saturating_sub(start) > LONG;
+    let last = if is_long {
+        start.saturating_add(FIRST)
+    } else {
+        end
+    };
+    for cut in start..last {
+        let front = script.as_slice().get(..cut).unwrap_or(b"");
+        try_cut(rt, alloc, config, front, answers)?;
+    }
+    Ok(())
+}
+
+/// Runs a whole script, for which these answers are written, and tells how it ended.
+pub fn run_whole<R: Abort, I: Read + Drop>(
+    rt: &R,
+    config: &Config,
+    name: &str,
+    reader: I,
+    answers: &Vec<u8>,
+) -> Result<Result<Summary, RunFault>, Fail> {
+    let mut written: Vec<u8> = Vec::new(*answers.allocator());
+    let ended = run_with(*answers.allocator(), config, reader, &mut written)?;
+    assert!(rt; written.as_slice() == answers.as_slice(), "{name}");
+    Ok(ended)
 }
 
 // Runs the row's script whole, and cut after each of its bytes.
@@ -98,26 +158,19 @@ fn try_row<R: Abort>(rt: &R, alloc: Global, row: &Row) -> Result<(), Fail> {
     let mut script: Vec<u8> = Vec::new(alloc);
     let mut answers: Vec<u8> = Vec::new(alloc);
     for exchange in row.exchanges {
-        let start = script.len();
-        put_exchange(&mut script, exchange)?;
-        let end = script.len();
-        let is_long = end.saturating_sub(start) > LONG;
-        let last = if is_long {
-            start.saturating_add(FIRST)
-        } else {
-            end
-        };
-        for cut in start..last {
-            let front = script.as_slice().get(..cut).unwrap_or(b"");
-            try_cut(rt, alloc, &config, front, answers.as_slice())?;
-        }
+        try_exchange(
+            rt,
+            alloc,
+            &config,
+            &mut script,
+            answers.as_slice(),
+            exchange,
+        )?;
         answers.extend_from_slice(exchange.answer.as_bytes())?;
     }
     let name = row.name;
-    let mut written: Vec<u8> = Vec::new(alloc);
-    let ended = run_with(alloc, &config, script.as_slice(), &mut written)?;
+    let ended = run_whole(rt, &config, name, script.as_slice(), &answers)?;
     assert!(rt; ended.is_ok(), "{name}");
-    assert!(rt; written.as_slice() == answers.as_slice(), "{name}");
     try_cut(rt, alloc, &config, script.as_slice(), answers.as_slice())
 }
 

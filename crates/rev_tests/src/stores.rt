@@ -3,11 +3,12 @@ use crate::classes::{DEFAULTS, FAULTS};
 use rev_inverse::{Record, Store};
 use rev_items::{Key, KeyFault};
 use rev_model::{Globals, Settings};
+use std::alloc::Global;
+use std::process::Abort;
 use std::test::Fail;
 
-#[test]
-fn opens(rt: HostRuntime) -> Result<(), Fail> {
-    let store = Store::open(rt.alloc(), DEFAULTS)?;
+// What an empty store tells.
+fn look_at<R: Abort>(rt: &R, store: &Store<Global>) {
     assert_eq!(rt; store.table().last(), 42);
     assert_eq!(rt; store.limits(), (64, 64));
     assert_eq!(rt; (store.made(), store.bump_len()), (0, 0));
@@ -26,6 +27,13 @@ fn opens(rt: HostRuntime) -> Result<(), Fail> {
         },
     };
     assert_eq!(rt; store.globals(), globals);
+}
+
+#[test]
+fn opens(rt: HostRuntime) -> Result<(), Fail> {
+    let store = Store::open(rt.alloc(), DEFAULTS)?;
+    look_at(&rt, &store);
+    drop(store);
     let record = Record::with_room(rt.alloc(), 64)?;
     assert_eq!(rt; record.len(), 0);
     Ok(())

@@ -5,6 +5,7 @@ use rev_inverse::Store;
 use rev_steps::{ActorStep, Step};
 use rev_undotree::{PlayFault, Session};
 use std::alloc::{AllocError, Global};
+use std::process::Abort;
 use std::test::Fail;
 
 // The most plays that a session accepts.
@@ -54,7 +55,10 @@ fn forks_nest(rt: HostRuntime) -> Result<(), Fail> {
 fn open_session(alloc: Global) -> Result<Session<Global>, Fail> {
     match Session::open(alloc, Store::open(alloc, DEFAULTS)?) {
         Ok(session) => Ok(session),
-        Err(_) => Err(Fail::new("no session")),
+        Err(refused) => {
+            drop(refused);
+            Err(Fail::new("no session"))
+        }
     }
 }
 
@@ -78,13 +82,20 @@ fn refusal(session: &mut Session<Global>) -> Option<PlayFault> {
     }
 }
 
+// Uses all numbers up; then a play is refused.
+fn use_up<R: Abort>(rt: &R, session: &mut Session<Global>) -> Result<(), Fail> {
+    for _ in 0..NODES {
+        come_and_go(session)?;
+    }
+    assert_eq!(rt; session.issued(), NODES);
+    assert_eq!(rt; refusal(session), Some(PlayFault::TooManyNodes));
+    Ok(())
+}
+
 #[test]
 fn numbers_run_out(rt: HostRuntime) -> Result<(), Fail> {
     let mut session = open_session(rt.alloc())?;
-    for _ in 0..NODES {
-        come_and_go(&mut session)?;
-    }
-    assert_eq!(rt; session.issued(), NODES);
-    assert_eq!(rt; refusal(&mut session), Some(PlayFault::TooManyNodes));
-    Ok(())
+    let used = use_up(&rt, &mut session);
+    drop(session);
+    used
 }
