@@ -1,7 +1,7 @@
 //! One move, with what its record then tells.
-ghost use Rattle.std.specs.Prelude.{◌≡◌, ◌+◌, ◌<◌, length, None};
+ghost use Rattle.std.specs.Prelude.{◌≡◌, ◌+◌, ◌<◌, ◌++◌, ◌∷◌, [], length, None};
 ghost use Rattle.rev_model.specs.State.{WellFormed};
-ghost use Rattle.rev_model.specs.Move.{moved, Possible};
+ghost use Rattle.rev_model.specs.Move.{moved, Possible, reverse};
 ghost use Rattle.rev_model.specs.Notes.{removed};
 ghost use Rattle.rev_moves.specs.Leads.{Leads};
 ghost use Rattle.rev_moves.specs.Seen.{plain_move, IsSingle};
@@ -18,6 +18,8 @@ pub fn change<A: Allocator>(store: &mut Store<A>, next: Move<A>, undo: &mut Reco
     requires possible { Possible (plain_move next) store.old }
     requires room { length undo.old.moves < undo.old.room }
     ensures state { store.new ≡ moved (plain_move next) store.old }
+    ensures moves { undo.new.moves ≡ undo.old.moves ++ reverse (plain_move next) store.old ∷ [] }
+    ensures notes { undo.new.notes ≡ undo.old.notes ++ None ∷ [] }
     ensures made { length undo.new.moves ≡ length undo.old.moves + 1 }
     ensures room { undo.new.room ≡ undo.old.room }
     ensures well { WellFormed store.new }

@@ -283,7 +283,7 @@ debug_command ws =
     with_queue (λ n q. Debug (debugs.Queue n q)) (number_u32 (word ws 1)) (queue_of (word ws 2))
     else Bad BadCommand))
 
--- ---- all of them: by the first word, and where it names no command by its first byte (58 is `:`, 64 is `@`, 126 is `~`)
+-- ---- all of them: by the first word's first byte, where it is one that no command of a client has (58 is `:`, 64 is `@`, 126 is `~`), and else by that word
 
 abbrev pub begins : ℕ → List ℕ → Bool
 begins b [] = false
@@ -302,16 +302,17 @@ other_command w ws =
     else (if bytes_eq w (codes "lru_crawler") then crawler_command ws
     else (if bytes_eq w (codes "slabs") then slabs_command ws
     else (if bytes_eq w (codes "lru") then lru_command ws
-    else (if begins 58 w then debug_command ws
-    else (if begins 64 w || begins 126 w then actor_command ws
-    else Bad Error))))))))))))
+    else Bad Error))))))))))
 
 abbrev pub storage_or : Option StorageCommand → List (List ℕ) → Command
 storage_or None ws = other_command (word ws 0) ws
 storage_or (Some c) ws = storage_command c ws
 
 unfoldable pub command : List (List ℕ) → Command
-command ws = storage_or (storage_of (word ws 0)) ws
+command ws =
+    if begins 58 (word ws 0) then debug_command ws
+    else (if begins 64 (word ws 0) || begins 126 (word ws 0) then actor_command ws
+    else storage_or (storage_of (word ws 0)) ws)
 
 -- how many bytes such a line may have without its ending
 abbrev pub longest : List (List ℕ) → ℕ

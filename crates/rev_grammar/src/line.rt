@@ -1,5 +1,5 @@
 //! What a line asks for.
-ghost use Rattle.std.specs.Prelude.{◌≡◌, map};
+ghost use Rattle.std.specs.Prelude.{◌≡◌, ◌≤◌, map};
 ghost use Rattle.std.specs.Io.BufRead.{strip_last};
 ghost use Rattle.rev_grammar.specs.Words.{words};
 ghost use Rattle.rev_grammar.specs.Commands.{begins, other_command, command, longest, asked};
@@ -73,14 +73,7 @@ fn other_command(name: &[u8], words: &[&[u8]]) -> Command
     if name == b"lru".as_slice() {
         return lru_command(words);
     }
-    if begins(b':', name) {
-        return debug_command(words);
-    }
-    if begins(b'@', name) || begins(b'~', name) {
-        actor_command(words)
-    } else {
-        Command::Bad(BadAnswer::Error)
-    }
+    Command::Bad(BadAnswer::Error)
 }
 
 #[tactic(auto, unfolding(crate::specs::Commands::command))]
@@ -89,6 +82,12 @@ fn command_of(words: &[&[u8]]) -> Command
     ensures keyed { HasKeys result (map (λ x. x.now) words.now) }
 {
     let name = word(words, 0);
+    if begins(b':', name) {
+        return debug_command(words);
+    }
+    if begins(b'@', name) || begins(b'~', name) {
+        return actor_command(words);
+    }
     match storage_of(name) {
         Some(command) => storage_command(command, words),
         None => other_command(name, words),
@@ -97,7 +96,8 @@ fn command_of(words: &[&[u8]]) -> Command
 
 // How many bytes such a line may have without its ending.
 fn longest(words: &[&[u8]]) -> usize
-    ensures { result ≡ longest (map (λ x. x.now) words.now) }
+    ensures value { result ≡ longest (map (λ x. x.now) words.now) }
+    ensures some { 2048 ≤ result }
 {
     let name = word(words, 0);
     if name == b"get".as_slice() || name == b"gets".as_slice() {
@@ -115,7 +115,7 @@ pub fn asked(body: &[u8], parts: &[&[u8]]) -> Command
     ensures value { result ≡ asked body.now }
     ensures keyed { HasKeys result (words body.now) }
 {
-    if body.len() > longest(parts) {
+    if body.len() > 2048 && body.len() > longest(parts) {
         return Command::Bad(BadAnswer::LineTooLong);
     }
     command_of(parts)

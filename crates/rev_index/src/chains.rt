@@ -1,9 +1,8 @@
-ghost use Rattle.std.specs.Prelude.{◌≡◌, ◌≢◌, ◌<◌, ◌≤◌, ◌^◌, ℕ, length, Some, IsSome, vec_len};
+ghost use Rattle.std.specs.Prelude.{◌≡◌, ◌≢◌, ◌%◌, ◌<◌, ◌≤◌, ◌^◌, ℕ, length, Some, IsSome, vec_len};
 ghost use Rattle.rev_links.specs.declared.places.Place.TheVariants.{At};
 ghost use Rattle.rev_links.specs.Rings.{SetsNext, SetsPrevious, Between, Gap};
-ghost use Rattle.rev_index.specs.Chains.{ChainPlace, link_at, next_in, previous_in, SameShape, Closes, Opens, bucket_of};
+ghost use Rattle.rev_index.specs.Chains.{ChainPlace, link_at, next_in, previous_in, SameShape, Closes, Opens};
 
-use rev_items::Key;
 use rev_links::{Grid, Link, Place};
 use rev_model::ChunkRef;
 use std::alloc::Allocator;
@@ -26,14 +25,14 @@ pub struct Chains<A: Allocator> {
 }
 
 impl<A: Allocator> Chains<A> {
-    /// The bucket of a key.
-    pub fn bucket<B: Allocator>(&self, key: &Key<B>) -> Bucket
+    /// The bucket of the keys of a hash.
+    pub fn bucket(&self, hash: u64) -> Bucket
         requires some { 0 < vec_len self.now.ends }
         requires few { vec_len self.now.ends ≤ 2 ^ 20 }
-        ensures { result.number ≡ bucket_of (length self.now.ends.items) key.now }
+        ensures { result.number ≡ hash % length self.now.ends.items }
     {
         Bucket {
-            number: (key.hash() % self.ends.len() as u64) as u32,
+            number: (hash % self.ends.len() as u64) as u32,
         }
     }
 

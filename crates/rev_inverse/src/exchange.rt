@@ -63,22 +63,7 @@ impl<A: Allocator> Store<A> {
                 let (class, parts) = self.lift(page, form, shelf);
                 Move::Lay(page, class, parts, form)
             }
-            Move::Requeue { .. }
-            | Move::Take(_)
-            | Move::Put(_)
-            | Move::Touch(_, _)
-            | Move::Shift(_, _)
-            | Move::Count(_, _, _)
-            | Move::LastCas(_)
-            | Move::Timing(_)
-            | Move::Mover(_)
-            | Move::Settings(_)
-            | Move::BumpIn(_)
-            | Move::BumpBack
-            | Move::BumpOut
-            | Move::BumpFront(_)
-            | Move::Marks(_)
-            | Move::Unmarks(_) => unreachable!(),
+            _ => unreachable!(),
         }
     }
 

@@ -19,6 +19,9 @@ use rev_model::{Cause, ChunkRef, is_dead};
 use rev_moves::Record;
 use std::alloc::Allocator;
 
+/// How many moves it takes that an item leaves.
+pub const REMOVAL_MOVES: usize = 4;
+
 /// The item of the chunk leaves, and its chunk is free: four moves.
 pub fn remove<A: Allocator>(
     store: &mut Store<A>,
@@ -97,7 +100,7 @@ pub fn removal_moves<A: Allocator>(store: &Store<A>, key: &Key<A>) -> usize
 {
     match store.find(key) {
         None => 0,
-        Some(_) => 4,
+        Some(_) => REMOVAL_MOVES,
     }
 }
 

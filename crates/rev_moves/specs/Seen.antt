@@ -1,5 +1,5 @@
 -- A move as contracts see it.
-use Rattle.std.specs.Prelude.{ℕ, List, [], ◌∷◌, ◌≡◌, Option, Some, None}
+use Rattle.std.specs.Prelude.{List, [], ◌∷◌, ◌≡◌, Option, Some, None}
 use Rattle.rev_model.specs.Move as plain
 use Rattle.rev_model.specs.declared.Cause.{Cause}
 use Rattle.rev_model.specs.declared.Entry.TheVariants as entry

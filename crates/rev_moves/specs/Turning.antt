@@ -1,7 +1,7 @@
 -- A turn in place: from the last group on, each is played and its reverse put where it stood; at the end the record is turned over.
 use Rattle.std.specs.Prelude.{ℕ, ◌≡◌, ◌+◌, ◌-◌, ◌<◌, ◌≤◌, List, [], ◌∷◌, ◌++◌, length, slice_index_or, slice_set, take, drop, reverse, zero, suc, refl}
 use Rattle.std.proofs.Common.{sym, ◌∙◌, ap, subst, arith}
-use Rattle.std.proofs.lemmas.List.{reverse-append, reverse-reverse, length-append, append_assoc}
+use Rattle.std.proofs.lemmas.List.{reverse-append, reverse-reverse, length-append, append-nil, append_assoc}
 use Rattle.rev_model.specs.State.{State, WellFormed}
 use Rattle.rev_model.specs.Move.{Move, moved, Possible, turned, Fits}
 use Rattle.rev_model.specs.Move as move
@@ -15,11 +15,7 @@ state-append [] ys s = refl
 state-append (m ∷ xs) ys s = ap (moved m) (state-append xs ys s)
 
 pub turned-append : (xs ys : List Move) (s : State) → (turned (xs ++ ys) s).1 ≡ (turned ys s).1 ++ (turned xs (turned ys s).0).1
-turned-append [] ys s = sym (append_none (turned ys s).1)
-  where
-    append_none : (ms : List Move) → ms ++ [] ≡ ms
-    append_none [] = refl
-    append_none (m ∷ ms) = ap (λ l. m ∷ l) (append_none ms)
+turned-append [] ys s = sym (append-nil (turned ys s).1)
 turned-append (m ∷ xs) ys s =
     let u = (turned ys s).0 in
     ap (λ l. l ++ move.reverse m (turned (xs ++ ys) s).0 ∷ []) (turned-append xs ys s)
@@ -94,20 +90,13 @@ Fits-drop gs s zero f = f
 Fits-drop [] s (suc p) f = f
 Fits-drop (g ∷ gs) s (suc p) f = Fits-drop gs s p (Fits-append g.moves (moves_in gs) s f).0
 
-moves-more : (gs : List Group) (b : Group) → moves_in (gs ++ b ∷ []) ≡ moves_in gs ++ b.moves
-moves-more [] b = append_none b.moves
-  where
-    append_none : (ms : List Move) → ms ++ [] ≡ ms
-    append_none [] = refl
-    append_none (m ∷ ms) = ap (λ l. m ∷ l) (append_none ms)
+-- one more group
+pub moves-more : (gs : List Group) (b : Group) → moves_in (gs ++ b ∷ []) ≡ moves_in gs ++ b.moves
+moves-more [] b = append-nil b.moves
 moves-more (g ∷ gs) b = ap (λ l. g.moves ++ l) (moves-more gs b) ∙ sym (append_assoc g.moves (moves_in gs) b.moves)
 
-notes-more : (gs : List Group) (b : Group) → notes_in (gs ++ b ∷ []) ≡ notes_in gs ++ b.notes
-notes-more [] b = append_none b.notes
-  where
-    append_none : {X : Type 0} (ms : List X) → ms ++ [] ≡ ms
-    append_none [] = refl
-    append_none (m ∷ ms) = ap (λ l. m ∷ l) (append_none ms)
+pub notes-more : (gs : List Group) (b : Group) → notes_in (gs ++ b ∷ []) ≡ notes_in gs ++ b.notes
+notes-more [] b = append-nil b.notes
 notes-more (g ∷ gs) b = ap (λ l. g.notes ++ l) (notes-more gs b) ∙ sym (append_assoc g.notes (notes_in gs) b.notes)
 
 -- what the code knows of a step of a turn
@@ -172,11 +161,7 @@ ended gs s well fits q now left end from =
 -- ---- a group that is played, and its reverses at the end of a record
 
 pub leads_played : (ms xs : List Move) (s first : State) → WellFormed s → Fits xs s → LeadsBack ms s first → LeadsBack (ms ++ (turned xs s).1) (turned xs s).0 first
-leads_played ms [] s first well f leads = subst (λ l. LeadsBack l s first) (sym (append_none ms)) leads
-  where
-    append_none : (ms : List Move) → ms ++ [] ≡ ms
-    append_none [] = refl
-    append_none (m ∷ ms) = ap (λ l. m ∷ l) (append_none ms)
+leads_played ms [] s first well f leads = subst (λ l. LeadsBack l s first) (sym (append-nil ms)) leads
 leads_played ms (m ∷ xs) s first well f leads =
     let t = (turned xs s).0 in
     subst (λ l. LeadsBack l (moved m t) first) (append_assoc ms (turned xs s).1 (move.reverse m t ∷ []))

@@ -86,23 +86,7 @@ impl<A: Allocator> Move<A> {
             Move::Enter { .. } => 3,
             Move::Leave { .. } => 3,
             Move::Requeue { .. } => 2,
-            Move::Take(_)
-            | Move::Put(_)
-            | Move::Touch(_, _)
-            | Move::Shift(_, _)
-            | Move::Lay(_, _, _, _)
-            | Move::Lift(_, _, _)
-            | Move::Count(_, _, _)
-            | Move::LastCas(_)
-            | Move::Timing(_)
-            | Move::Mover(_)
-            | Move::Settings(_)
-            | Move::BumpIn(_)
-            | Move::BumpBack
-            | Move::BumpOut
-            | Move::BumpFront(_)
-            | Move::Marks(_)
-            | Move::Unmarks(_) => 1,
+            _ => 1,
         }
     }
 }

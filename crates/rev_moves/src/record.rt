@@ -59,6 +59,7 @@ impl<A: Allocator> Record<A> {
         requires { length self.old.moves + length (plain_moves undo) ≤ self.old.room }
         ensures moves { self.new.moves ≡ self.old.moves ++ plain_moves undo }
         ensures notes { self.new.notes ≡ self.old.notes ++ plain_notes undo }
+        ensures groups { self.new.groups ≡ self.old.groups ++ group_of undo ∷ [] }
         ensures room { self.new.room ≡ self.old.room }
     {
         let count = undo.count();

@@ -6,7 +6,7 @@ use Rattle.std.proofs.lemmas.List.{take_more, take-append-drop}
 use Rattle.std.proofs.lemmas.List.Folds.{list_all_more, list_all_at}
 use Rattle.std.specs.List.{list_all}
 use Rattle.std.specs.Char.{is_ascii_digit}
-use Rattle.rev_model.specs.Client.{is_digit, digits_from, is_number}
+use Rattle.rev_model.specs.Client.{is_digit, digits_from}
 use Rattle.rev_rewriting.specs.Numbers.{number_in}
 
 digits-append : (n : ℕ) (xs ys : List ℕ) → digits_from n (xs ++ ys) ≡ digits_from (digits_from n xs) ys

@@ -1,12 +1,11 @@
 -- That a draft of the key's live item is the plan to rewrite it, and that the plans are those of the commands.
-use Rattle.std.specs.Prelude.{ℕ, ◌≡◌, ◌<◌, cond, List, [], ◌++◌, Option, None, Some, length, Bool, true, false, refl}
+use Rattle.std.specs.Prelude.{ℕ, ◌≡◌, cond, List, [], ◌++◌, None, Some, Bool, true, false, refl}
 use Rattle.std.proofs.Common.{sym, ◌∙◌, ap, subst, IfOk, Result}
 use Rattle.std.proofs.lemmas.Result.{IfOk-weaker}
 use Rattle.std.specs.Fmt.{decimal}
 use Rattle.rev_items.specs.Plain.{PlainItem}
-use Rattle.rev_items.specs.Rules.{footprint, footprint_of}
-use Rattle.rev_classes.specs.Sizes.{class_from}
-use Rattle.rev_model.specs.State.{State, Fixed}
+use Rattle.rev_items.specs.Rules.{footprint_of}
+use Rattle.rev_model.specs.State.{State}
 use Rattle.rev_model.specs.Words.{class_of, new_item}
 use Rattle.rev_model.specs.declared.Outcome.{Outcome}
 use Rattle.rev_model.specs.declared.Outcome.TheVariants.{TooLarge, NotStored, NotFound, NotNumber, Stored, Number}

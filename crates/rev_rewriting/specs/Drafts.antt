@@ -1,5 +1,5 @@
 -- What a plan is to do, and that it does what the command says.
-use Rattle.std.specs.Prelude.{ℕ, ◌≡◌, List, [], Option, None, Some}
+use Rattle.std.specs.Prelude.{ℕ, ◌≡◌, List, [], None, Some}
 use Rattle.rev_items.specs.Plain.{PlainItem}
 use Rattle.rev_items.specs.Rules.{footprint_of}
 use Rattle.rev_model.specs.State.{State}

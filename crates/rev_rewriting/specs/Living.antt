@@ -8,7 +8,7 @@ use Rattle.rev_model.specs.State.{State, WellFormed, item_at, find}
 use Rattle.rev_model.specs.declared.ChunkRef.{ChunkRef}
 use Rattle.rev_model.specs.Words.{is_dead}
 use Rattle.rev_model.specs.Client.{lookup, looked_at, looked_item}
-use Rattle.rev_model.specs.Causes.{look_removals, looked_removals, dead_removals}
+use Rattle.rev_model.specs.Causes.{look_removals}
 
 abbrev pub item_of : Option (ChunkRef × PlainItem) → Option PlainItem
 item_of o = option_map (λ f. f.1) o

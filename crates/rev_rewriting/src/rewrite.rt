@@ -10,7 +10,7 @@ ghost use Rattle.rev_rewriting.specs.Drafts.{Drafted, Fits, missed, unchanged, c
 use crate::plan::{Draft, Plan};
 use rev_inverse::Store;
 use rev_items::Key;
-use rev_lookup::look::{lookup, removal_moves};
+use rev_lookup::look::{REMOVAL_MOVES, lookup, removal_moves};
 use rev_maintainer::room::plan_room;
 use rev_model::Outcome;
 use rev_moves::Record;
@@ -49,7 +49,7 @@ fn rewrite<A: Allocator + Clone>(
     ensures told { IfOk result (λ p. TellsAll p.1 store.new (rewrite_in_removals store.old draft.class key.now)) }
 {
     let plan = plan_room(store, draft.class)?;
-    let moves = plan.moves + removal_moves(store, key) + 4;
+    let moves = plan.moves + REMOVAL_MOVES + 4;
     let mut undo = Record::with_room(store.alloc()?, moves)?;
     let verb = StoreVerb::Replace;
     let outcome = place(store, verb, draft.class, plan.page, draft.item, &mut undo);

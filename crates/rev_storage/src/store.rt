@@ -17,7 +17,7 @@ use crate::place::place;
 use crate::verbs::{failed_moves, give_up};
 use rev_inverse::Store;
 use rev_items::{Item, Key, moment};
-use rev_lookup::look::removal_moves;
+use rev_lookup::look::REMOVAL_MOVES;
 use rev_maintainer::room::plan_room;
 use rev_model::Outcome;
 use rev_moves::Record;
@@ -65,7 +65,7 @@ fn store_in<A: Allocator + Clone>(
     ensures told { IfOk result (λ p. TellsAll p.1 store.new (store_in_removals store.old (plain_verb verb) class key.now)) }
 {
     let plan = plan_room(store, class)?;
-    let moves = plan.moves + removal_moves(store, key) + 4;
+    let moves = plan.moves + REMOVAL_MOVES + 4;
     let item = item_for(store, key, flags, exptime, value)?;
     // the record comes last, so that the room that it gives back lies at the end of the heap
     let mut undo = Record::with_room(store.alloc()?, moves)?;

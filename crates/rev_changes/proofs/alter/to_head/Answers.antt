@@ -1,4 +1,4 @@
-use Rattle.std.specs.Prelude.{None, ◌≡◌, ◌+◌, length}
+use Rattle.std.specs.Prelude.{None, length}
 use Rattle.std.proofs.Common.{ap, ◌∙◌}
 use Rattle.std.proofs.lemmas.List.{length-append}
 use Rattle.rev_model.specs.Places.{queue_in}

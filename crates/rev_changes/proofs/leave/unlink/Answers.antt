@@ -1,4 +1,4 @@
-use Rattle.std.specs.Prelude.{None, ◌≡◌, ◌+◌, length}
+use Rattle.std.specs.Prelude.{None, length}
 use Rattle.std.proofs.Common.{ap, subst, ◌∙◌}
 use Rattle.std.proofs.lemmas.List.{length-append}
 use Rattle.rev_model.specs.Drops.{drop_take, drop_unbind, drop_fill}

@@ -1,8 +1,8 @@
-use Rattle.std.specs.Prelude.{None, ◌≡◌, ◌+◌, ◌++◌, ◌∷◌, [], length, reverse}
+use Rattle.std.specs.Prelude.{None, ◌≡◌, ◌++◌, ◌∷◌, [], length, reverse}
 use Rattle.std.proofs.Common.{ap, sym, subst, ◌∙◌, arith}
 use Rattle.std.proofs.lemmas.List.{length-append}
-use Rattle.rev_model.specs.Move.{Move, Fits, turned, moved, reverse as back}
-use Rattle.rev_moves.specs.Seen.{plain_moves, plain_move, plain_notes}
+use Rattle.rev_model.specs.Move.{Fits, turned, reverse as back}
+use Rattle.rev_moves.specs.Seen.{plain_moves, plain_move}
 use Rattle.rev_changes.specs.Telling.{tells_made}
 use Rattle.rev_changes.proofs.moving.change.Goals as goal
 
@@ -16,6 +16,12 @@ make-requires-clause-room g c =
 
 pub returns-clause-state : goal.returns-clause-state
 returns-clause-state g c = c.make.ensures.state ∙ ap (λ l. (turned l c.args.store.now).0) c.requires.single.0
+
+pub returns-clause-moves : goal.returns-clause-moves
+returns-clause-moves g c = c.make.ensures.moves ∙ ap (λ l. c.args.undo.now.moves ++ (turned l c.args.store.now).1) c.requires.single.0
+
+pub returns-clause-notes : goal.returns-clause-notes
+returns-clause-notes g c = c.make.ensures.notes ∙ ap (λ l. c.args.undo.now.notes ++ reverse l) c.requires.single.1
 
 pub returns-clause-made : goal.returns-clause-made
 returns-clause-made g c =

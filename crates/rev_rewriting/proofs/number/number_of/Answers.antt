@@ -1,4 +1,4 @@
-use Rattle.std.proofs.Common.{◌≡◌, ◌<◌, ◌≤◌, ◌+◌, ◌*◌, ◌^◌, ◌∙◌, Some, length, take, get_or, arith, ap, sym}
+use Rattle.std.proofs.Common.{◌+◌, ◌∙◌, Some, get_or, arith, ap}
 use Rattle.rev_rewriting.proofs.Digits.{number-bad, number-wide, number-is, digits-more, digits_all-more, digit-yes, digit-no}
 use Rattle.rev_rewriting.proofs.number.number_of.Goals as goal
 

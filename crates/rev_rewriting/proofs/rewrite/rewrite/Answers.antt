@@ -1,18 +1,24 @@
-use Rattle.std.specs.Prelude.{ℕ, List, length, ◌≡◌}
-use Rattle.std.proofs.Common.{sym, ◌∙◌, ap, subst, arith}
+use Rattle.std.specs.Prelude.{length, ◌≡◌}
+use Rattle.std.proofs.Common.{◌∙◌, ap, subst, arith}
 use Rattle.rev_items.specs.Plain.{PlainItem}
 use Rattle.rev_model.specs.State.{find}
 use Rattle.rev_model.specs.Client.{Replaces}
 use Rattle.rev_model.specs.Causes.{store_in_removals}
-use Rattle.rev_model.specs.Track.{Removal}
 use Rattle.rev_model.specs.Undo.{leads_none}
 use Rattle.rev_model.specs.declared.Outcome.{Outcome}
 use Rattle.rev_moves.specs.Record.{PlainRecord}
 use Rattle.rev_changes.specs.Telling.{TellsAll, tells_all}
-use Rattle.rev_lookup.specs.Looking.{removal_need, removal_most}
+use Rattle.rev_lookup.specs.Looking.{removal_most}
 use Rattle.rev_rewriting.specs.Rewriting.{rewritten_as, told_as}
 use Rattle.rev_rewriting.proofs.Needs.{room_most}
 use Rattle.rev_rewriting.proofs.rewrite.rewrite.Goals as goal
+
+pub place-outcome-requires-clause-room : goal.place-outcome-requires-clause-room
+place-outcome-requires-clause-room g c =
+    omega (arith, removal_most (find c.args.store.now c.args.draft.item.key), ap (λ (r : PlainRecord). length r.moves) c.in_ok-undo.ensures, ap (λ (r : PlainRecord). r.room) c.in_ok-undo.ensures, c.in_ok-plan.ensures.moves)
+
+pub place-outcome-requires-clause-plan : goal.place-outcome-requires-clause-plan
+place-outcome-requires-clause-plan g c = c.in_ok-plan.ensures.page
 
 pub returns-clause-step : goal.returns-clause-step
 returns-clause-step g c =

@@ -13,6 +13,13 @@ use Rattle.rev_storage.specs.Placing.{room_most}
 use Rattle.rev_storage.proofs.Settling.{stored_as}
 use Rattle.rev_storage.proofs.store.store_in.Goals as goal
 
+pub place-outcome-requires-clause-room : goal.place-outcome-requires-clause-room
+place-outcome-requires-clause-room g c =
+    omega (arith, removal_most (find c.args.store.now c.in_ok-item.item.key), ap (λ (r : PlainRecord). length r.moves) c.in_ok-undo.ensures, ap (λ (r : PlainRecord). r.room) c.in_ok-undo.ensures, c.in_ok-plan.ensures.moves)
+
+pub place-outcome-requires-clause-plan : goal.place-outcome-requires-clause-plan
+place-outcome-requires-clause-plan g c = c.in_ok-plan.ensures.page
+
 pub returns-clause-step : goal.returns-clause-step
 returns-clause-step g c =
     stored_as c.args.store.now (plain_verb c.args.verb) c.args.class c.args.key.now c.args.value.now.value.items c.args.flags c.args.exptime (to_z w32 (of_z w32 c.args.exptime)) c.in_ok-item.item (c.place-outcome.new.store, c.place-outcome.result)

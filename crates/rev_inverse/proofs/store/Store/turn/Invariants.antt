@@ -1,5 +1,4 @@
 use Rattle.std.proofs.Common.{◌≡◌, ◌+◌, length}
-use Rattle.rev_moves.specs.Record.{IsWhole}
 use Rattle.rev_moves.specs.Turning.{IsTurnedFrom}
 use Rattle.rev_inverse.proofs.store.Store.turn.Given as goal
 
