@@ -85,12 +85,12 @@ pub fn link<A: Allocator>(
     let queue = queue_of_new(store.globals(), item.moment());
     let cas = item.cas();
     let enter = Move::Enter {
+        queue,
+        cause: None,
+        chunk,
         class,
         item,
         after: None,
-        chunk,
-        cause: None,
-        queue,
     };
     store.make(enter, undo);
     change(store, Move::LastCas(cas), undo);

@@ -38,11 +38,11 @@ pub fn unlink<A: Allocator>(
     ensures told { Tells undo.old store.old undo.new store.new (removal (item_at store.old chunk) cause) }
 {
     let leave = Move::Leave {
+        queue,
+        cause,
+        chunk,
         class,
         under: None,
-        chunk,
-        cause,
-        queue,
     };
     store.make(leave, undo);
 }

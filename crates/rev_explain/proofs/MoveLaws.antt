@@ -99,8 +99,8 @@ queue-through home lru (m ∷ ms) rest x =
 
 -- what a group does to the key where `rest` is played before it, or else what that does
 abbrev pub change_or : {A : Type 0} → List ℕ → Option ChunkRef → List Move → kept.Move A → Option KeyChange → Option KeyChange
-change_or k home rest (stored.Enter c i a x n q) o = cond (same_key k i.key) (Some (record { leads = Some x; note = n })) o
-change_or k home rest (stored.Leave c u x n q) o = cond (keyed k home rest x) (Some (record { leads = None; note = n })) o
+change_or k home rest (stored.Enter q n x c i a) o = cond (same_key k i.key) (Some (record { leads = Some x; note = n })) o
+change_or k home rest (stored.Leave q n x c u) o = cond (keyed k home rest x) (Some (record { leads = None; note = n })) o
 change_or k home rest (stored.Shift a b) o = cond (keyed k home rest a) (Some (record { leads = Some b; note = note_of o })) o
 change_or k home rest m o = o
 
@@ -109,9 +109,9 @@ shifted-by b None = refl
 shifted-by b (Some t) = refl
 
 change-through : {A : Type 0} → (k : List ℕ) (home : Option ChunkRef) (m : kept.Move A) (rest : List Move) (more : List (Option Cause)) → key_change k home (plain_moves m ++ rest) (plain_notes m ++ more) ≡ change_or k home rest m (key_change k home rest more)
-change-through k home (stored.Enter c i a x n q) rest more =
+change-through k home (stored.Enter q n x c i a) rest more =
     ap (λ b. cond (cond b (same_key k i.key) (keyed k home rest x)) (Some (record { leads = Some x; note = n })) (key_change k home rest more)) (same_chunk-self x)
-change-through k home (stored.Leave c u x n q) rest more = refl
+change-through k home (stored.Leave q n x c u) rest more = refl
 change-through k home (stored.Requeue c a x p q) rest more = refl
 change-through k home (stored.Take l) rest more = refl
 change-through k home (stored.Put l) rest more = refl

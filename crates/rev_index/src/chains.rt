@@ -26,13 +26,13 @@ pub struct Chains<A: Allocator> {
 
 impl<A: Allocator> Chains<A> {
     /// The bucket of the keys of a hash.
-    pub fn bucket(&self, hash: u64) -> Bucket
+    pub fn bucket(&self, hash: u32) -> Bucket
         requires some { 0 < vec_len self.now.ends }
         requires few { vec_len self.now.ends ≤ 2 ^ 20 }
         ensures { result.number ≡ hash % length self.now.ends.items }
     {
         Bucket {
-            number: (hash % self.ends.len() as u64) as u32,
+            number: hash % self.ends.len() as u32,
         }
     }
 

@@ -9,7 +9,7 @@ ghost use Rattle.rev_model.specs.Words.{header_of};
 ghost use Rattle.rev_index.specs.Index.{PlainIndex, bound, unbound, empty_index};
 
 use crate::chains::Chains;
-use crate::item_table::{ItemTable, hashed, unhashed};
+use crate::item_table::ItemTable;
 use crate::making::empty_chains;
 use crate::parts::Slots;
 use crate::seek::{home, seek};
@@ -112,7 +112,7 @@ impl<A: Allocator> Index<A> {
         ensures before { result ≡ map.get self.old.content chunk }
         ensures after { self.new ≡ record self.old { content = put_at self.old.content chunk item } }
     {
-        unhashed(self.items.replace(chunk, hashed(item)))
+        self.items.replace(chunk, item)
     }
 
     /// Exchanges bits, time and moment of a chunk's item, and gives the old ones. It takes no memory.

@@ -1,87 +1,18 @@
-ghost use Rattle.std.specs.Prelude.{◌≡◌, ◌<◌, ◌↔◌, ℕ, List, [], length, IfOk, IfSome, IsSome, IsTrue, Some, slice_index_or, slice_set};
-ghost use Rattle.std.specs.Option.{option_copied, option_map};
-ghost use Rattle.rev_items.specs.Hash.{hash_of};
+ghost use Rattle.std.specs.Prelude.{◌≡◌, ◌<◌, ℕ, List, [], length, IfOk, IsSome, Some, slice_index_or, slice_set};
+ghost use Rattle.std.specs.Option.{option_copied};
 ghost use Rattle.rev_links.specs.Grids.{cell_at, with_cell, away};
 ghost use Rattle.rev_items.specs.Plain.{PlainItem};
 ghost use Rattle.rev_model.specs.Move.{touched, touched_of};
 ghost use Rattle.rev_index.specs.Made.{at};
 
-use rev_items::{Item, Key};
+use rev_items::Item;
 use rev_model::{ChunkRef, Touched};
 use std::alloc::{AllocError, Allocator};
 use std::marker::Model;
 use std::mem;
 
-/// An item beside the hash of its key: a search along a chain passes by the items of other hashes and reads nothing of
-/// them.
-#[derive(Drop)]
-pub struct HashedItem<A: Allocator> {
-    hash: u64,
-    item: Item<A>,
-}
-
-impl<A: Allocator> Model for HashedItem<A> {
-    ghost use Rattle.std.specs.Prelude.{◌≡◌};
-    ghost use Rattle.rev_items.specs.Hash.{hash_of};
-    ghost use Rattle.rev_items.specs.Plain.{PlainItem};
-
-    ghost Value = { PlainItem };
-
-    ghost view = { λ h. h.item };
-
-    ghost invariant = { λ h. h.hash ≡ hash_of h.item.key };
-}
-
-impl<A: Allocator> HashedItem<A> {
-    /// The hash of the item's key.
-    pub fn hash(&self) -> u64
-        ensures { result ≡ hash_of self.now.key }
-    {
-        self.hash
-    }
-
-    /// Whether the item has this key.
-    pub fn has_key<B: Allocator>(&self, key: &Key<B>) -> bool
-        ensures { IsTrue result ↔ (self.now.key ≡ key.now) }
-    {
-        self.hash == key.hash() && self.item.key().is_same(key)
-    }
-
-    // Exchanges bits, time and moment, and gives the old ones.
-    fn touch(&mut self, to: Touched) -> Touched
-        ensures before { result ≡ touched_of self.old }
-        ensures after { self.new ≡ touched to self.old }
-    {
-        let (bits, time, moment) = self.item.touch(to.bits, to.time, to.moment);
-        Touched { bits, time, moment }
-    }
-}
-
-/// An item, if there is one, beside its key's hash.
-pub fn hashed<A: Allocator>(item: Option<Item<A>>) -> Option<HashedItem<A>>
-    ensures { result ≡ item }
-{
-    match item {
-        Some(item) => Some(HashedItem {
-            hash: item.key().hash(),
-            item,
-        }),
-        None => None,
-    }
-}
-
-/// The item alone.
-pub fn unhashed<A: Allocator>(hashed: Option<HashedItem<A>>) -> Option<Item<A>>
-    ensures { result ≡ hashed }
-{
-    match hashed {
-        Some(hashed) => Some(hashed.item),
-        None => None,
-    }
-}
-
 /// What each slot of a page holds.
-pub type PageItems<A> = Vec<Option<HashedItem<A>>, A>;
+pub type PageItems<A> = Vec<Option<Item<A>>, A>;
 
 /// What the slots of all pages hold. The table of pages is made once, and a page is there or away. Unlike a `Grid` it
 /// can be asked of slots that are not there, and changes an item in its place.
@@ -120,26 +51,16 @@ impl<A: Allocator> ItemTable<A> {
         self.pages[usize::from(page)] = Some(items);
     }
 
-    /// The item of a chunk, with its hash: none too where its page or its slot is not there.
-    pub fn hashed(&self, chunk: ChunkRef) -> Option<&HashedItem<A>>
+    /// The item of a chunk: none too where its page or its slot is not there.
+    pub fn item(&self, chunk: ChunkRef) -> Option<&Item<A>>
         ensures { option_copied result ≡ at self.now chunk }
     {
         let items = self.pages.get(usize::from(chunk.page))?.as_ref()?;
         items.get(usize::from(chunk.slot))?.as_ref()
     }
 
-    /// The item of a chunk: none too where its page or its slot is not there.
-    pub fn item(&self, chunk: ChunkRef) -> Option<&Item<A>>
-        ensures { option_copied result ≡ at self.now chunk }
-    {
-        match self.hashed(chunk) {
-            Some(hashed) => Some(&hashed.item),
-            None => None,
-        }
-    }
-
     /// Exchanges what a chunk holds.
-    pub fn replace(&mut self, chunk: ChunkRef, item: Option<HashedItem<A>>) -> Option<HashedItem<A>>
+    pub fn replace(&mut self, chunk: ChunkRef, item: Option<Item<A>>) -> Option<Item<A>>
         requires { IsSome (cell_at self.old chunk.page chunk.slot) }
         ensures before { cell_at self.old chunk.page chunk.slot ≡ Some result }
         ensures after { self.new ≡ with_cell self.old chunk.page chunk.slot item }
@@ -160,7 +81,10 @@ impl<A: Allocator> ItemTable<A> {
     {
         match &mut self.pages[usize::from(chunk.page)] {
             Some(items) => match &mut items[usize::from(chunk.slot)] {
-                Some(hashed) => hashed.touch(to),
+                Some(item) => {
+                    let (bits, time, moment) = item.touch(to.bits, to.time, to.moment);
+                    Touched { bits, time, moment }
+                }
                 None => unreachable!(),
             },
             None => unreachable!(),

@@ -14,7 +14,7 @@ use std::alloc::Allocator;
 fn has_key<A: Allocator, B: Allocator>(items: &ItemTable<A>, chunk: ChunkRef, key: &Key<B>) -> bool
     ensures { result ≡ is_named key.now (at items.now chunk) }
 {
-    match items.hashed(chunk) {
+    match items.item(chunk) {
         Some(item) => item.has_key(key),
         None => false,
     }
@@ -52,7 +52,7 @@ pub fn home<A: Allocator>(chains: &Chains<A>, items: &ItemTable<A>, chunk: Chunk
     requires item { IsSome (at items.now chunk) }
     ensures { IsHome (length chains.now.ends.items) result.number (at items.now chunk) }
 {
-    match items.hashed(chunk) {
+    match items.item(chunk) {
         Some(item) => chains.bucket(item.hash()),
         None => unreachable!(),
     }

@@ -22,37 +22,37 @@ impl<A: Allocator> Store<A> {
     {
         match next {
             Move::Enter {
+                queue,
+                cause,
+                chunk,
                 class,
                 item,
                 after,
-                chunk,
-                cause,
-                queue,
             } => {
                 let under = self.enter(class, queue, chunk, after, item);
                 Move::Leave {
+                    queue,
+                    cause,
+                    chunk,
                     class,
                     under,
-                    chunk,
-                    cause,
-                    queue,
                 }
             }
             Move::Leave {
+                queue,
+                cause,
+                chunk,
                 class,
                 under,
-                chunk,
-                cause,
-                queue,
             } => {
                 let (after, item) = self.leave(class, queue, chunk, under);
                 Move::Enter {
+                    queue,
+                    cause,
+                    chunk,
                     class,
                     item,
                     after,
-                    chunk,
-                    cause,
-                    queue,
                 }
             }
             Move::Lay(page, class, parts, form) => {

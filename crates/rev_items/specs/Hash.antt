@@ -1,11 +1,11 @@
--- FNV-1a with 64 bits, by which keys are spread over buckets.
+-- FNV-1a with 32 bits, by which keys are spread over buckets.
 use Rattle.std.specs.Prelude.{ℕ, ◌*◌, ◌%◌, ◌^◌, List, fold}
 use Rattle.std.specs.Int.Bits.{bit_xor}
 
 -- one byte more
 abbrev pub hash_step : ℕ → ℕ → ℕ
-hash_step h byte = (bit_xor h byte * 1099511628211) % 2 ^ 64
+hash_step h byte = (bit_xor h byte * 16777619) % 2 ^ 32
 
 -- from the offset basis on
 unfoldable pub hash_of : List ℕ → ℕ
-hash_of bytes = fold hash_step 14695981039346656037 bytes
+hash_of bytes = fold hash_step 2166136261 bytes

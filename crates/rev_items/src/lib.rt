@@ -48,7 +48,7 @@ pub struct Bits {
 #[derive(Drop)]
 pub struct Key<A: Allocator> {
     bytes: Vec<u8, A>,
-    hash: u64,
+    hash: u32,
 }
 
 impl<A: Allocator> Model for Key<A> {
@@ -63,8 +63,7 @@ impl<A: Allocator> Model for Key<A> {
     ghost invariant = { λ k. IsKey k.bytes.items × (k.hash ≡ hash_of k.bytes.items) };
 }
 
-// What an item holds. Its data are shared with the step that brought them; their length stands here too, so that a
-// footprint reads no further.
+// What an item holds. Its data are shared with the step that brought them; their length stands here too.
 #[derive(Drop)]
 struct Held<A: Allocator> {
     key: Key<A>,
@@ -77,21 +76,26 @@ struct Held<A: Allocator> {
     bits: Bits,
 }
 
-/// What a chunk holds. It lies behind one pointer, so that lists of slots and records of moves hold just that.
+/// What a chunk holds. It lies behind one pointer; what a queue and an index ask of an item that enters or leaves, its
+/// footprint and its key's hash, stands beside the pointer, and they read no further.
 #[derive(Drop)]
 pub struct Item<A: Allocator> {
     held: Box<Held<A>, A>,
+    hash: u32,
+    footprint: u32,
 }
 
 impl<A: Allocator> Model for Item<A> {
     ghost use Rattle.std.specs.Prelude.{length, ◌≡◌, ◌≤◌};
+    ghost use Rattle.rev_items.specs.Hash.{hash_of};
     ghost use Rattle.rev_items.specs.Plain.{PlainItem};
+    ghost use Rattle.rev_items.specs.Rules.{footprint as footprint_bytes};
 
     ghost Value = { PlainItem };
 
     ghost view = { λ i. record { key = i.held.value.key; value = i.held.value.value.value.items; flags = i.held.value.flags; moment = i.held.value.moment; time = i.held.value.time; cas = i.held.value.cas; bits = i.held.value.bits } };
 
-    ghost invariant = { λ i. (i.held.value.data_length ≡ length i.held.value.value.value.items) × (i.held.value.data_length ≤ 1048576) };
+    ghost invariant = { λ i. (i.held.value.data_length ≡ length i.held.value.value.value.items) × (i.hash ≡ hash_of i.held.value.key) × (i.footprint ≡ footprint_bytes (length i.held.value.key) i.held.value.flags i.held.value.data_length) };
 }
 
 fn is_key_byte(byte: u8) -> bool
@@ -191,7 +195,7 @@ impl<A: Allocator> Key<A> {
     }
 
     /// The hash of the key's bytes.
-    pub fn hash(&self) -> u64
+    pub fn hash(&self) -> u32
         ensures { result ≡ hash_of self.now }
     {
         self.hash
@@ -227,6 +231,8 @@ impl<A: Allocator> Item<A> {
             active: false,
         };
         let data_length = value.len() as u32;
+        let hash = key.hash();
+        let footprint = footprint(key.bytes().len(), flags, u64::from(data_length)) as u32;
         let held = Held {
             key,
             value,
@@ -239,6 +245,8 @@ impl<A: Allocator> Item<A> {
         };
         Ok(Item {
             held: Box::new(alloc, held)?,
+            hash,
+            footprint,
         })
     }
 
@@ -246,6 +254,20 @@ impl<A: Allocator> Item<A> {
         ensures { result.now ≡ self.now.key }
     {
         &self.held.key
+    }
+
+    /// The hash of the key's bytes.
+    pub fn hash(&self) -> u32
+        ensures { result ≡ hash_of self.now.key }
+    {
+        self.hash
+    }
+
+    /// Whether the item has this key. The bytes of a key of another hash are not read.
+    pub fn has_key<B: Allocator>(&self, key: &Key<B>) -> bool
+        ensures { IsTrue result ↔ (self.now.key ≡ key.now) }
+    {
+        self.hash == key.hash && self.held.key.bytes.as_slice() == key.bytes.as_slice()
     }
 
     /// The item's data.
@@ -301,12 +323,7 @@ impl<A: Allocator> Item<A> {
         ensures bytes { result ≡ footprint_of self.now }
         ensures within { result < 2 ^ 32 }
     {
-        let held = &self.held;
-        footprint(
-            held.key.bytes().len(),
-            held.flags,
-            u64::from(held.data_length),
-        )
+        u64::from(self.footprint)
     }
 
     /// Whether the item is dead at `now`, after a flush of all items up to the cas number `mark`: it has expired, or

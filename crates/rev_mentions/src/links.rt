@@ -9,7 +9,7 @@ use crate::mention::Mention;
 /// A mention, with the link to the entry before it in its bucket.
 #[derive(Clone, Copy, Debug)]
 pub struct Entry {
-    pub hash: u64,
+    pub hash: u32,
     pub node: u32,
     pub earlier: u32,
 }
@@ -27,12 +27,12 @@ impl Entry {
 }
 
 // The bucket of a hash, of so many.
-fn bucket(hash: u64, count: usize) -> usize
+fn bucket(hash: u32, count: usize) -> usize
     requires { 0 < count }
     ensures value { result ≡ hash % count }
     ensures within { result < count }
 {
-    (hash % count as u64) as usize
+    hash as usize % count
 }
 
 /// Links the entry `at`, where those before it are linked: it becomes the last one of its bucket.
@@ -62,7 +62,7 @@ pub fn relink(heads: &mut [u32], entries: &mut [Entry])
 }
 
 /// The latest node up to `bound` that mentions the hash, or 0.
-pub fn seek(heads: &[u32], entries: &[Entry], hash: u64, bound: u32) -> u32
+pub fn seek(heads: &[u32], entries: &[Entry], hash: u32, bound: u32) -> u32
     requires { IsSound heads.now entries.now }
     ensures bound { result ≤ bound }
     ensures latest { (n : ℕ) → Holds (mentions_of entries.now) hash n → n ≤ bound → n ≤ result }

@@ -1,6 +1,6 @@
 /// A hash, and the node that mentions it.
 #[derive(Clone, Copy, Debug, PartialEq, Eq)]
 pub struct Mention {
-    pub hash: u64,
+    pub hash: u32,
     pub node: u32,
 }

@@ -10,8 +10,12 @@ use std::marker::Model;
 // How many buckets a new log has.
 const FIRST_BUCKETS: usize = 16;
 
+// How many entries a bucket has at most, on average: a play waits for memory at a bucket that is not near, and a look-up
+// at each entry, so that the buckets are few and the chains short.
+const ENTRIES_PER_BUCKET: usize = 4;
+
 /// Which hash was mentioned at which node, in the order of the nodes. A look-up goes back along the entries of one bucket
-/// and takes no memory; there are never fewer buckets than entries.
+/// and takes no memory; a bucket has four entries at most, on average.
 #[derive(Drop)]
 pub struct Mentions<A: Allocator> {
     heads: Vec<u32, A>,
@@ -50,7 +54,7 @@ impl<A: Allocator> Mentions<A> {
     /// Notes that the hash is mentioned at `node`. What one of the last two entries says already is left out.
     ///
     /// Err: a growth was refused, or the log has 2³² - 1 entries, and nothing is changed.
-    pub fn note(&mut self, hash: u64, node: u32) -> Result<(), AllocError>
+    pub fn note(&mut self, hash: u32, node: u32) -> Result<(), AllocError>
         requires { Within self.old node }
         ensures ok { OnOk result (Holds self.new hash node) }
         ensures kept { (h n : ℕ) → Holds self.old h n → Holds self.new h n }
@@ -66,7 +70,7 @@ impl<A: Allocator> Mentions<A> {
     }
 
     /// The latest node up to `bound` that mentions the hash, or 0: so 0 may also say that none does.
-    pub fn latest(&self, hash: u64, bound: u32) -> u32
+    pub fn latest(&self, hash: u32, bound: u32) -> u32
         ensures bound { result ≤ bound }
         ensures latest { (n : ℕ) → Holds self.now hash n → n ≤ bound → n ≤ result }
         ensures held { 0 < result → Holds self.now hash result }
@@ -75,7 +79,7 @@ impl<A: Allocator> Mentions<A> {
     }
 
     // Whether the entry `at` is there, and says that the hash is mentioned at the node.
-    fn says(&self, at: usize, hash: u64, node: u32) -> bool
+    fn says(&self, at: usize, hash: u32, node: u32) -> bool
         ensures { IsTrue result → Holds self.now hash node }
     {
         match self.entries.get(at) {
@@ -85,7 +89,7 @@ impl<A: Allocator> Mentions<A> {
     }
 
     // Whether one of the last two entries says that the hash is mentioned at the node.
-    fn ends_with(&self, hash: u64, node: u32) -> bool
+    fn ends_with(&self, hash: u32, node: u32) -> bool
         ensures { IsTrue result → Holds self.now hash node }
     {
         let count = self.entries.len();
@@ -93,21 +97,21 @@ impl<A: Allocator> Mentions<A> {
             || self.says(count.saturating_sub(2), hash, node)
     }
 
-    // Makes twice as many buckets where there are as many entries. Err: the growth was refused.
+    // Makes four times as many buckets where they have as many entries as they may. Err: the growth was refused.
     fn make_room(&mut self) -> Result<(), AllocError>
         ensures { self.new ≡ self.old }
     {
-        if self.entries.len() < self.heads.len() {
+        if self.entries.len() / ENTRIES_PER_BUCKET < self.heads.len() {
             return Ok(());
         }
-        let count = 2 * self.heads.len();
+        let count = 4 * self.heads.len();
         self.heads.resize(count, 0)?;
         relink(&mut self.heads, &mut self.entries);
         Ok(())
     }
 
     // Puts a mention behind the others. Err: the growth was refused, or there are as many as links can tell apart.
-    fn add(&mut self, hash: u64, node: u32) -> Result<(), AllocError>
+    fn add(&mut self, hash: u32, node: u32) -> Result<(), AllocError>
         requires { Within self.old node }
         ensures ok { OnOk result (Holds self.new hash node) }
         ensures kept { (h n : ℕ) → Holds self.old h n → Holds self.new h n }

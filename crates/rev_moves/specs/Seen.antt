@@ -11,8 +11,8 @@ use Rattle.rev_moves.specs.declared.moves.Move.TheVariants.{Enter, Leave, Requeu
 
 -- the plain moves of which it is made, of which the last is played first: an item without its allocator, and the number of slots for a page's parts
 abbrev pub plain_moves : {A : Type 0} → Move A → List plain.Move
-plain_moves (Enter c i a x n q) = plain.Puts (ToQueue c q (entry.Chunk x) a) ∷ plain.Binds x ∷ plain.Fills x (Some i) ∷ []
-plain_moves (Leave c o x n q) = plain.Fills x o ∷ plain.Unbinds x ∷ plain.Takes (InQueue c q (entry.Chunk x)) ∷ []
+plain_moves (Enter q n x c i a) = plain.Puts (ToQueue c q (entry.Chunk x) a) ∷ plain.Binds x ∷ plain.Fills x (Some i) ∷ []
+plain_moves (Leave q n x c o) = plain.Fills x o ∷ plain.Unbinds x ∷ plain.Takes (InQueue c q (entry.Chunk x)) ∷ []
 plain_moves (Requeue c a x p q) = plain.Puts (ToQueue c q (entry.Chunk x) a) ∷ plain.Takes (InQueue c p (entry.Chunk x)) ∷ []
 plain_moves (Take at) = plain.Takes at ∷ []
 plain_moves (Put at) = plain.Puts at ∷ []
@@ -34,8 +34,8 @@ plain_moves (Unmarks set) = plain.MarksOut set ∷ []
 
 -- the note beside each of them: a cause beside the one by which the key enters or leaves the index
 abbrev pub plain_notes : {A : Type 0} → Move A → List (Option Cause)
-plain_notes (Enter c i a x n q) = None ∷ n ∷ None ∷ []
-plain_notes (Leave c o x n q) = None ∷ n ∷ None ∷ []
+plain_notes (Enter q n x c i a) = None ∷ n ∷ None ∷ []
+plain_notes (Leave q n x c o) = None ∷ n ∷ None ∷ []
 plain_notes (Requeue c a x p q) = None ∷ None ∷ []
 plain_notes m = None ∷ []
 

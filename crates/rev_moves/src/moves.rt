@@ -15,23 +15,23 @@ use std::alloc::Allocator;
 pub enum Move<A: Allocator> {
     /// An item enters a chunk that is in no list, the index, and its queue, behind an entry or in front.
     Enter {
+        queue: Queue,
+        /// What removed the item, where this undoes a removal.
+        cause: Option<Cause>,
+        chunk: ChunkRef,
         class: usize,
         item: Item<A>,
         after: Option<Entry>,
-        chunk: ChunkRef,
-        /// What removed the item, where this undoes a removal.
-        cause: Option<Cause>,
-        queue: Queue,
     },
     /// A chunk's item leaves its queue, the index and the chunk.
     Leave {
+        queue: Queue,
+        /// What removed the item, where this is no undoing.
+        cause: Option<Cause>,
+        chunk: ChunkRef,
         class: usize,
         /// What the chunk holds from then on, for each step of ours nothing.
         under: Option<Item<A>>,
-        chunk: ChunkRef,
-        /// What removed the item, where this is no undoing.
-        cause: Option<Cause>,
-        queue: Queue,
     },
     /// A chunk goes to another queue of its class, or to another place of its own, behind an entry or in front.
     Requeue {

@@ -20,7 +20,7 @@ use rev_requests::{ClientStep, KeyCommand, Step};
 use std::alloc::{AllocError, Allocator};
 
 /// The hash of the key under which a step may store.
-fn key_hash<A: Allocator>(step: &Step<A>) -> Option<u64>
+fn key_hash<A: Allocator>(step: &Step<A>) -> Option<u32>
     ensures { none_or result ≡ step_keys (plain_step step.now) }
 {
     match step {
@@ -49,7 +49,7 @@ fn has_stored(outcome: Outcome) -> bool
 }
 
 /// The hash of the key that a step stored, where it answered `outcome`.
-fn stored_hash<A: Allocator>(step: &Step<A>, outcome: Outcome) -> Option<u64>
+fn stored_hash<A: Allocator>(step: &Step<A>, outcome: Outcome) -> Option<u32>
     ensures { none_or result ≡ stored_keys (plain_step step.now) outcome }
 {
     if has_stored(outcome) {
@@ -62,7 +62,7 @@ fn stored_hash<A: Allocator>(step: &Step<A>, outcome: Outcome) -> Option<u64>
 /// Mentions a hash, if there is one.
 fn mention_hash<A: Allocator>(
     mentions: &mut Mentions<A>,
-    hash: Option<u64>,
+    hash: Option<u32>,
     node: u32,
 ) -> Result<(), AllocError>
     requires { Within mentions.old node }
@@ -76,11 +76,11 @@ fn mention_hash<A: Allocator>(
 }
 
 /// The hash of an item's key.
-fn item_hash<A: Allocator>(item: Option<&Item<A>>) -> Option<u64>
+fn item_hash<A: Allocator>(item: Option<&Item<A>>) -> Option<u32>
     ensures { none_or result ≡ hashed (option_map (λ i. i.now) item.entry) }
 {
     match item {
-        Some(item) => Some(item.key().hash()),
+        Some(item) => Some(item.hash()),
         None => None,
     }
 }

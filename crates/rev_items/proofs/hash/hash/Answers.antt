@@ -5,4 +5,4 @@ use Rattle.rev_items.proofs.hash.hash.Goals as goal
 
 pub returns : goal.returns
 unfolding hash_of
-returns c = c.loop-byte.invariant ∙ ap (fold hash_step 14695981039346656037) (take_all c.loop-byte.byte-index c.args.bytes.now (omega arith))
+returns c = c.loop-byte.invariant ∙ ap (fold hash_step 2166136261) (take_all c.loop-byte.byte-index c.args.bytes.now (omega arith))

@@ -20,13 +20,13 @@ returns-clause-before g c i e =
     let t = subst IsSome (sym c.requires.1) refl in
     let k = read_at c.self.inside.pages.items (λ v. v.items) c.args.self.now c.self.view_is c.args.chunk.page c.args.chunk.slot c.from.result c.from-in-Some.result c.from.ensures c.from-in-Some.ensures t _ c.index_mut.ensures.value c.in-Some.items c.in-Some.is _ c.index_mut-in-Some.ensures.value in
     let w = sym e ∙ (k ∙ ap Some c.in-Some-index_mut.is) in
-    let same : i ≡ c.in-Some-index_mut.hashed = cc in
-    rw (c.touch.ensures.before, same) refl
+    let same : i ≡ c.in-Some-index_mut.item = cc in
+    rw (c.touch-time.ensures.old, same) refl
 
 pub returns-clause-after : goal.returns-clause-after
 returns-clause-after g c i e =
     let t = subst IsSome (sym c.requires.1) refl in
     let k = read_at c.self.inside.pages.items (λ v. v.items) c.args.self.now c.self.view_is c.args.chunk.page c.args.chunk.slot c.from.result c.from-in-Some.result c.from.ensures c.from-in-Some.ensures t _ c.index_mut.ensures.value c.in-Some.items c.in-Some.is _ c.index_mut-in-Some.ensures.value in
     let w = sym e ∙ (k ∙ ap Some c.in-Some-index_mut.is) in
-    let same : i ≡ c.in-Some-index_mut.hashed = cc in
-    rw (c.touch.ensures.after, same) (written_at c.self.inside.pages.items (λ v. v.items) c.args.self.now c.self.view_is c.args.chunk.page c.args.chunk.slot c.from.result c.from-in-Some.result c.from.ensures c.from-in-Some.ensures t _ c.index_mut.ensures.value c.in-Some.items c.in-Some.is _ _ refl)
+    let same : i ≡ c.in-Some-index_mut.item = cc in
+    rw (c.touch-time.ensures.new, same) (written_at c.self.inside.pages.items (λ v. v.items) c.args.self.now c.self.view_is c.args.chunk.page c.args.chunk.slot c.from.result c.from-in-Some.result c.from.ensures c.from-in-Some.ensures t _ c.index_mut.ensures.value c.in-Some.items c.in-Some.is _ _ refl)

@@ -1,7 +1,7 @@
 use Rattle.std.proofs.Common.{◌∙◌, ap}
 use Rattle.std.specs.Option.{option_copied}
 use Rattle.rev_index.proofs.ItemTables.{no_slot, slot_holds}
-use Rattle.rev_index.proofs.item_table.ItemTable.hashed.Goals as goal
+use Rattle.rev_index.proofs.item_table.ItemTable.item.Goals as goal
 
 pub returns-in_err-get-2 : goal.returns-in_err-get-2
 returns-in_err-get-2 g c =
