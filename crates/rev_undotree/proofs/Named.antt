@@ -43,6 +43,18 @@ has_either h (x ∷ xs) ys e = either_case h xs ys (nat_eq h x) (λ f. has_eithe
 pub both_mentioned : (ms more : List Mention) (xs ys : List ℕ) (n : ℕ) → AreMentioned ms xs n → Grows ms more n → AreMentioned more ys n → AreMentioned more (xs ++ ys) n
 both_mentioned ms more xs ys n a g b h e = ⊎_elim (λ f. g.kept h n (a h f)) (λ f. b h f) (has_either h xs ys e)
 
+pub still_mentioned : (ms more : List Mention) (xs : List ℕ) (n : ℕ) → AreMentioned ms xs n → Grows ms more n → AreMentioned more xs n
+still_mentioned ms more xs n a g h e = g.kept h n (a h e)
+
+-- an item that enters a chunk, or leaves it, and what the chunk holds after the step
+pub exchange_mentioned : (ms : List Mention) (o i : List ℕ) (n : ℕ) → AreMentioned ms o n → AreMentioned ms i n → AreMentioned ms (o ++ (o ++ ((i ++ o) ++ []))) n
+exchange_mentioned ms o i n a b h e =
+    ⊎_elim (a h) (λ f. ⊎_elim (a h) (λ k. ⊎_elim (λ l. ⊎_elim (b h) (a h) (has_either h i o l)) (λ l. absurd (false≢true l)) (has_either h (i ++ o) [] k)) (has_either h o ((i ++ o) ++ []) f)) (has_either h o (o ++ ((i ++ o) ++ [])) e)
+
+-- two chunks, each by what it holds
+pub pair_mentioned : (ms more : List Mention) (xs ys : List ℕ) (n : ℕ) → AreMentioned ms xs n → Grows ms more n → AreMentioned more ys n → AreMentioned more ((xs ++ ys) ++ []) n
+pair_mentioned ms more xs ys n a g b h e = ⊎_elim (both_mentioned ms more xs ys n a g b h) (λ l. absurd (false≢true l)) (has_either h (xs ++ ys) [] e)
+
 -- ---- what holds where a call answered Ok
 
 pub ok_any : {T E : Type 0} → (r : Result T E) (P : Type 0) → P → OnOk r P
