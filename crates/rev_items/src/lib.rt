@@ -81,7 +81,7 @@ struct Held<A: Allocator> {
 #[derive(Drop)]
 pub struct Item<A: Allocator> {
     held: Box<Held<A>, A>,
-    hash: u32,
+    key_hash: u32,
     footprint: u32,
 }
 
@@ -95,7 +95,7 @@ impl<A: Allocator> Model for Item<A> {
 
     ghost view = { λ i. record { key = i.held.value.key; value = i.held.value.value.value.items; flags = i.held.value.flags; moment = i.held.value.moment; time = i.held.value.time; cas = i.held.value.cas; bits = i.held.value.bits } };
 
-    ghost invariant = { λ i. (i.held.value.data_length ≡ length i.held.value.value.value.items) × (i.hash ≡ hash_of i.held.value.key) × (i.footprint ≡ footprint_bytes (length i.held.value.key) i.held.value.flags i.held.value.data_length) };
+    ghost invariant = { λ i. (i.held.value.data_length ≡ length i.held.value.value.value.items) × (i.key_hash ≡ hash_of i.held.value.key) × (i.footprint ≡ footprint_bytes (length i.held.value.key) i.held.value.flags i.held.value.data_length) };
 }
 
 fn is_key_byte(byte: u8) -> bool
@@ -231,7 +231,7 @@ impl<A: Allocator> Item<A> {
             active: false,
         };
         let data_length = value.len() as u32;
-        let hash = key.hash();
+        let key_hash = key.hash();
         let footprint = footprint(key.bytes().len(), flags, u64::from(data_length)) as u32;
         let held = Held {
             key,
@@ -245,7 +245,7 @@ impl<A: Allocator> Item<A> {
         };
         Ok(Item {
             held: Box::new(alloc, held)?,
-            hash,
+            key_hash,
             footprint,
         })
     }
@@ -260,14 +260,14 @@ impl<A: Allocator> Item<A> {
     pub fn hash(&self) -> u32
         ensures { result ≡ hash_of self.now.key }
     {
-        self.hash
+        self.key_hash
     }
 
     /// Whether the item has this key. The bytes of a key of another hash are not read.
     pub fn has_key<B: Allocator>(&self, key: &Key<B>) -> bool
         ensures { IsTrue result ↔ (self.now.key ≡ key.now) }
     {
-        self.hash == key.hash && self.held.key.bytes.as_slice() == key.bytes.as_slice()
+        self.key_hash == key.hash && self.held.key.bytes.as_slice() == key.bytes.as_slice()
     }
 
     /// The item's data.
