@@ -1,6 +1,7 @@
 -- One step along a way, as the code takes it: the first place, and the places behind it.
-use Rattle.std.proofs.Common.{Fits, w64, ◌+◌, ◌≡◌, ℕ, suc, zero, ◌-◌, ◌<◌, ◌≤◌, List, [], ◌∷◌, length, get_or, set, take, drop, map, refl, ap, sym, ◌∙◌, subst, arith, ◌++◌, Bool, true, false, cond, Result, Ok, Err, is_ok, OnOk, OnErr}
+use Rattle.std.proofs.Common.{Fits, w64, Option, None, Some, IsSome, ◌+◌, ◌≡◌, ℕ, suc, zero, ◌-◌, ◌<◌, ◌≤◌, List, [], ◌∷◌, length, get_or, set, take, drop, map, refl, ap, sym, ◌∙◌, subst, arith, ◌++◌, Bool, true, false, cond, Result, Ok, Err, is_ok, OnOk, OnErr}
 use Rattle.std.proofs.lemmas.List.{take_all}
+use Rattle.std.proofs.lemmas.Bool.{false≢true}
 use Rattle.rev_undotree.specs.Tree.{PlainNode, PlainBranch, Forks, bare, fork, forks_of, fork_at, put_fork, add_fork, count}
 use Rattle.rev_undotree.specs.Ways.{reach, IsWay, at_end, with_node, with_fork}
 use Rattle.rev_undotree.specs.declared.junction.Junction.{Junction}
@@ -106,15 +107,28 @@ pub on_err_from : {T E P : Type 0} (r : Result T E) → (is_ok r ≡ false → P
 on_err_from (Ok x) f = tt
 on_err_from (Err e) f = f refl
 
-pub extend_empty : (from : ℕ) (run part : List PlainNode) (f : Forks) (b : PlainBranch) (w : List Junction) (e : PlainNode) (o : Bool) → ◌≡◌ {A = PlainBranch} (record { from = from; run = run; forks = f }) b → length w < 1 → part ≡ cond o (run ++ e ∷ []) run → o ≡ true → ◌≡◌ {A = PlainBranch} (record { from = from; run = part; forks = f }) (at_end (with_node e) b w)
-extend_empty from run part f b (p ∷ ps) e o h l g q = absurd (omega (arith, l))
-extend_empty from run part f b [] e o h l g q =
-    ap (λ z. let r : PlainBranch = record { from = from; run = z; forks = f } in r) (g ∙ ap (λ z. cond z (run ++ e ∷ []) run) q) ∙ ap (λ z. with_node e z) h
+pub extend_empty : (from : ℕ) (run part : List PlainNode) (f : Forks) (b : PlainBranch) (w : List Junction) (e : PlainNode) → ◌≡◌ {A = PlainBranch} (record { from = from; run = run; forks = f }) b → length w < 1 → part ≡ run ++ e ∷ [] → ◌≡◌ {A = PlainBranch} (record { from = from; run = part; forks = f }) (at_end (with_node e) b w)
+extend_empty from run part f b (p ∷ ps) e h l g = absurd (omega (arith, l))
+extend_empty from run part f b [] e h l g =
+    ap (λ z. let r : PlainBranch = record { from = from; run = z; forks = f } in r) g ∙ ap (λ z. with_node e z) h
 
-pub extend_refused : (from : ℕ) (run part : List PlainNode) (f : Forks) (b : PlainBranch) (e : PlainNode) (o : Bool) → ◌≡◌ {A = PlainBranch} (record { from = from; run = run; forks = f }) b → part ≡ cond o (run ++ e ∷ []) run → o ≡ false → ◌≡◌ {A = PlainBranch} (record { from = from; run = part; forks = f }) b
-extend_refused from run part f b e o h g q =
-    ap (λ z. let r : PlainBranch = record { from = from; run = z; forks = f } in r) (g ∙ ap (λ z. cond z (run ++ e ∷ []) run) q) ∙ h
+pub extend_refused : (from : ℕ) (run part : List PlainNode) (f : Forks) (b : PlainBranch) → ◌≡◌ {A = PlainBranch} (record { from = from; run = run; forks = f }) b → part ≡ run → ◌≡◌ {A = PlainBranch} (record { from = from; run = part; forks = f }) b
+extend_refused from run part f b h g = ap (λ z. let r : PlainBranch = record { from = from; run = z; forks = f } in r) g ∙ h
 
 -- a position in a run fits a word, and so does the next
 pub next_fits : (k l : ℕ) → k ≡ l → l < 9223372036854775808 → Fits w64 (k + 1)
 next_fits k l e s = omega (arith, e, s)
+
+-- what a run of the node that was held out tells of that node
+pub held_one : (o : Option PlainNode) (xs ys : List PlainNode) → IsSome o → ((n : PlainNode) → o ≡ Some n → xs ≡ ys ++ n ∷ []) → ys ≡ [] → length xs ≡ 1
+held_one None xs ys s f e = absurd (false≢true s)
+held_one (Some n) xs ys s f e = ap length (f n refl ∙ ap (λ l. l ++ n ∷ []) e)
+
+pub held_back : (o : Option PlainNode) (xs ys : List PlainNode) (m : PlainNode) → IsSome o → ((n : PlainNode) → o ≡ Some n → xs ≡ ys ++ n ∷ []) → ys ≡ [] → xs ≡ m ∷ [] → Some m ≡ o
+held_back None xs ys m s f e h = absurd (false≢true s)
+held_back (Some n) xs ys m s f e h = ap (λ l. Some (get_or l 0 m)) (sym h ∙ f n refl ∙ ap (λ l. l ++ n ∷ []) e)
+
+-- the number of the node that is held out
+abbrev pub held_number : Option PlainNode → ℕ
+held_number None = 0
+held_number (Some n) = n.number

@@ -1,9 +1,9 @@
 //! A branch: a run of nodes, and the branches that fork from it.
-ghost use Rattle.std.specs.Prelude.{◌≡◌, ◌∷◌, ◌^◌, ◌<◌, ◌-◌, ◌≤◌, ℕ, Bool, IfOk, IfErr, OnOk, OnErr, IfSome, IfNone, Some, None, [], length, get_or, slice_get, cond, eqb, List, map};
+ghost use Rattle.std.specs.Prelude.{◌≡◌, ◌++◌, ◌∷◌, ◌^◌, ◌<◌, ◌-◌, ◌≤◌, ℕ, Bool, IfOk, IfErr, OnOk, OnErr, IfSome, IfNone, IsSome, Some, None, [], length, get_or, slice_get, cond, eqb, List, map};
 ghost use Rattle.rev_steps.specs.Plain.{plain_step};
 ghost use Rattle.rev_undotree.specs.Steps.{Fits, turned};
 ghost use Rattle.rev_undotree.specs.Ways.{IsWay, reach, undo_of, at_end, with_undo, with_node, with_fork, no_node};
-ghost use Rattle.rev_undotree.specs.Tree.{count, bare, fork_at};
+ghost use Rattle.rev_undotree.specs.Tree.{PlainNode, count, bare, fork_at};
 ghost use Rattle.rev_undotree.specs.Rows.{find_run};
 ghost use Rattle.rev_undotree.specs.Order.{head_number};
 ghost use Rattle.rev_undotree.specs.Prunes.{trimmed, cropped};
@@ -271,15 +271,18 @@ impl<A: Allocator> Branch<A> {
         if left == 0 { next } else { None }
     }
 
-    /// Adds a node to the run of the branch at the end of `way`, or hands it back.
-    pub fn extend(&mut self, way: &[Junction], node: Node<A>) -> Result<(), AllocFailed<Node<A>>>
-        requires { IsWay self.old way.now }
-        ensures ok { OnOk result (self.new ≡ at_end (with_node node) self.old way.now) }
+    /// Adds the node that is held out to the run of the branch at the end of `way`.
+    ///
+    /// Err: a growth was refused, and the node is still there.
+    pub fn extend(&mut self, way: &[Junction], node: &mut Option<Node<A>>) -> Result<(), AllocError>
+        requires way { IsWay self.old way.now }
+        requires node { IsSome node.old }
+        ensures ok { OnOk result ((n : PlainNode) → node.old ≡ Some n → self.new ≡ at_end (with_node n) self.old way.now) }
         ensures err { OnErr result (self.new ≡ self.old) }
-        ensures returned { IfErr result (λ e. e.value ≡ node) }
+        ensures returned { OnErr result (node.new ≡ node.old) }
     {
         match way {
-            [] => self.run.push(node),
+            [] => add_to(&mut self.run, node),
             [junction, rest @ ..] => {
                 let child = &mut self.forks[junction.fork];
                 child.extend(rest, node)
@@ -353,24 +356,23 @@ impl<A: Allocator> Branch<A> {
         })
     }
 
-    /// A branch of one node that leaves its parent's run at `from`.
+    /// A branch of the node that is held out, which leaves its parent's run at `from`.
+    ///
+    /// Err: a growth was refused, and the node is still there.
     pub fn sprout(
         alloc: &A,
         from: usize,
-        node: Node<A>,
-    ) -> Result<Box<Branch<A>, A>, AllocFailed<Node<A>>>
+        node: &mut Option<Node<A>>,
+    ) -> Result<Box<Branch<A>, A>, AllocError>
     where
         A: Clone,
-        ensures ok { IfOk result (λ b. b.value ≡ record { from = from; run = node ∷ []; forks = bare }) }
-        ensures err { IfErr result (λ e. e.value ≡ node) }
+        requires { IsSome node.old }
+        ensures ok { IfOk result (λ b. (n : PlainNode) → node.old ≡ Some n → b.value ≡ record { from = from; run = n ∷ []; forks = bare }) }
+        ensures err { OnErr result (node.new ≡ node.old) }
     {
-        let Ok((first, second, third)) = handles(alloc) else {
-            return Err(AllocFailed { value: node });
-        };
+        let (first, second, third) = handles(alloc)?;
         let mut run = Vec::new(first);
-        if let Err(refused) = run.push(node) {
-            return Err(refused);
-        }
+        add_to(&mut run, node)?;
         match Box::new(
             second,
             Branch {
@@ -380,9 +382,10 @@ impl<A: Allocator> Branch<A> {
             },
         ) {
             Ok(branch) => Ok(branch),
-            Err(refused) => Err(AllocFailed {
-                value: refused.value.into_node(),
-            }),
+            Err(refused) => {
+                give_back(node, refused.value.into_node());
+                Err(AllocError)
+            }
         }
     }
 
@@ -400,6 +403,35 @@ impl<A: Allocator> Branch<A> {
             Some(node) => node,
             None => unreachable!(),
         }
+    }
+}
+
+/// Holds a node out again.
+pub fn give_back<A: Allocator>(held: &mut Option<Node<A>>, node: Node<A>)
+    ensures { held.new ≡ Some node }
+{
+    *held = Some(node);
+}
+
+// Adds the node that is held out to a run. Err: a growth was refused, and the node is still there.
+fn add_to<A: Allocator>(
+    run: &mut Vec<Node<A>, A>,
+    node: &mut Option<Node<A>>,
+) -> Result<(), AllocError>
+    requires { IsSome node.old }
+    ensures ok { OnOk result ((n : PlainNode) → node.old ≡ Some n → run.new.items ≡ run.old.items ++ n ∷ []) }
+    ensures err { OnErr result (run.new.items ≡ run.old.items) }
+    ensures returned { OnErr result (node.new ≡ node.old) }
+{
+    match node.take() {
+        Some(next) => match run.push(next) {
+            Ok(()) => Ok(()),
+            Err(refused) => {
+                give_back(node, refused.value);
+                Err(AllocError)
+            }
+        },
+        None => unreachable!(),
     }
 }
 

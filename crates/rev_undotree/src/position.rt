@@ -1,9 +1,9 @@
 //! A store that stands at a position of a tree.
-ghost use Rattle.std.specs.Prelude.{◌≡◌, ℕ, ◌-◌, Some, ◌<◌, ◌≤◌, ◌^◌, ◌+◌, ◌++◌, ◌∷◌, [], ◌↔◌, ◌⊎◌, eqb, IsTrue, OnOk, OnErr, IfErr, IfSome, IfNone, length, take};
+ghost use Rattle.std.specs.Prelude.{◌≡◌, ℕ, ◌-◌, Some, ◌<◌, ◌≤◌, ◌^◌, ◌+◌, ◌++◌, ◌∷◌, [], ◌↔◌, ◌⊎◌, eqb, IsTrue, OnOk, OnErr, IfSome, IfNone, IsSome, length, take};
 ghost use Rattle.rev_undotree.specs.Steps.{State, next, outcome_of, Undoes};
 ghost use Rattle.rev_undotree.specs.Ways.{reach, IsWay};
 ghost use Rattle.rev_undotree.specs.Rows.{number_at};
-ghost use Rattle.rev_undotree.specs.Tree.{count, fork_at};
+ghost use Rattle.rev_undotree.specs.Tree.{PlainNode, count, fork_at};
 ghost use Rattle.rev_undotree.specs.States.{rewind};
 ghost use Rattle.rev_undotree.specs.Paths.{IsPath, IsOnWay};
 ghost use Rattle.rev_undotree.specs.Finds.{Rises, Fitted, Placed, IsMissing};
@@ -12,12 +12,12 @@ ghost use Rattle.rev_undotree.specs.Trails.{cut};
 ghost use Rattle.rev_undotree.specs.Children.{next_number};
 ghost use Rattle.rev_undotree.specs.Trips.{Trip};
 
-use crate::branch::{Branch, Node};
+use crate::branch::{Branch, Node, give_back};
 use crate::index::Index;
 use crate::junction::Junction;
 use arrayvec::ArrayVec;
 use rev_inverse::Store;
-use std::alloc::{AllocFailed, Allocator};
+use std::alloc::{AllocError, Allocator};
 
 /// How deep forks may nest.
 pub const MAX_NESTING: usize = 64;
@@ -223,56 +223,52 @@ impl<A: Allocator> Position<A> {
         branch.next_at(self.here - 1).unwrap_or(0)
     }
 
-    /// Adds a node below the position and moves to it, or hands it back. The store stands there already.
-    pub fn grow(&mut self, alloc: &A, node: Node<A>) -> Result<(), AllocFailed<Node<A>>>
+    /// Adds the node that is held out below the position and moves to it. The store stands there already.
+    ///
+    /// Err: a growth was refused, and the node is still there.
+    pub fn grow(&mut self, alloc: &A, node: &mut Option<Node<A>>) -> Result<(), AllocError>
     where
         A: Clone,
         requires way { IsWay self.old.base self.old.way.items }
         requires proper { Proper self.old.way.items self.old.here }
         requires room { (self.old.here ≡ length (reach self.old.base self.old.way.items).run) ⊎ (length self.old.way.items < 64) }
-        ensures ok { OnOk result ((root before : State) → Stands root before self.old.base self.old.way.items self.old.here → self.old.store ≡ next before node.step → Undoes node.undo before node.step → node.outcome ≡ outcome_of before node.step → Grown root self.old.base self.old.way.items self.old.here self.new.store self.new.base self.new.way.items self.new.here node.number node.step (eqb self.old.here (length (reach self.old.base self.old.way.items).run))) }
+        requires node { IsSome node.old }
+        ensures ok { OnOk result ((n : PlainNode) → node.old ≡ Some n → (root before : State) → Stands root before self.old.base self.old.way.items self.old.here → self.old.store ≡ next before n.step → Undoes n.undo before n.step → n.outcome ≡ outcome_of before n.step → Grown root self.old.base self.old.way.items self.old.here self.new.store self.new.base self.new.way.items self.new.here n.number n.step (eqb self.old.here (length (reach self.old.base self.old.way.items).run))) }
         ensures err { OnErr result ((self.new.store ≡ self.old.store) × (self.new.base ≡ self.old.base) × (self.new.way ≡ self.old.way) × (self.new.here ≡ self.old.here)) }
-        ensures returned { IfErr result (λ e. e.value ≡ node) }
+        ensures returned { OnErr result (node.new ≡ node.old) }
     {
         let parent = self.last_number();
         let fork = self.next_fork();
-        if self.index.note(parent, fork).is_err() {
-            return Err(AllocFailed { value: node });
-        }
+        self.index.note(parent, fork)?;
         match self.hang(alloc, node) {
             Ok(()) => Ok(()),
-            Err(refused) => {
+            Err(_) => {
                 self.index.forget(fork.is_some());
-                Err(refused)
+                Err(AllocError)
             }
         }
     }
 
-    // Adds a node to the tree below the position and moves to it, or hands it back.
-    fn hang(&mut self, alloc: &A, node: Node<A>) -> Result<(), AllocFailed<Node<A>>>
+    // Adds the node that is held out to the tree below the position and moves to it. Err: a growth was refused, and the node
+    // is still there.
+    fn hang(&mut self, alloc: &A, node: &mut Option<Node<A>>) -> Result<(), AllocError>
     where
         A: Clone,
         requires way { IsWay self.old.base self.old.way.items }
         requires proper { Proper self.old.way.items self.old.here }
         requires room { (self.old.here ≡ length (reach self.old.base self.old.way.items).run) ⊎ (length self.old.way.items < 64) }
-        ensures ok { OnOk result ((root before : State) → Stands root before self.old.base self.old.way.items self.old.here → self.old.store ≡ next before node.step → Undoes node.undo before node.step → node.outcome ≡ outcome_of before node.step → Grown root self.old.base self.old.way.items self.old.here self.new.store self.new.base self.new.way.items self.new.here node.number node.step (eqb self.old.here (length (reach self.old.base self.old.way.items).run))) }
+        requires node { IsSome node.old }
+        ensures ok { OnOk result ((n : PlainNode) → node.old ≡ Some n → (root before : State) → Stands root before self.old.base self.old.way.items self.old.here → self.old.store ≡ next before n.step → Undoes n.undo before n.step → n.outcome ≡ outcome_of before n.step → Grown root self.old.base self.old.way.items self.old.here self.new.store self.new.base self.new.way.items self.new.here n.number n.step (eqb self.old.here (length (reach self.old.base self.old.way.items).run))) }
         ensures err { OnErr result ((self.new.store ≡ self.old.store) × (self.new.base ≡ self.old.base) × (self.new.way ≡ self.old.way) × (self.new.here ≡ self.old.here)) }
-        ensures returned { IfErr result (λ e. e.value ≡ node) }
+        ensures returned { OnErr result (node.new ≡ node.old) }
     {
         if self.is_last() {
-            return match self.base.extend(self.way.as_slice(), node) {
-                Ok(()) => {
-                    self.here += 1;
-                    Ok(())
-                }
-                Err(refused) => Err(refused),
-            };
+            self.base.extend(self.way.as_slice(), node)?;
+            self.here += 1;
+            return Ok(());
         }
         let fork = self.base.reach(self.way.as_slice()).fork_count();
-        let branch = match Branch::sprout(alloc, self.here, node) {
-            Ok(branch) => branch,
-            Err(refused) => return Err(refused),
-        };
+        let branch = Branch::sprout(alloc, self.here, node)?;
         match self.base.split(self.way.as_slice(), branch) {
             Ok(()) => {
                 let taken = self.here;
@@ -280,9 +276,10 @@ impl<A: Allocator> Position<A> {
                 self.here = 1;
                 Ok(())
             }
-            Err(refused) => Err(AllocFailed {
-                value: Box::into_inner(refused.value).into_node(),
-            }),
+            Err(refused) => {
+                give_back(node, Box::into_inner(refused.value).into_node());
+                Err(AllocError)
+            }
         }
     }
 

@@ -1,5 +1,5 @@
 //! A session: a store, and the tree of all that was played on it.
-ghost use Rattle.std.specs.Prelude.{◌≡◌, ◌++◌, ◌∷◌, [], ◌+◌, ◌-◌, ◌≤◌, ℕ, eqb, length, IfOk, IfErr, OnErr, OnOk, IsOk, IsTrue, ◌↔◌, Some, None, Err, true, false, not, ◌<◌, slice_get, IfSome, IfNone, IsNone, ◌⊎◌};
+ghost use Rattle.std.specs.Prelude.{◌≡◌, ◌++◌, ◌∷◌, [], ◌+◌, ◌-◌, ◌≤◌, ℕ, eqb, length, IfOk, IfErr, OnErr, OnOk, IsOk, IsTrue, ◌↔◌, Some, None, Err, true, false, not, ◌<◌, slice_get, IfSome, IfNone, IsNone, IsSome, ◌⊎◌};
 ghost use Rattle.std.specs.Option.{option_map};
 ghost use Rattle.rev_steps.specs.Plain.{plain_step};
 ghost use Rattle.rev_undotree.specs.Steps.{Sound, outcome_of};
@@ -13,6 +13,7 @@ ghost use Rattle.rev_undotree.specs.Mentioned.{IsStill, IsOver, AreMentioned, Gr
 ghost use Rattle.rev_undotree.specs.Named.{stored_keys, named};
 ghost use Rattle.rev_undotree.specs.Positions.{Stands, Grown, Proper};
 ghost use Rattle.rev_undotree.specs.Ways.{reach, IsWay};
+ghost use Rattle.rev_undotree.specs.Tree.{PlainNode};
 ghost use Rattle.rev_undotree.specs.Steps.{State, next, Undoes};
 ghost use Rattle.rev_mentions.specs.Mentions.{Within};
 
@@ -28,7 +29,7 @@ use rev_mentions::Mentions;
 use rev_model::Outcome;
 use rev_moves::Record;
 use rev_steps::{Step, apply};
-use std::alloc::{AllocError, AllocFailed, Allocator};
+use std::alloc::{AllocError, Allocator};
 use std::marker::Model;
 use thiserror::Error;
 
@@ -171,24 +172,34 @@ impl<A: Allocator + Clone> Session<A> {
             outcome,
             undo,
         };
-        match add(&mut self.position, &mut self.mentions, &self.alloc, node) {
+        let mut held = Some(node);
+        match add(
+            &mut self.position,
+            &mut self.mentions,
+            &self.alloc,
+            &mut held,
+        ) {
             Ok(()) => {
+                drop(held);
                 self.issued = number;
                 Ok(Played {
                     node: NodeId(number),
                     outcome,
                 })
             }
-            Err(refused) => {
-                let Node {
-                    number: _,
-                    step,
-                    outcome: _,
-                    mut undo,
-                } = refused.value;
-                self.position.store.turn(&mut undo);
-                Err((PlayFault::Memory, step))
-            }
+            Err(_) => match held {
+                Some(node) => {
+                    let Node {
+                        number: _,
+                        step,
+                        outcome: _,
+                        mut undo,
+                    } = node;
+                    self.position.store.turn(&mut undo);
+                    Err((PlayFault::Memory, step))
+                }
+                None => unreachable!(),
+            },
         }
     }
 
@@ -412,26 +423,28 @@ impl<A: Allocator + Clone> Session<A> {
     }
 }
 
-// Mentions the keys that a node's step names, adds the node below the position and moves to it, or hands it back. The store
-// stands there already.
+// Mentions the keys that the step of the node that is held out names, adds the node below the position and moves to it. The
+// store stands there already. Err: a growth was refused, and the node is still there.
 fn add<A: Allocator + Clone>(
     position: &mut Position<A>,
     mentions: &mut Mentions<A>,
     alloc: &A,
-    node: Node<A>,
-) -> Result<(), AllocFailed<Node<A>>>
+    held: &mut Option<Node<A>>,
+) -> Result<(), AllocError>
     requires way { IsWay position.old.base position.old.way.items }
     requires proper { Proper position.old.way.items position.old.here }
     requires room { (position.old.here ≡ length (reach position.old.base position.old.way.items).run) ⊎ (length position.old.way.items < 64) }
-    requires within { Within mentions.old node.number }
-    ensures ok { OnOk result ((root before : State) → Stands root before position.old.base position.old.way.items position.old.here → position.old.store ≡ next before node.step → Undoes node.undo before node.step → node.outcome ≡ outcome_of before node.step → Grown root position.old.base position.old.way.items position.old.here position.new.store position.new.base position.new.way.items position.new.here node.number node.step (eqb position.old.here (length (reach position.old.base position.old.way.items).run))) }
+    requires node { IsSome held.old }
+    requires within { (n : PlainNode) → held.old ≡ Some n → Within mentions.old n.number }
+    ensures ok { OnOk result ((n : PlainNode) → held.old ≡ Some n → (root before : State) → Stands root before position.old.base position.old.way.items position.old.here → position.old.store ≡ next before n.step → Undoes n.undo before n.step → n.outcome ≡ outcome_of before n.step → Grown root position.old.base position.old.way.items position.old.here position.new.store position.new.base position.new.way.items position.new.here n.number n.step (eqb position.old.here (length (reach position.old.base position.old.way.items).run))) }
     ensures err { OnErr result ((position.new.store ≡ position.old.store) × (position.new.base ≡ position.old.base) × (position.new.way ≡ position.old.way) × (position.new.here ≡ position.old.here)) }
-    ensures returned { IfErr result (λ e. e.value ≡ node) }
-    ensures named { OnOk result (AreMentioned mentions.new (stored_keys node.step node.outcome ++ named position.old.store node.undo.moves) node.number) }
-    ensures grows { Grows mentions.old mentions.new node.number }
+    ensures returned { OnErr result (held.new ≡ held.old) }
+    ensures named { OnOk result ((n : PlainNode) → held.old ≡ Some n → AreMentioned mentions.new (stored_keys n.step n.outcome ++ named position.old.store n.undo.moves) n.number) }
+    ensures grows { (n : PlainNode) → held.old ≡ Some n → Grows mentions.old mentions.new n.number }
 {
-    if mention(mentions, &position.store, &node).is_err() {
-        return Err(AllocFailed { value: node });
+    match held.as_ref() {
+        Some(node) => mention(mentions, &position.store, node)?,
+        None => unreachable!(),
     }
-    position.grow(alloc, node)
+    position.grow(alloc, held)
 }

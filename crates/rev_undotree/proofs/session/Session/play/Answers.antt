@@ -1,4 +1,4 @@
-use Rattle.std.proofs.Common.{rules, ◌≡◌, ◌+◌, length, arith, ap, ◌∙◌, sym, refl, add-one, eqb}
+use Rattle.std.proofs.Common.{rules, ◌≡◌, ◌+◌, length, arith, ap, ◌∙◌, sym, refl, add-one, eqb, subst}
 use Rattle.rev_undotree.specs.Steps.{outcome_of}
 use Rattle.rev_steps.specs.Plain.{plain_step}
 use Rattle.rev_undotree.proofs.Turns.{step_next, step_outcome, undoes_applied}
@@ -7,6 +7,8 @@ use Rattle.rev_undotree.proofs.Mentioned.{play_noted, noted_more}
 use Rattle.rev_undotree.proofs.Positions.{stands_way, stands_at}
 use Rattle.rev_undotree.proofs.Growth.{kept_sound, length_rows, play_kept, play_state}
 use Rattle.rev_undotree.proofs.Machine.{kept_tree, kept_path, goes_on_is, deep_is, deep_not}
+use Rattle.rev_mentions.specs.Mentions.{Within}
+use Rattle.rev_undotree.proofs.Walk.{held_number}
 use Rattle.rev_undotree.proofs.session.Session.play.Goals as goal
 
 pub has_room-requires : goal.has_room-requires
@@ -19,27 +21,27 @@ pub add-requires-clause-way : goal.add-requires-clause-way
 add-requires-clause-way g c = stands_way _ _ _ _ _ c.self.invariant.kept.stands
 
 pub add-requires-clause-within : goal.add-requires-clause-within
-add-requires-clause-within g c = c.self.invariant.within
+add-requires-clause-within g c = λ n held. subst (Within c.self.inside.mentions) (ap held_number held) c.self.invariant.within
 
 pub invariant_of-self-in-Ok-add : goal.invariant_of-self-in-Ok-add
 invariant_of-self-in-Ok-add g c =
     let i = c.self.inside.position in
     let n = c.add.new.position in
     let q = eqb i.here (length (reach i.base i.way.items).run) in
-    let m = c.in-Ok-add.ensures.ok _ i.store c.self.invariant.kept.stands (step_next _ _ _ _ c.in-Ok.ensures.step) (undoes_applied _ _ _ _ _ c.in-Ok.ensures.sound (kept_sound _ _ _ _ _ _ c.self.invariant.kept) c.in-Ok.ensures.step c.in-Ok.ensures.leads c.in-Ok.ensures.told) (step_outcome _ _ _ _ c.in-Ok.ensures.step) in
+    let m = c.in-Ok-add.ensures.ok _ refl _ i.store c.self.invariant.kept.stands (step_next _ _ _ _ c.in-Ok.ensures.step) (undoes_applied _ _ _ _ _ c.in-Ok.ensures.sound (kept_sound _ _ _ _ _ _ c.self.invariant.kept) c.in-Ok.ensures.step c.in-Ok.ensures.leads c.in-Ok.ensures.told) (step_outcome _ _ _ _ c.in-Ok.ensures.step) in
     let f = c.self.invariant.kept.few in
     let k = play_kept _ i.store n.store i.base n.base i.way.items n.way.items i.here n.here c.self.inside.issued (c.self.inside.issued + 1) (plain_step c.args.step) c.self.invariant.kept (omega (arith, f)) (add-one c.self.inside.issued) q m in
     let v = play_state _ i.store n.store i.base n.base i.way.items n.way.items i.here n.here c.self.inside.issued (c.self.inside.issued + 1) (plain_step c.args.step) c.self.invariant.kept (add-one c.self.inside.issued) q q refl m in
     play_noted _ i.store _ n.store _ i.base n.base i.way.items n.way.items i.here n.here c.self.inside.issued (c.self.inside.issued + 1) (plain_step c.args.step) q c.in-Ok.outcome c.in-Ok.undo _ _ c.self.invariant k (add-one c.self.inside.issued)
     (ap (λ z. z.root) v) (ap (λ z. z.rows) v)
     (record { before = kept_sound _ _ _ _ _ _ c.self.invariant.kept; sound = c.in-Ok.ensures.sound; stepped = ap (λ p. p.0) c.in-Ok.ensures.step; answered = ap (λ p. p.1) c.in-Ok.ensures.step; leads = c.in-Ok.ensures.leads; told = c.in-Ok.ensures.told.told })
-    c.in-Ok-add.ensures.named c.add.ensures.grows.kept c.add.ensures.grows.within
+    (c.in-Ok-add.ensures.named _ refl) (c.add.ensures.grows _ refl).kept (c.add.ensures.grows _ refl).within
 
 pub returns-in-Ok-add-clause-ok : goal.returns-in-Ok-add-clause-ok
 returns-in-Ok-add-clause-ok g c =
     let i = c.self.inside.position in
     let n = c.add.new.position in
-    let m = c.in-Ok-add.ensures.ok _ i.store c.self.invariant.kept.stands (step_next _ _ _ _ c.in-Ok.ensures.step) (undoes_applied _ _ _ _ _ c.in-Ok.ensures.sound (kept_sound _ _ _ _ _ _ c.self.invariant.kept) c.in-Ok.ensures.step c.in-Ok.ensures.leads c.in-Ok.ensures.told) (step_outcome _ _ _ _ c.in-Ok.ensures.step) in
+    let m = c.in-Ok-add.ensures.ok _ refl _ i.store c.self.invariant.kept.stands (step_next _ _ _ _ c.in-Ok.ensures.step) (undoes_applied _ _ _ _ _ c.in-Ok.ensures.sound (kept_sound _ _ _ _ _ _ c.self.invariant.kept) c.in-Ok.ensures.step c.in-Ok.ensures.leads c.in-Ok.ensures.told) (step_outcome _ _ _ _ c.in-Ok.ensures.step) in
     let k = goes_on_is c.self.inside.issued i.base i.way.items i.here (kept_tree _ _ _ _ _ _ c.self.invariant.kept) (kept_path _ _ _ _ _ _ c.self.invariant.kept) c.self.invariant.kept.proper in
     rw (← c.self.view_is) (play_state _ i.store n.store i.base n.base i.way.items n.way.items i.here n.here c.self.inside.issued (c.self.inside.issued + 1) (plain_step c.args.step) c.self.invariant.kept (add-one c.self.inside.issued) (eqb i.here (length (reach i.base i.way.items).run)) _ k m)
 
@@ -114,8 +116,8 @@ returns-in-Ok-add-clause-deep g c =
     let d = deep_not c.self.inside.issued i.base i.way.items i.here (kept_tree _ _ _ _ _ _ c.self.invariant.kept) (kept_path _ _ _ _ _ _ c.self.invariant.kept) c.self.invariant.kept.proper c.has_room.ensures.fits (c.has_room.ensures.value.0 (let h = c.if-not-has_room.false in cc)) in
     (λ e. absurd e, λ p. let q = rw (← c.self.view_is) at p.1 in omega (arith, q, d))
 
-pub returns-in-Err-clause-many : goal.returns-in-Err-clause-many
-returns-in-Err-clause-many g c = (
+pub returns-in-Some-clause-many : goal.returns-in-Some-clause-many
+returns-in-Some-clause-many g c = (
   λ e. cc,
   λ p.
       let q = rw (← c.self.view_is) at p in
@@ -123,15 +125,15 @@ returns-in-Err-clause-many g c = (
       let h = c.if-self-eq-MAX_NODES.false in absurd (omega (arith, q, l, h)),
 )
 
-pub returns-in-Err-clause-deep : goal.returns-in-Err-clause-deep
-returns-in-Err-clause-deep g c =
+pub returns-in-Some-clause-deep : goal.returns-in-Some-clause-deep
+returns-in-Some-clause-deep g c =
     let i = c.self.inside.position in
     let d = deep_not c.self.inside.issued i.base i.way.items i.here (kept_tree _ _ _ _ _ _ c.self.invariant.kept) (kept_path _ _ _ _ _ _ c.self.invariant.kept) c.self.invariant.kept.proper c.has_room.ensures.fits (c.has_room.ensures.value.0 (let h = c.if-not-has_room.false in cc)) in
     (λ e. cc, λ p. let q = rw (← c.self.view_is) at p.1 in absurd (omega (arith, q, d)))
 
-pub invariant_of-self-in-Err : goal.invariant_of-self-in-Err
-invariant_of-self-in-Err g c =
+pub invariant_of-self-in-Some : goal.invariant_of-self-in-Some
+invariant_of-self-in-Some g c =
     let i = c.self.inside.position in
     let e = c.in-Err.ensures.err in
     let s : c.turn.new.self ≡ i.store = search rules in
-    rw (s, e.1, e.2, e.3) (noted_more _ _ _ _ _ _ _ _ c.self.invariant c.add.ensures.grows.kept c.add.ensures.grows.within)
+    rw (s, e.1, e.2, e.3) (noted_more _ _ _ _ _ _ _ _ c.self.invariant (c.add.ensures.grows _ refl).kept (c.add.ensures.grows _ refl).within)
