@@ -180,6 +180,7 @@ impl<A: Allocator + Clone> Session<A> {
             &mut held,
         ) {
             Ok(()) => {
+                // nothing is left in it: a drop by a call is proved once
                 drop(held);
                 self.issued = number;
                 Ok(Played {
