@@ -14,6 +14,12 @@ use crate::command::{BadAnswer, Command};
 use crate::debug::debug_command;
 use crate::words::word;
 
+/// The most bytes of a line that asks for items (this project's own limit).
+const LONGEST_RETRIEVAL: usize = 65536;
+
+/// The most bytes of any other line (this project's own limit).
+const LONGEST_LINE: usize = 2048;
+
 /// A line's bytes without one CR at their end.
 pub fn body(text: &[u8]) -> &[u8]
     ensures { result.now ≡ strip_last 13 text.now }
@@ -97,13 +103,13 @@ fn command_of(words: &[&[u8]]) -> Command
 // How many bytes such a line may have without its ending.
 fn longest(words: &[&[u8]]) -> usize
     ensures value { result ≡ longest (map (λ x. x.now) words.now) }
-    ensures some { 2048 ≤ result }
+    ensures least { 2048 ≤ result }
 {
     let name = word(words, 0);
     if name == b"get".as_slice() || name == b"gets".as_slice() {
-        65536
+        LONGEST_RETRIEVAL
     } else {
-        2048
+        LONGEST_LINE
     }
 }
 
@@ -115,7 +121,8 @@ pub fn asked(body: &[u8], parts: &[&[u8]]) -> Command
     ensures value { result ≡ asked body.now }
     ensures keyed { HasKeys result (words body.now) }
 {
-    if body.len() > 2048 && body.len() > longest(parts) {
+    // (no word is looked at where the line is short enough for any)
+    if body.len() > LONGEST_LINE && body.len() > longest(parts) {
         return Command::Bad(BadAnswer::LineTooLong);
     }
     command_of(parts)

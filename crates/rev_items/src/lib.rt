@@ -267,7 +267,7 @@ impl<A: Allocator> Item<A> {
     pub fn has_key<B: Allocator>(&self, key: &Key<B>) -> bool
         ensures { IsTrue result ↔ (self.now.key ≡ key.now) }
     {
-        self.key_hash == key.hash && self.held.key.bytes.as_slice() == key.bytes.as_slice()
+        self.key_hash == key.hash && self.held.key.is_same(key)
     }
 
     /// The item's data.

@@ -40,20 +40,14 @@ has_either : (h : ℕ) (xs ys : List ℕ) → has nat_eq h (xs ++ ys) ≡ true �
 has_either h [] ys e = inr e
 has_either h (x ∷ xs) ys e = either_case h xs ys (nat_eq h x) (λ f. has_either h xs ys f) e
 
-pub both_mentioned : (ms more : List Mention) (xs ys : List ℕ) (n : ℕ) → AreMentioned ms xs n → Grows ms more n → AreMentioned more ys n → AreMentioned more (xs ++ ys) n
-both_mentioned ms more xs ys n a g b h e = ⊎_elim (λ f. g.kept h n (a h f)) (λ f. b h f) (has_either h xs ys e)
-
 pub still_mentioned : (ms more : List Mention) (xs : List ℕ) (n : ℕ) → AreMentioned ms xs n → Grows ms more n → AreMentioned more xs n
 still_mentioned ms more xs n a g h e = g.kept h n (a h e)
 
--- an item that enters a chunk, or leaves it, and what the chunk holds after the step
-pub exchange_mentioned : (ms : List Mention) (o i : List ℕ) (n : ℕ) → AreMentioned ms o n → AreMentioned ms i n → AreMentioned ms (o ++ (o ++ ((i ++ o) ++ []))) n
-exchange_mentioned ms o i n a b h e =
-    ⊎_elim (a h) (λ f. ⊎_elim (a h) (λ k. ⊎_elim (λ l. ⊎_elim (b h) (a h) (has_either h i o l)) (λ l. absurd (false≢true l)) (has_either h (i ++ o) [] k)) (has_either h o ((i ++ o) ++ []) f)) (has_either h o (o ++ ((i ++ o) ++ [])) e)
+pub each_mentioned : (ms : List Mention) (xs ys : List ℕ) (n : ℕ) → AreMentioned ms xs n → AreMentioned ms ys n → AreMentioned ms (xs ++ ys) n
+each_mentioned ms xs ys n a b h e = ⊎_elim (a h) (b h) (has_either h xs ys e)
 
--- two chunks, each by what it holds
-pub pair_mentioned : (ms more : List Mention) (xs ys : List ℕ) (n : ℕ) → AreMentioned ms xs n → Grows ms more n → AreMentioned more ys n → AreMentioned more ((xs ++ ys) ++ []) n
-pair_mentioned ms more xs ys n a g b h e = ⊎_elim (both_mentioned ms more xs ys n a g b h) (λ l. absurd (false≢true l)) (has_either h (xs ++ ys) [] e)
+pub both_mentioned : (ms more : List Mention) (xs ys : List ℕ) (n : ℕ) → AreMentioned ms xs n → Grows ms more n → AreMentioned more ys n → AreMentioned more (xs ++ ys) n
+both_mentioned ms more xs ys n a g = each_mentioned more xs ys n (still_mentioned ms more xs n a g)
 
 -- ---- what holds where a call answered Ok
 

@@ -279,6 +279,7 @@ impl<A: Allocator> Branch<A> {
         requires node { IsSome node.old }
         ensures ok { OnOk result ((n : PlainNode) → node.old ≡ Some n → self.new ≡ at_end (with_node n) self.old way.now) }
         ensures err { OnErr result (self.new ≡ self.old) }
+        ensures taken { OnOk result (node.new ≡ None) }
         ensures returned { OnErr result (node.new ≡ node.old) }
     {
         match way {
@@ -368,6 +369,7 @@ impl<A: Allocator> Branch<A> {
         A: Clone,
         requires { IsSome node.old }
         ensures ok { IfOk result (λ b. (n : PlainNode) → node.old ≡ Some n → b.value ≡ record { from = from; run = n ∷ []; forks = bare }) }
+        ensures taken { OnOk result (node.new ≡ None) }
         ensures err { OnErr result (node.new ≡ node.old) }
     {
         let (first, second, third) = handles(alloc)?;
@@ -421,6 +423,7 @@ fn add_to<A: Allocator>(
     requires { IsSome node.old }
     ensures ok { OnOk result ((n : PlainNode) → node.old ≡ Some n → run.new.items ≡ run.old.items ++ n ∷ []) }
     ensures err { OnErr result (run.new.items ≡ run.old.items) }
+    ensures taken { OnOk result (node.new ≡ None) }
     ensures returned { OnErr result (node.new ≡ node.old) }
 {
     match node.take() {

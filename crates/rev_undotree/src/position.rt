@@ -1,5 +1,5 @@
 //! A store that stands at a position of a tree.
-ghost use Rattle.std.specs.Prelude.{◌≡◌, ℕ, ◌-◌, Some, ◌<◌, ◌≤◌, ◌^◌, ◌+◌, ◌++◌, ◌∷◌, [], ◌↔◌, ◌⊎◌, eqb, IsTrue, OnOk, OnErr, IfSome, IfNone, IsSome, length, take};
+ghost use Rattle.std.specs.Prelude.{◌≡◌, ℕ, ◌-◌, Some, None, ◌<◌, ◌≤◌, ◌^◌, ◌+◌, ◌++◌, ◌∷◌, [], ◌↔◌, ◌⊎◌, eqb, IsTrue, OnOk, OnErr, IfSome, IfNone, IsSome, length, take};
 ghost use Rattle.rev_undotree.specs.Steps.{State, next, outcome_of, Undoes};
 ghost use Rattle.rev_undotree.specs.Ways.{reach, IsWay};
 ghost use Rattle.rev_undotree.specs.Rows.{number_at};
@@ -235,6 +235,7 @@ impl<A: Allocator> Position<A> {
         requires node { IsSome node.old }
         ensures ok { OnOk result ((n : PlainNode) → node.old ≡ Some n → (root before : State) → Stands root before self.old.base self.old.way.items self.old.here → self.old.store ≡ next before n.step → Undoes n.undo before n.step → n.outcome ≡ outcome_of before n.step → Grown root self.old.base self.old.way.items self.old.here self.new.store self.new.base self.new.way.items self.new.here n.number n.step (eqb self.old.here (length (reach self.old.base self.old.way.items).run))) }
         ensures err { OnErr result ((self.new.store ≡ self.old.store) × (self.new.base ≡ self.old.base) × (self.new.way ≡ self.old.way) × (self.new.here ≡ self.old.here)) }
+        ensures taken { OnOk result (node.new ≡ None) }
         ensures returned { OnErr result (node.new ≡ node.old) }
     {
         let parent = self.last_number();
@@ -260,6 +261,7 @@ impl<A: Allocator> Position<A> {
         requires node { IsSome node.old }
         ensures ok { OnOk result ((n : PlainNode) → node.old ≡ Some n → (root before : State) → Stands root before self.old.base self.old.way.items self.old.here → self.old.store ≡ next before n.step → Undoes n.undo before n.step → n.outcome ≡ outcome_of before n.step → Grown root self.old.base self.old.way.items self.old.here self.new.store self.new.base self.new.way.items self.new.here n.number n.step (eqb self.old.here (length (reach self.old.base self.old.way.items).run))) }
         ensures err { OnErr result ((self.new.store ≡ self.old.store) × (self.new.base ≡ self.old.base) × (self.new.way ≡ self.old.way) × (self.new.here ≡ self.old.here)) }
+        ensures taken { OnOk result (node.new ≡ None) }
         ensures returned { OnErr result (node.new ≡ node.old) }
     {
         if self.is_last() {

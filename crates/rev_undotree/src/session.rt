@@ -439,6 +439,7 @@ fn add<A: Allocator + Clone>(
     requires within { (n : PlainNode) → held.old ≡ Some n → Within mentions.old n.number }
     ensures ok { OnOk result ((n : PlainNode) → held.old ≡ Some n → (root before : State) → Stands root before position.old.base position.old.way.items position.old.here → position.old.store ≡ next before n.step → Undoes n.undo before n.step → n.outcome ≡ outcome_of before n.step → Grown root position.old.base position.old.way.items position.old.here position.new.store position.new.base position.new.way.items position.new.here n.number n.step (eqb position.old.here (length (reach position.old.base position.old.way.items).run))) }
     ensures err { OnErr result ((position.new.store ≡ position.old.store) × (position.new.base ≡ position.old.base) × (position.new.way ≡ position.old.way) × (position.new.here ≡ position.old.here)) }
+    ensures taken { OnOk result (held.new ≡ None) }
     ensures returned { OnErr result (held.new ≡ held.old) }
     ensures named { OnOk result ((n : PlainNode) → held.old ≡ Some n → AreMentioned mentions.new (stored_keys n.step n.outcome ++ named position.old.store n.undo.moves) n.number) }
     ensures grows { (n : PlainNode) → held.old ≡ Some n → Grows mentions.old mentions.new n.number }
