@@ -194,6 +194,11 @@ fn files_of(alloc: Global, matches: &ArgMatches<'_>) -> Result<Vec<String>, Allo
     Ok(files)
 }
 
+// The parser's error of this kind, in its own form.
+fn fault(alloc: Global, kind: ErrorKind, text: &str) -> Result<Error, AllocError> {
+    whole_command(alloc)?.error(kind, text)
+}
+
 // The recording that the words ask for, or the parser's error.
 fn recording(alloc: Global, matches: &ArgMatches<'_>) -> Result<Request, Error>
     ensures { IfOk result IsInRange }
@@ -202,22 +207,18 @@ fn recording(alloc: Global, matches: &ArgMatches<'_>) -> Result<Request, Error>
     let files = files_of(alloc, matches)?;
     // The parser has counted them, and its contracts do not say so.
     if files.is_empty() {
-        return Err(whole_command(alloc)?.error(ErrorKind::TooFewValues, "record: no file")?);
+        return Err(fault(alloc, ErrorKind::TooFewValues, "record: no file")?);
     }
     if files.len() > MOST_FILES {
-        return Err(whole_command(alloc)?.error(
-            ErrorKind::TooManyValues,
-            "record: more than 8 files",
-        )?);
+        return Err(fault(alloc, ErrorKind::TooManyValues, "record: more than 8 files")?);
     }
     Ok(Request::Record { config, files })
 }
 
-// What the words ask for, or the parser's error.
-fn parsed<S: AsStr>(alloc: Global, words: &[S]) -> Result<Request, Error>
+// What the words ask for by the parser's reading of them, or the parser's error.
+fn request_of(alloc: Global, matches: &ArgMatches<'_>) -> Result<Request, Error>
     ensures { IfOk result IsInRange }
 {
-    let matches = whole_command(alloc)?.try_get_matches_from(words)?;
     if let Some(inner) = matches.subcommand_matches("run") {
         let config = config_of(inner);
         return Ok(Request::Run { config });
@@ -225,7 +226,15 @@ fn parsed<S: AsStr>(alloc: Global, words: &[S]) -> Result<Request, Error>
     if let Some(inner) = matches.subcommand_matches("record") {
         return recording(alloc, inner);
     }
-    Err(whole_command(alloc)?.error(ErrorKind::MissingSubcommand, "run")?)
+    Err(fault(alloc, ErrorKind::MissingSubcommand, "run")?)
+}
+
+// What the words ask for, or the parser's error.
+fn parsed<S: AsStr>(alloc: Global, words: &[S]) -> Result<Request, Error>
+    ensures { IfOk result IsInRange }
+{
+    let matches = whole_command(alloc)?.try_get_matches_from(words)?;
+    request_of(alloc, &matches)
 }
 
 fn told(alloc: Global, error: Error) -> Refused {

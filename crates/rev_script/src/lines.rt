@@ -8,6 +8,7 @@ ghost use Rattle.rev_items.specs.Keys.{is_key};
 ghost use Rattle.rev_model.specs.Client.{Bytes, Skipped};
 ghost use Rattle.rev_requests.specs.Plain.{plain_payload};
 ghost use Rattle.rev_grammar.specs.Commands.{asked};
+ghost use Rattle.rev_grammar.specs.Keyed.{HasKeys};
 ghost use Rattle.rev_grammar.specs.Words.{words};
 ghost use Rattle.rev_script.specs.Line.{view, IsAsked, IsNext, IsFault, IsStorageLine};
 ghost use Rattle.rev_script.specs.ByteReader.{StoppedBy, IsEnded};
@@ -56,11 +57,16 @@ fn behind_first<'a, 'b>(words: &'b [&'a [u8]]) -> &'b [&'a [u8]]
     if words.is_empty() { words } else { &words[1..] }
 }
 
-fn asked_line<A: Allocator + Clone>(alloc: A, body: &[u8]) -> Result<Asked<A>, AllocError>
-    ensures { IfOk result (λ a. IsAsked a (asked body.now) (words body.now)) }
+// What a command and the words of its line ask for.
+fn asked_by<A: Allocator + Clone>(
+    alloc: A,
+    command: Command,
+    words: &[&[u8]],
+) -> Result<Asked<A>, AllocError>
+    requires { HasKeys command (map (λ x. x.now) words.now) }
+    ensures { IfOk result (λ a. IsAsked a command (map (λ x. x.now) words.now)) }
 {
-    let words = words(alloc.clone()?, body)?;
-    match asked(body, words.as_slice()) {
+    match command {
         Command::Storage {
             command,
             flags,
@@ -68,7 +74,7 @@ fn asked_line<A: Allocator + Clone>(alloc: A, body: &[u8]) -> Result<Asked<A>, A
             size,
             noreply,
         } => {
-            let key = key_of(alloc, word(words.as_slice(), 1))?;
+            let key = key_of(alloc, word(words, 1))?;
             Ok(Asked::Storage {
                 command,
                 key,
@@ -79,11 +85,11 @@ fn asked_line<A: Allocator + Clone>(alloc: A, body: &[u8]) -> Result<Asked<A>, A
             })
         }
         Command::Retrieval { with_cas } => {
-            let keys = keys_of(alloc, behind_first(words.as_slice()))?;
+            let keys = keys_of(alloc, behind_first(words))?;
             Ok(Asked::Done(Line::Client(ClientLine::Retrieval { keys, with_cas })))
         }
         Command::Update { command, noreply } => {
-            let key = key_of(alloc, word(words.as_slice(), 1))?;
+            let key = key_of(alloc, word(words, 1))?;
             Ok(Asked::Done(Line::Client(ClientLine::Update {
                 command,
                 key,
@@ -98,15 +104,23 @@ fn asked_line<A: Allocator + Clone>(alloc: A, body: &[u8]) -> Result<Asked<A>, A
         Command::Clock(now) => Ok(Asked::Done(Line::Clock(now))),
         Command::Debug(command) => Ok(Asked::Done(Line::Debug(DebugLine::Plain(command)))),
         Command::Query(query) => {
-            let key = key_of(alloc, word(words.as_slice(), 1))?;
+            let key = key_of(alloc, word(words, 1))?;
             Ok(Asked::Done(Line::Debug(DebugLine::Query { query, key })))
         }
         Command::Bookmark(command) => {
-            let name = Vec::from_slice(alloc, word(words.as_slice(), 1))?;
+            let name = Vec::from_slice(alloc, word(words, 1))?;
             Ok(Asked::Done(Line::Debug(DebugLine::Bookmark { command, name })))
         }
         Command::Bad(answer) => Ok(Asked::Done(Line::Bad { answer })),
     }
+}
+
+// What a line asks for, by its bytes without their ending. Its words are parted once.
+fn asked_line<A: Allocator + Clone>(alloc: A, body: &[u8]) -> Result<Asked<A>, AllocError>
+    ensures { IfOk result (λ a. IsAsked a (asked body.now) (words body.now)) }
+{
+    let words = words(alloc.clone()?, body)?;
+    asked_by(alloc, asked(body, words.as_slice()), words.as_slice())
 }
 
 // The data of a storage line, from what was kept of its data block.
