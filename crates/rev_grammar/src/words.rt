@@ -7,13 +7,16 @@ ghost use Rattle.rev_items.specs.Keys.{is_key};
 use rev_items::is_key;
 use std::alloc::{AllocError, Allocator};
 
+/// For how many words a list has room at first (this project's own figure): a line that stores an item has at most seven.
+const USUAL_WORDS: usize = 8;
+
 /// The words of a text, parted by runs of spaces. Only the list takes memory.
 pub fn words<A: Allocator>(alloc: A, text: &[u8]) -> Result<Vec<&[u8], A>, AllocError>
     ensures { IfOk result (λ v. map (λ x. x.now) v.items ≡ words text.now) }
 {
-    text.split(|b| *b == b' ')
-        .filter(|w| !w.is_empty())
-        .collect(alloc)
+    let mut words = Vec::with_capacity(alloc, USUAL_WORDS)?;
+    words.extend(text.split(|b| *b == b' ').filter(|w| !w.is_empty()))?;
+    Ok(words)
 }
 
 /// A word by its place from 0, empty where there is none.
