@@ -3,7 +3,9 @@ pub mod Tables
 pub mod Chains
 pub mod Steps
 pub mod Owners
+pub mod Counts
 pub mod Exchange
 pub mod Carving
 pub mod Lifting
+pub mod Giving
 pub mod Opening

@@ -1,5 +1,5 @@
 -- What the owners tell of the pages.
-use Rattle.std.proofs.Common.{◌≡◌, ◌≢◌, ℕ, suc, zero, ◌+◌, ◌<◌, ◌≤◌, Bool, true, false, cond, ◌||◌, Some, None, is_some, List, [], ◌∷◌, length, get_or, refl, sym, ◌∙◌, ap, arith, take, drop}
+use Rattle.std.proofs.Common.{◌≡◌, ◌≢◌, ℕ, suc, zero, ◌+◌, ◌<◌, ◌≤◌, Bool, true, false, cond, ◌||◌, Option, Some, None, is_some, List, [], ◌∷◌, length, get_or, refl, sym, ◌∙◌, ap, arith, take, drop}
 use Rattle.std.specs.Prelude.{nat_eq}
 use Rattle.std.specs.List.{list_any}
 use Rattle.std.proofs.lemmas.Bool.{eq-eqb, ne_eqb}
@@ -7,6 +7,7 @@ use Rattle.std.proofs.lemmas.List.{length-take-le, get_or-take}
 use Rattle.rev_model.specs.Pull.{page_from}
 use Rattle.rev_pages.specs.Tables.{FreeLink}
 use Rattle.rev_pages.specs.State.{PagesState, state_of, IsLinked}
+use Rattle.rev_pages.proofs.Counts.{read}
 
 -- going on from a page
 pub page_step : (class page : ℕ) (owner : List ℕ) → page < length owner
@@ -43,6 +44,14 @@ some_page class (d ∷ ds) k = go (nat_eq d class) (some_page class ds (k + 1))
     go true ih = refl
     go false ih = ih
 
+-- where none is, there is no lowest
+pub no_page : (class : ℕ) (owner : List ℕ) (k : ℕ) → list_any (λ d. nat_eq d class) owner ≡ false → None ≡ page_from k class owner
+no_page class owner k e = go (page_from k class owner) (some_page class owner k ∙ e)
+  where
+    go : (o : Option ℕ) → is_some o ≡ false → None ≡ o
+    go None n = refl
+    go (Some p) n = cc
+
 module _ (owners : List ℕ) (made : ℕ) (ends : List FreeLink) (links : List (List FreeLink)) (h : IsLinked owners made ends links) (v : PagesState) (e : state_of owners made ends links ≡ v) where
   pub made_count : made ≡ length v.owner
   made_count =
@@ -56,9 +65,4 @@ module _ (owners : List ℕ) (made : ℕ) (ends : List FreeLink) (links : List (
   owner_is page x l u =
       let w = owner_within page l in
       let m = made_count in
-      u ∙ (get_or_other owners page x 0 w ∙ (sym (get_or-take made owners page 0 (omega arith)) ∙ ap (λ (q : PagesState). get_or q.owner page 0) e))
-    where
-      get_or_other : (xs : List ℕ) (i d d' : ℕ) → i < length xs → get_or xs i d ≡ get_or xs i d'
-      get_or_other [] i d d' l = absurd (omega (arith, l))
-      get_or_other (x ∷ xs) zero d d' l = refl
-      get_or_other (x ∷ xs) (suc i) d d' l = get_or_other xs i d d' (omega (arith, l))
+      read owners page x w u ∙ (sym (get_or-take made owners page 0 (omega arith)) ∙ ap (λ (q : PagesState). get_or q.owner page 0) e)

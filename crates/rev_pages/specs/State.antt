@@ -1,6 +1,6 @@
 -- The pages as plain lists, and when links stand for them.
-use Rattle.std.specs.Prelude.{◌≡◌, ℕ, ◌∷◌, ◌++◌, ◌<◌, ◌≤◌, List, [], length, map, take, replicate, slice_index, slice_index_or, slice_set}
-use Rattle.std.specs.List.{range_with_len}
+use Rattle.std.specs.Prelude.{◌≡◌, ℕ, ◌∷◌, ◌++◌, ◌<◌, ◌≤◌, List, [], length, map, nat_eq, take, replicate, slice_index, slice_index_or, slice_set}
+use Rattle.std.specs.List.{count_by, range_with_len}
 use Rattle.rev_links.specs.declared.places.Place.TheVariants.{End}
 use Rattle.rev_links.specs.Rings.{walk, Path, In}
 use Rattle.rev_model.specs.declared.ChunkRef.{ChunkRef}
@@ -55,9 +55,27 @@ pub record IsLinked (owners : List ℕ) (made : ℕ) (ends : List FreeLink) (lin
   pub pages : length links < 65536
   pub slots_below : (p : ℕ) → slice_index (map length links) p ≤ 65535
 
+-- there is a cell for each class, in which stands how many pages it owns
+pub record AreCounted (owned : List ℕ) (classes : ℕ) (owner : List ℕ) : Type 0 where
+  pub cells : length owned ≡ classes
+  pub each : (c : ℕ) → slice_index owned c ≡ count_by (λ d. nat_eq d c) owner
+
+-- the lists are linked, and the pages of each class counted
+pub record IsKept (owners : List ℕ) (made : ℕ) (owned : List ℕ) (ends : List FreeLink) (links : List (List FreeLink)) : Type 0 where
+  pub linked : IsLinked owners made ends links
+  pub counted : AreCounted owned (length ends) (take made owners)
+
 -- the chunks of a page in front of a list, the highest slot first
 abbrev pub carved : ℕ → ℕ → List ChunkRef → List ChunkRef
 carved page n xs = falling page n ++ xs
+
+-- the pages belong to these
+abbrev pub with_owner : PagesState → List ℕ → PagesState
+with_owner s owner = record s { owner = owner }
+
+-- a page has n slots
+abbrev pub with_slots : PagesState → ℕ → ℕ → PagesState
+with_slots s page n = record s { slots = slice_set s.slots page n }
 
 -- a page gets n slots and an owner: the page is the next number, or it was there
 abbrev pub with_new_page : PagesState → ℕ → ℕ → ℕ → PagesState

@@ -76,9 +76,7 @@ impl<A: Allocator> Pages<A> {
         ensures clear { IsClear self.new page }
     {
         let Slots { links } = slots;
-        let owner = &mut self.owners[usize::from(page)];
-        *owner = class as u16;
-        self.made += 1;
+        self.push_owner(class);
         self.table.links.lay(page, links);
     }
 
@@ -92,8 +90,7 @@ impl<A: Allocator> Pages<A> {
         ensures clear { IsClear self.new page }
     {
         let Slots { links } = slots;
-        let owner = &mut self.owners[usize::from(page)];
-        *owner = class as u16;
+        self.set_owner(page, class);
         self.table.links.lay(page, links);
     }
 
@@ -105,7 +102,7 @@ impl<A: Allocator> Pages<A> {
         ensures count { result ≡ slice_index self.old.slots page }
         ensures value { self.new ≡ without_last_page self.old page }
     {
-        self.made -= 1;
+        self.pop_owner();
         let links = self.table.links.lift(page);
         Slots { links }
     }
@@ -118,7 +115,8 @@ impl<A: Allocator> Pages<A> {
         ensures count { result ≡ slice_index self.old.slots page }
         ensures value { self.new ≡ with_page self.old page 0 0 }
     {
-        self.owners[usize::from(page)] = 0;
+        let _table = &self.table;
+        self.set_owner(page, 0);
         let links = self.table.links.lift(page);
         Slots { links }
     }

@@ -5,6 +5,7 @@
 
 mod laying;
 mod making;
+mod owning;
 mod pages;
 mod parts;
 mod places;

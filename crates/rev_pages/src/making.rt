@@ -48,8 +48,10 @@ impl<A: Allocator + Clone + Drop> Pages<A> {
         ensures { IfOk result (λ s. s ≡ no_pages (length table.entry.now.sizes + 1) (config.entry.now.pages + 62)) }
     {
         let places = config.pages as usize + MAX_CLASSES;
+        let lists = table.last() + 1;
         let owners = vec![in alloc.clone()?; 0; places]?;
-        let ends = empty_ends(alloc.clone()?, table.last() as u16 + 1)?;
+        let owned = vec![in alloc.clone()?; 0; lists]?;
+        let ends = empty_ends(alloc.clone()?, lists as u16)?;
         let links = Grid::open(alloc, places)?;
         let table = Table {
             ends: Cells::over(ends),
@@ -58,6 +60,7 @@ impl<A: Allocator + Clone + Drop> Pages<A> {
         Ok(Pages {
             owners,
             made: 0,
+            owned,
             table,
         })
     }

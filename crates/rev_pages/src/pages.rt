@@ -46,17 +46,19 @@ fn place_behind(class: usize, after: Option<ChunkRef>) -> FreePlace
 pub struct Pages<A: Allocator> {
     pub(crate) owners: Vec<u16, A>,
     pub(crate) made: u16,
+    // How many pages each class owns, where class 0 is the page pool.
+    pub(crate) owned: Vec<u16, A>,
     pub(crate) table: Table<A>,
 }
 
 impl<A: Allocator> Model for Pages<A> {
-    ghost use Rattle.rev_pages.specs.State.{PagesState, state_of, IsLinked};
+    ghost use Rattle.rev_pages.specs.State.{PagesState, state_of, IsKept};
 
     ghost Value = { PagesState };
 
     ghost view = { λ s. state_of s.owners.items s.made s.table.ends s.table.links };
 
-    ghost invariant = { λ s. IsLinked s.owners.items s.made s.table.ends s.table.links };
+    ghost invariant = { λ s. IsKept s.owners.items s.made s.owned.items s.table.ends s.table.links };
 }
 
 impl<A: Allocator> Pages<A> {
@@ -80,6 +82,9 @@ impl<A: Allocator> Pages<A> {
     pub fn lowest_page(&self, class: usize) -> Option<u16>
         ensures { result ≡ page_from 0 class self.now.owner }
     {
+        if !self.owns_page(class) {
+            return None;
+        }
         for page in 0..self.made() {
             if self.owner(page) == class {
                 return Some(page as u16);
@@ -92,7 +97,7 @@ impl<A: Allocator> Pages<A> {
     pub fn owns_page(&self, class: usize) -> bool
         ensures { result ≡ list_any (λ owner. nat_eq owner class) self.now.owner }
     {
-        self.lowest_page(class).is_some()
+        class < self.owned.len() && self.owned[class] > 0
     }
 
     /// The front chunk of a class's free list.

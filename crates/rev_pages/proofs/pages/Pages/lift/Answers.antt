@@ -14,13 +14,13 @@ uncarve_freely-requires-in-Pool-clause-class g c =
 pub detach_last-requires-clause-clear : goal.detach_last-requires-clause-clear
 detach_last-requires-clause-clear g c =
     let s = c.self.inside in
-    lift_clear c.args.self.now c.args.page _ _ _ c.from.ensures c.owner-class.ensures c.count-n.ensures s.owners.items s.made s.table.ends s.table.links c.self.invariant c.self.view_is _ c.requires.there
+    lift_clear c.args.self.now c.args.page _ _ _ c.from.ensures c.owner-class.ensures c.count-n.ensures s.owners.items s.made s.table.ends s.table.links c.self.invariant.linked c.self.view_is _ c.requires.there
     (subst (λ f. CanLift f c.args.page c.args.self.now) c.in-Fresh.is c.requires.page).1 c.uncarve_freely.ensures
 
 pub detach-requires-clause-clear : goal.detach-requires-clause-clear
 detach-requires-clause-clear g c =
     let s = c.self.inside in
-    lift_clear c.args.self.now c.args.page _ _ _ c.from.ensures c.owner-class.ensures c.count-n.ensures s.owners.items s.made s.table.ends s.table.links c.self.invariant c.self.view_is _ c.requires.there
+    lift_clear c.args.self.now c.args.page _ _ _ c.from.ensures c.owner-class.ensures c.count-n.ensures s.owners.items s.made s.table.ends s.table.links c.self.invariant.linked c.self.view_is _ c.requires.there
     (subst (λ f. CanLift f c.args.page c.args.self.now) c.in-Pool.is c.requires.page).1 c.uncarve_freely-in-Pool.ensures
 
 pub detach-requires-in-Withdrawn-clause-clear : goal.detach-requires-in-Withdrawn-clause-clear

@@ -1,5 +1,5 @@
 use Rattle.std.proofs.Common.{◌∙◌, sym, arith}
-use Rattle.rev_pages.proofs.Owners.{page_met, page_passed, page_end}
+use Rattle.rev_pages.proofs.Owners.{no_page, page_met, page_passed, page_end}
 use Rattle.rev_pages.proofs.pages.Pages.lowest_page.Goals as goal
 
 pub overflow_cast-result : goal.overflow_cast-result
@@ -21,3 +21,6 @@ pub returns : goal.returns
 returns g c =
     let l = c.made-page-end.ensures.made in let m = c.loop-page-test.false in
     sym (c.loop-page.invariant ∙ page_end c.args.class c.loop-page.page c.args.self.now.owner (omega (arith, l, m)))
+
+pub returns-then-not-owns_page : goal.returns-then-not-owns_page
+returns-then-not-owns_page g c = no_page c.args.class c.args.self.now.owner 0 (sym c.owns_page.ensures ∙ c.if-not-owns_page.true)
