@@ -63,6 +63,7 @@ pub fn retouch<A: Allocator>(
 }
 
 /// A chunk goes from a queue of its class to the head of another, or of the same: two moves.
+#[inline(always)]
 pub fn to_head<A: Allocator>(
     store: &mut Store<A>,
     class: usize,
@@ -129,6 +130,7 @@ pub fn warm_up<A: Allocator>(
 }
 
 /// The item goes to COLD's head, and moves_to_cold is raised: three moves.
+#[inline(always)]
 pub fn cool<A: Allocator>(
     store: &mut Store<A>,
     class: usize,

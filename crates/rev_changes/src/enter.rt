@@ -20,6 +20,7 @@ use rev_moves::{Move, Record};
 use std::alloc::Allocator;
 
 /// The front free chunk of a class leaves its list, and is then held by the step: at most one move.
+#[inline(always)]
 pub fn take_front<A: Allocator>(
     store: &mut Store<A>,
     class: usize,

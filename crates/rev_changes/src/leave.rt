@@ -19,6 +19,7 @@ use std::alloc::Allocator;
 
 /// The item leaves its queue, the index and its chunk: three moves. The cause, if there is one, is noted beside the
 /// reverse of the second.
+#[inline(always)]
 pub fn unlink<A: Allocator>(
     store: &mut Store<A>,
     class: usize,
@@ -48,6 +49,7 @@ pub fn unlink<A: Allocator>(
 }
 
 /// A chunk that is in no list and empty goes to the front of its class's free list: one move.
+#[inline(always)]
 pub fn free<A: Allocator>(store: &mut Store<A>, class: usize, chunk: ChunkRef, undo: &mut Record<A>)
     requires well { WellFormed store.old }
     requires loose { Loose store.old class chunk }
@@ -86,6 +88,7 @@ pub fn drop_item<A: Allocator>(
 }
 
 /// An item leaves, its chunk is free, and a counter is raised: five moves.
+#[inline(always)]
 pub fn discard<A: Allocator>(
     store: &mut Store<A>,
     class: usize,

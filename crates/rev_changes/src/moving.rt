@@ -12,6 +12,7 @@ use rev_moves::{Move, Record};
 use std::alloc::Allocator;
 
 /// Makes a single move, without a note.
+#[inline(always)]
 pub fn change<A: Allocator>(store: &mut Store<A>, next: Move<A>, undo: &mut Record<A>)
     requires single { IsSingle next }
     requires well { WellFormed store.old }

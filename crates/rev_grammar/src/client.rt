@@ -30,6 +30,7 @@ pub fn storage_of(w: &[u8]) -> Option<StorageCommand>
 
 // A storage line whose number of words is right: `n`, and perhaps `noreply`.
 #[tactic(auto, unfolding(crate::specs::Commands::storage))]
+#[inline(always)]
 fn storage(command: StorageCommand, n: usize, words: &[&[u8]]) -> Command
     requires { n < 16 }
     ensures value { result ≡ storage command n (map (λ x. x.now) words.now) }

@@ -116,6 +116,7 @@ fn longest(words: &[&[u8]]) -> usize
 /// What a line asks for, by its bytes without their ending and by its words.
 /// A line of more bytes than it may have is not looked at further.
 #[tactic(auto, unfolding(crate::specs::Commands::asked))]
+#[inline(always)]
 pub fn asked(body: &[u8], parts: &[&[u8]]) -> Command
     requires { map (λ x. x.now) parts.now ≡ words body.now }
     ensures value { result ≡ asked body.now }

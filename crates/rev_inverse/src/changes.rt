@@ -48,6 +48,7 @@ impl<A: Allocator> Store<A> {
         }
     }
 
+    #[inline(always)]
     pub(crate) fn take(&mut self, at: Listed) -> Placed
         requires well { WellFormed self.old }
         requires possible { Possible (plain.Takes at) self.old }
@@ -72,6 +73,7 @@ impl<A: Allocator> Store<A> {
         }
     }
 
+    #[inline(always)]
     pub(crate) fn put(&mut self, at: Placed) -> Listed
         requires well { WellFormed self.old }
         requires possible { Possible (plain.Puts at) self.old }

@@ -12,6 +12,7 @@ use std::mem;
 
 impl<A: Allocator> Store<A> {
     // Makes a change that carries an item or a page's slots, and gives the one that undoes it.
+    #[inline(always)]
     fn carry(&mut self, next: Move<A>) -> Move<A>
         requires carries { Carries next }
         requires well { WellFormed self.old }
@@ -68,6 +69,8 @@ impl<A: Allocator> Store<A> {
     }
 
     // Makes a change, which then is the one that undoes it. It is read and written where it stands.
+    // Who makes a change names its kind: inlined there, with all that it calls, one arm of the match is left.
+    #[inline(always)]
     fn exchange(&mut self, group: &mut Move<A>)
         requires well { WellFormed self.old }
         requires possible { Fits (plain_moves group.old) self.old }
@@ -125,6 +128,7 @@ impl<A: Allocator> Store<A> {
     }
 
     /// Makes a change, and adds the one that undoes it to the record. It takes no memory.
+    #[inline(always)]
     pub fn make(&mut self, next: Move<A>, undo: &mut Record<A>)
         requires well { WellFormed self.old }
         requires possible { Fits (plain_moves next) self.old }

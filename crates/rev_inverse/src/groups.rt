@@ -27,6 +27,7 @@ fn ahead(from: Placed) -> Option<Entry>
 
 impl<A: Allocator> Store<A> {
     // An item enters a chunk, the index and a queue. The answer is what the chunk held.
+    #[inline(always)]
     pub(crate) fn enter(
         &mut self,
         class: usize,
@@ -48,6 +49,7 @@ impl<A: Allocator> Store<A> {
 
     // An item leaves its queue, the index and its chunk, which then holds `under`. The answer is what it stood behind, and
     // the item.
+    #[inline(always)]
     pub(crate) fn leave(
         &mut self,
         class: usize,
@@ -70,6 +72,7 @@ impl<A: Allocator> Store<A> {
     }
 
     // A chunk goes to another queue of its class, or to another place of its own. The answer is what it stood behind.
+    #[inline(always)]
     pub(crate) fn requeue(
         &mut self,
         class: usize,

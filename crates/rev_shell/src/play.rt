@@ -31,6 +31,7 @@ fn why<A: Allocator>(refused: (PlayFault, Step<A>)) -> PlayFault
 }
 
 /// Plays a step. At an error the session is as it was.
+#[inline(always)]
 pub fn play<A: Allocator + Clone>(
     session: &mut Session<A>,
     step: Step<A>,
@@ -70,6 +71,7 @@ pub fn put_reply<A: Allocator>(
 }
 
 /// Plays the step of a line, and writes what is answered.
+#[inline(always)]
 pub fn play_line<A: Allocator + Clone>(
     session: &mut Session<A>,
     step: Step<A>,

@@ -416,6 +416,7 @@ pub fn give_back<A: Allocator>(held: &mut Option<Node<A>>, node: Node<A>)
 }
 
 // Adds the node that is held out to a run. Err: a growth was refused, and the node is still there.
+#[inline(always)]
 fn add_to<A: Allocator>(
     run: &mut Vec<Node<A>, A>,
     node: &mut Option<Node<A>>,
@@ -426,13 +427,11 @@ fn add_to<A: Allocator>(
     ensures taken { OnOk result (node.new ≡ None) }
     ensures returned { OnErr result (node.new ≡ node.old) }
 {
+    run.reserve(1)?;
     match node.take() {
         Some(next) => match run.push(next) {
             Ok(()) => Ok(()),
-            Err(refused) => {
-                give_back(node, refused.value);
-                Err(AllocError)
-            }
+            Err(_) => unreachable!(),
         },
         None => unreachable!(),
     }

@@ -60,6 +60,7 @@ fn stored_hash<A: Allocator>(step: &Step<A>, outcome: Outcome) -> Option<u32>
 }
 
 /// Mentions a hash, if there is one.
+#[inline(always)]
 fn mention_hash<A: Allocator>(
     mentions: &mut Mentions<A>,
     hash: Option<u32>,
