@@ -1,25 +1,14 @@
 -- What the owners become where a page comes, goes or changes its class.
-use Rattle.std.proofs.Common.{◌≡◌, ℕ, suc, zero, ◌+◌, ◌-◌, ◌<◌, ◌≤◌, List, [], ◌∷◌, ◌++◌, false, length, get_or, set, refl, sym, ◌∙◌, ap, subst, arith, take, map}
+use Rattle.std.proofs.Common.{◌≡◌, ℕ, ◌+◌, ◌-◌, ◌<◌, ◌≤◌, List, [], ◌∷◌, ◌++◌, false, length, get_or, set, refl, sym, ◌∙◌, ap, subst, arith, take, map}
 use Rattle.std.specs.Prelude.{nat_eq, nat_lt}
 use Rattle.std.specs.List.{list_any}
-use Rattle.std.proofs.lemmas.List.{length-set, length-take-le, length-map, take_more_set, get_or-take, get_or_past}
+use Rattle.std.proofs.lemmas.List.{length-set, length-take-le, length-map, take_more_set, take-take, get_or-take, get_or_past}
+use Rattle.std.proofs.Math.Seq.{take-set-lt}
 use Rattle.rev_pages.specs.Tables.{FreeLink}
 use Rattle.rev_pages.specs.State.{PagesState, with_owner, chains, state_of, IsLinked, AreCounted, IsKept}
 use Rattle.rev_pages.proofs.Counts.{read, some_counted, few_owned, some_owned, cell_owned, counted_more, counted_less, few_left, counted_set}
 use Rattle.rev_pages.proofs.Steps.{has_end}
 use Rattle.rev_pages.proofs.Chains.{length-chains}
-
-take-set_within : {X : Type 0} (n : ℕ) (xs : List X) (i : ℕ) (y : X) → take n (set xs i y) ≡ set (take n xs) i y
-take-set_within zero xs i y = refl
-take-set_within (suc n) [] i y = refl
-take-set_within (suc n) (x ∷ xs) zero y = refl
-take-set_within (suc n) (x ∷ xs) (suc i) y = ap (λ zs. x ∷ zs) (take-set_within n xs i y)
-
-take_take : {X : Type 0} (m n : ℕ) (xs : List X) → m ≤ n → take m (take n xs) ≡ take m xs
-take_take zero n xs l = refl
-take_take (suc m) zero xs l = absurd (omega (arith, l))
-take_take (suc m) (suc n) [] l = refl
-take_take (suc m) (suc n) (x ∷ xs) l = ap (λ ys. x ∷ ys) (take_take m n xs (omega (arith, l)))
 
 -- the lists stay linked under as many owners
 linked_owners : (owners : List ℕ) (made : ℕ) (ends : List FreeLink) (links : List (List FreeLink)) (h : IsLinked owners made ends links) (owners' : List ℕ) (made' : ℕ)
@@ -113,7 +102,7 @@ module _ (owners : List ℕ) (made : ℕ) (owned : List ℕ) (ends : List FreeLi
     pop_value =
         let p = pages_made in let q = pages_are in
         let n : length v.owner - 1 ≡ k = omega arith in
-        rw (n, ← x) (ap (λ os. record { owner = os; free = chains ends links; slots = map length links }) (sym (take_take k made owners (let l = last in omega arith)))
+        rw (n, ← x) (ap (λ os. record { owner = os; free = chains ends links; slots = map length links }) (sym (take-take k made owners (let l = last in omega arith)))
         ∙ ap (λ w. with_owner w (take k w.owner)) e)
 
     -- y is the owner that is read of it, and a what is read of the owner's cell
@@ -150,8 +139,11 @@ module _ (owners : List ℕ) (made : ℕ) (owned : List ℕ) (ends : List FreeLi
     page_made : page < length pages
     page_made = let a = pages_are in omega arith
 
+    within : page < made
+    within = let a = page_made in let b = pages_made in omega arith
+
     pub set_value : state_of (set owners p class) made ends links ≡ with_owner v (set v.owner page class)
-    set_value = rw at (ap (λ os. record { owner = os; free = chains ends links; slots = map length links }) (take-set_within made owners page class)
+    set_value = rw at (ap (λ os. record { owner = os; free = chains ends links; slots = map length links }) (take-set-lt made owners page class within)
         ∙ ap (λ w. with_owner w (set w.owner page class)) e)
 
     -- y is the owner that is read of it, a what is read of that owner's cell, and b what is then read of the new one's
@@ -187,5 +179,5 @@ module _ (owners : List ℕ) (made : ℕ) (owned : List ℕ) (ends : List FreeLi
           pub set_kept : IsKept (set owners p class) made (set (set owned y (a - 1)) class (b + 1)) ends links
           set_kept = rw (entered_count, left_count, left_was, at) (record {
             linked = linked_owners owners made ends links h.linked (set owners page class) made (length-set owners page class) h.linked.made_within;
-            counted = rw (take-set_within made owners page class) (counted_set owned (length ends) pages h.counted page class page_made (has_cell class m));
+            counted = rw (take-set-lt made owners page class within) (counted_set owned (length ends) pages h.counted page class page_made (has_cell class m));
           })

@@ -79,14 +79,14 @@ with_slots s page n = record s { slots = slice_set s.slots page n }
 
 -- a page gets n slots and an owner: the page is the next number, or it was there
 abbrev pub with_new_page : PagesState → ℕ → ℕ → ℕ → PagesState
-with_new_page s page c n = record s { owner = s.owner ++ c ∷ []; slots = slice_set s.slots page n }
+with_new_page s page c n = with_slots (with_owner s (s.owner ++ c ∷ [])) page n
 
 abbrev pub with_page : PagesState → ℕ → ℕ → ℕ → PagesState
-with_page s page c n = record s { owner = slice_set s.owner page c; slots = slice_set s.slots page n }
+with_page s page c n = with_slots (with_owner s (slice_set s.owner page c)) page n
 
 -- the last page goes
 abbrev pub without_last_page : PagesState → ℕ → PagesState
-without_last_page s page = record s { owner = take page s.owner; slots = slice_set s.slots page 0 }
+without_last_page s page = with_slots (with_owner s (take page s.owner)) page 0
 
 -- no chunk of the page stands in a free list
 abbrev pub IsClear : PagesState → ℕ → Type 0

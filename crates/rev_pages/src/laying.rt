@@ -115,6 +115,7 @@ impl<A: Allocator> Pages<A> {
         ensures count { result ≡ slice_index self.old.slots page }
         ensures value { self.new ≡ with_page self.old page 0 0 }
     {
+        // the table has a list for the pool
         let _table = &self.table;
         self.set_owner(page, 0);
         let links = self.table.links.lift(page);

@@ -1,5 +1,5 @@
-use Rattle.std.proofs.Common.{◌≡◌, ◌∙◌, ◌<◌, ◌≤◌, ℕ, List, Bor, IfSome, MatchOption, None, Option, Some, ap, arith, get_or, inl, inr, length, refl, slice_get, sym}
-use Rattle.std.proofs.lemmas.Option.{slice_get_cases, slice_get_read}
+use Rattle.std.proofs.Common.{◌≡◌, ◌∙◌, ◌<◌, ◌≤◌, ℕ, List, Bor, IfSome, MatchOption, None, Option, Some, ap, get_or, length, refl, slice_get, sym}
+use Rattle.std.proofs.lemmas.Option.{slice_get_past, slice_get_read}
 use Rattle.std.specs.List.{HoldsAt}
 use Rattle.std.specs.Option.{option_copied}
 use Rattle.rev_model.specs.State.{State}
@@ -8,10 +8,7 @@ use Rattle.rev_inverse.proofs.store.Store.bump_at.Goals as goal
 -- what a reader by place answers, copied, is what stands there
 read : {X : Type 0} (P : Bor X → Type 0) (o : Option (Bor X)) (xs : List X) (i : ℕ) → MatchOption o (length xs ≤ i) (λ x. (i < length xs) × P x) → IfSome o (λ x. x.now ≡ get_or xs i x.now)
     → option_copied o ≡ slice_get xs i
-read P None xs i m h = elim ((slice_get_cases xs i).1) [
-  | inl p ↦ (let l = p.1 in absurd (omega (arith, l, m)))
-  | inr p ↦ sym p.1
-]
+read P None xs i m h = sym (slice_get_past xs i m)
 read P (Some x) xs i m h = sym (slice_get_read xs (length xs) i x.now refl m.0 h)
 
 pub returns : goal.returns
