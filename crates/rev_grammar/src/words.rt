@@ -1,9 +1,10 @@
 //! The words of a line.
-ghost use Rattle.std.specs.Prelude.{◌≡◌, map, length, true, ◌≤◌, ◌<◌, ◌+◌, IfOk};
+ghost use Rattle.std.specs.Prelude.{◌≡◌, map, length, true, [], IsTrue, ◌≤◌, ◌<◌, ◌+◌, IfOk};
 ghost use Rattle.std.specs.List.{list_all};
 ghost use Rattle.rev_grammar.specs.Words.{words, word, is_name, are_words};
 ghost use Rattle.rev_items.specs.Keys.{is_key};
 
+use arrayvec::ArrayVec;
 use rev_items::is_key;
 use std::alloc::{AllocError, Allocator};
 
@@ -17,6 +18,18 @@ pub fn words<A: Allocator>(alloc: A, text: &[u8]) -> Result<Vec<&[u8], A>, Alloc
     let mut words = Vec::with_capacity(alloc, USUAL_WORDS)?;
     words.extend(text.split(|b| *b == b' ').filter(|w| !w.is_empty()))?;
     Ok(words)
+}
+
+/// Puts the words of a text into an empty list that has room for eight of them, and takes no memory. At `false` they are not
+/// all there. That this is so only where the text has more than eight is speed, and not promised.
+pub fn few_words<'a>(few: &mut ArrayVec<&'a [u8], USUAL_WORDS>, text: &'a [u8]) -> bool
+    requires { few.old.items ≡ [] }
+    ensures { IsTrue result → map (λ x. x.now) few.new.items ≡ words text.now }
+{
+    match few.extend(text.split(|b| *b == b' ').filter(|w| !w.is_empty())) {
+        Ok(()) => true,
+        Err(_) => false,
+    }
 }
 
 /// A word by its place from 0, empty where there is none.

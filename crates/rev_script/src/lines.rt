@@ -19,9 +19,10 @@ use crate::data_block::{MOST_DATA, take_block};
 use crate::line::{Asked, ClientLine, DebugLine, Line};
 use crate::raw_line::{MOST_KEPT, read_text};
 use crate::source::Source;
+use arrayvec::ArrayVec;
 use rev_grammar::command::{BadAnswer, Command, StorageCommand};
 use rev_grammar::line::{asked, body};
-use rev_grammar::words::{word, words};
+use rev_grammar::words::{few_words, word, words};
 use rev_items::{Key, KeyFault};
 use rev_requests::Payload;
 use std::alloc::{AllocError, Allocator};
@@ -115,12 +116,28 @@ fn asked_by<A: Allocator + Clone>(
     }
 }
 
-// What a line asks for, by its bytes without their ending. Its words are parted once.
+// What a line asks for, by its bytes without their ending and by its words.
+fn asked_of<A: Allocator + Clone>(
+    alloc: A,
+    body: &[u8],
+    parts: &[&[u8]],
+) -> Result<Asked<A>, AllocError>
+    requires { map (λ x. x.now) parts.now ≡ words body.now }
+    ensures { IfOk result (λ a. IsAsked a (asked body.now) (words body.now)) }
+{
+    asked_by(alloc, asked(body, parts), parts)
+}
+
+// What a line asks for, by its bytes without their ending. A line of few words takes no memory for their list.
 fn asked_line<A: Allocator + Clone>(alloc: A, body: &[u8]) -> Result<Asked<A>, AllocError>
     ensures { IfOk result (λ a. IsAsked a (asked body.now) (words body.now)) }
 {
+    let mut few = ArrayVec::new();
+    if few_words(&mut few, body) {
+        return asked_of(alloc, body, few.as_slice());
+    }
     let words = words(alloc.clone()?, body)?;
-    asked_by(alloc, asked(body, words.as_slice()), words.as_slice())
+    asked_of(alloc, body, words.as_slice())
 }
 
 // The data of a storage line, from what was kept of its data block.

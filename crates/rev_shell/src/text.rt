@@ -54,7 +54,7 @@ pub fn bad_text(answer: BadAnswer) -> &'static [u8]
     }
 }
 
-/// Writes the line of an outcome; a hit and a miss have none.
+/// Writes the line of an outcome, all at once but for a number's; a hit and a miss have none.
 pub fn put_outcome<A: Allocator>(
     answer: &mut Vec<u8, A>,
     outcome: Outcome,
@@ -62,36 +62,39 @@ pub fn put_outcome<A: Allocator>(
     ensures { OnOk result (answer.new.items ≡ answer.old.items ++ outcome_text outcome) }
 {
     match outcome {
-        Outcome::Stored => put_output(answer, b"STORED"),
-        Outcome::NotStored => put_output(answer, b"NOT_STORED"),
-        Outcome::Exists => put_output(answer, b"EXISTS"),
-        Outcome::NotFound => put_output(answer, b"NOT_FOUND"),
-        Outcome::Deleted => put_output(answer, b"DELETED"),
-        Outcome::Touched => put_output(answer, b"TOUCHED"),
-        Outcome::Okay => put_output(answer, b"OK"),
+        Outcome::Stored => answer.extend_from_slice(b"STORED\r\n"),
+        Outcome::NotStored => answer.extend_from_slice(b"NOT_STORED\r\n"),
+        Outcome::Exists => answer.extend_from_slice(b"EXISTS\r\n"),
+        Outcome::NotFound => answer.extend_from_slice(b"NOT_FOUND\r\n"),
+        Outcome::Deleted => answer.extend_from_slice(b"DELETED\r\n"),
+        Outcome::Touched => answer.extend_from_slice(b"TOUCHED\r\n"),
+        Outcome::Okay => answer.extend_from_slice(b"OK\r\n"),
         Outcome::Hit { .. } | Outcome::Miss => Ok(()),
-        Outcome::TooLarge => put_output(answer, b"SERVER_ERROR object too large for cache"),
-        Outcome::NoChunk => put_output(answer, b"SERVER_ERROR out of memory storing object"),
-        Outcome::Busy => put_output(answer, b"BUSY"),
-        Outcome::BadClass => put_output(answer, b"BADCLASS"),
-        Outcome::NoSpare => put_output(answer, b"NOSPARE"),
-        Outcome::Same => put_output(answer, b"SAME"),
-        Outcome::Moved => put_output(answer, b"MOVED"),
-        Outcome::Reclaimed => put_output(answer, b"RECLAIMED"),
-        Outcome::Idle => put_output(answer, b"IDLE"),
-        Outcome::Passed => put_output(answer, b"PASSED"),
-        Outcome::Ended => put_output(answer, b"ENDED"),
-        Outcome::Withdrawn => put_output(answer, b"WITHDRAWN"),
-        Outcome::Rescued => put_output(answer, b"RESCUED"),
-        Outcome::Evicted => put_output(answer, b"EVICTED"),
-        Outcome::Finished => put_output(answer, b"FINISHED"),
+        Outcome::TooLarge => answer.extend_from_slice(
+            b"SERVER_ERROR object too large for cache\r\n",
+        ),
+        Outcome::NoChunk => answer.extend_from_slice(
+            b"SERVER_ERROR out of memory storing object\r\n",
+        ),
+        Outcome::Busy => answer.extend_from_slice(b"BUSY\r\n"),
+        Outcome::BadClass => answer.extend_from_slice(b"BADCLASS\r\n"),
+        Outcome::NoSpare => answer.extend_from_slice(b"NOSPARE\r\n"),
+        Outcome::Same => answer.extend_from_slice(b"SAME\r\n"),
+        Outcome::Moved => answer.extend_from_slice(b"MOVED\r\n"),
+        Outcome::Reclaimed => answer.extend_from_slice(b"RECLAIMED\r\n"),
+        Outcome::Idle => answer.extend_from_slice(b"IDLE\r\n"),
+        Outcome::Passed => answer.extend_from_slice(b"PASSED\r\n"),
+        Outcome::Ended => answer.extend_from_slice(b"ENDED\r\n"),
+        Outcome::Withdrawn => answer.extend_from_slice(b"WITHDRAWN\r\n"),
+        Outcome::Rescued => answer.extend_from_slice(b"RESCUED\r\n"),
+        Outcome::Evicted => answer.extend_from_slice(b"EVICTED\r\n"),
+        Outcome::Finished => answer.extend_from_slice(b"FINISHED\r\n"),
         Outcome::Number(n) => {
             put_number(answer, n)?;
             answer.extend_from_slice(b"\r\n")
         }
-        Outcome::NotNumber => put_output(
-            answer,
-            b"CLIENT_ERROR cannot increment or decrement non-numeric value",
+        Outcome::NotNumber => answer.extend_from_slice(
+            b"CLIENT_ERROR cannot increment or decrement non-numeric value\r\n",
         ),
     }
 }
