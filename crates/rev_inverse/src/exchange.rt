@@ -10,6 +10,14 @@ use rev_moves::{Move, Record};
 use std::alloc::Allocator;
 use std::mem;
 
+// Becomes another change.
+#[inline(always)]
+fn set<A: Allocator>(group: &mut Move<A>, next: Move<A>)
+    ensures { group.new ≡ next }
+{
+    *group = next;
+}
+
 impl<A: Allocator> Store<A> {
     // Makes a change that carries an item or a page's slots, and gives the one that undoes it.
     #[inline(always)]
@@ -82,7 +90,8 @@ impl<A: Allocator> Store<A> {
             Move::Enter { .. } | Move::Leave { .. } | Move::Lay(_, _, _, _) | Move::Lift(_, _, _) =>
                 {
                     let next = mem::replace(group, Move::BumpOut);
-                    *group = self.carry(next);
+                    let reverse = self.carry(next);
+                    set(group, reverse);
                 }
             Move::Requeue {
                 class,
@@ -94,8 +103,14 @@ impl<A: Allocator> Store<A> {
                 *after = self.requeue(*class, *from, *to, *chunk, *after);
                 mem::swap(from, to);
             }
-            Move::Take(at) => *group = Move::Put(self.take(*at)),
-            Move::Put(at) => *group = Move::Take(self.put(*at)),
+            Move::Take(at) => {
+                let reverse = Move::Put(self.take(*at));
+                set(group, reverse);
+            }
+            Move::Put(at) => {
+                let reverse = Move::Take(self.put(*at));
+                set(group, reverse);
+            }
             Move::Touch(chunk, next) => *next = self.touch(*chunk, *next),
             Move::Shift(from, to) => {
                 self.shift(*from, *to);
@@ -108,21 +123,29 @@ impl<A: Allocator> Store<A> {
             Move::Settings(settings) => *settings = self.set_settings(*settings),
             Move::BumpIn(entry) => {
                 self.bump_in(*entry);
-                *group = Move::BumpBack;
+                set(group, Move::BumpBack);
             }
-            Move::BumpBack => *group = Move::BumpIn(self.bump_back()),
-            Move::BumpOut => *group = Move::BumpFront(self.bump_out()),
+            Move::BumpBack => {
+                let reverse = Move::BumpIn(self.bump_back());
+                set(group, reverse);
+            }
+            Move::BumpOut => {
+                let reverse = Move::BumpFront(self.bump_out());
+                set(group, reverse);
+            }
             Move::BumpFront(entry) => {
                 self.bump_front(*entry);
-                *group = Move::BumpOut;
+                set(group, Move::BumpOut);
             }
-            Move::Marks(set) => {
-                self.mark_all(*set);
-                *group = Move::Unmarks(*set);
+            Move::Marks(classes) => {
+                let classes = *classes;
+                self.mark_all(classes);
+                set(group, Move::Unmarks(classes));
             }
-            Move::Unmarks(set) => {
-                self.unmark_all(*set);
-                *group = Move::Marks(*set);
+            Move::Unmarks(classes) => {
+                let classes = *classes;
+                self.unmark_all(classes);
+                set(group, Move::Marks(classes));
             }
         }
     }

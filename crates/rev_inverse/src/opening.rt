@@ -1,4 +1,4 @@
-ghost use Rattle.std.specs.Prelude.{◌≡◌, ◌⊎◌, ◌≤◌, ℕ, ◌+◌, ◌*◌, IfOk, IfErr, None, Some, length};
+ghost use Rattle.std.specs.Prelude.{◌≡◌, ◌⊎◌, ◌≤◌, ℕ, ◌+◌, ◌*◌, IfOk, IfErr, None, Ok, Some, length};
 ghost use Rattle.rev_classes.specs.Limits.{class_sizes, fault_of};
 ghost use Rattle.rev_classes.specs.declared.ConfigFault.TheVariants.{Memory};
 ghost use Rattle.rev_model.specs.State.{per_page};
@@ -41,6 +41,50 @@ fn first_globals(config: &Config) -> Globals
     }
 }
 
+// Both, or why there is no second.
+fn both<P: Drop, Q>(one: P, other: Result<Q, AllocError>) -> Result<(P, Q), AllocError>
+    ensures { IfOk result (λ p. (p.0 ≡ one) × (other ≡ Ok p.1)) }
+{
+    match other {
+        Ok(other) => Ok((one, other)),
+        Err(refused) => Err(refused),
+    }
+}
+
+fn open_pages<A: Allocator + Clone>(
+    alloc: &A,
+    config: &Config,
+    table: &ClassTable,
+) -> Result<Pages<A>, AllocError>
+    requires pages { config.now.pages ≤ 4096 }
+    ensures { IfOk result (λ p. p ≡ no_pages (length table.entry.now.sizes + 1) (config.entry.now.pages + 62)) }
+{
+    Pages::open(alloc.clone()?, config, table)
+}
+
+fn open_queues<A: Allocator + Clone>(
+    alloc: &A,
+    config: &Config,
+    table: &ClassTable,
+) -> Result<Queues<A>, AllocError>
+    requires pages { config.now.pages ≤ 4096 }
+    ensures { IfOk result (λ q. q ≡ empty_queues (length table.entry.now.sizes) config.entry.now.pages) }
+{
+    Queues::open(alloc.clone()?, config, table)
+}
+
+fn open_index<A: Allocator + Clone>(
+    alloc: &A,
+    config: &Config,
+    table: &ClassTable,
+) -> Result<Index<A>, AllocError>
+    requires pages { config.now.pages ≤ 4096 }
+    requires power { config.now.hash_power ≤ 20 }
+    ensures { IfOk result (λ i. i ≡ empty_index (config.entry.now.pages + 62)) }
+{
+    Index::open(alloc.clone()?, config, table)
+}
+
 // The three parts without pages.
 fn open_parts<A: Allocator + Clone>(
     alloc: &A,
@@ -53,9 +97,9 @@ fn open_parts<A: Allocator + Clone>(
     ensures queues { IfOk result (λ p. p.1 ≡ empty_queues (length table.entry.now.sizes) config.entry.now.pages) }
     ensures index { IfOk result (λ p. p.2 ≡ empty_index (config.entry.now.pages + 62)) }
 {
-    let pages = Pages::open(alloc.clone()?, config, table)?;
-    let queues = Queues::open(alloc.clone()?, config, table)?;
-    let index = Index::open(alloc.clone()?, config, table)?;
+    let pages = open_pages(alloc, config, table)?;
+    let (pages, queues) = both(pages, open_queues(alloc, config, table))?;
+    let ((pages, queues), index) = both((pages, queues), open_index(alloc, config, table))?;
     Ok((pages, queues, index))
 }
 

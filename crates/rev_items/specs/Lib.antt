@@ -2,3 +2,4 @@ pub mod Keys
 pub mod Plain
 pub mod Rules
 pub mod Hash
+pub mod Bytes

@@ -7,8 +7,10 @@ ghost use Rattle.rev_items.specs.Plain.{PlainItem, is_key, is_key_byte};
 ghost use Rattle.rev_items.specs.Hash.{hash_of};
 ghost use Rattle.rev_items.specs.Rules.{footprint, footprint_of, is_past, moment};
 
+mod bytes;
 mod hash;
 
+use crate::bytes::Bytes;
 use crate::hash::hash;
 use std::alloc::{AllocError, Allocator};
 use std::marker::Model;
@@ -44,10 +46,11 @@ pub struct Bits {
 }
 
 /// The name of an item: 1 to 250 bytes, none of them 0 to 32 or 127 (protocol.txt). It keeps the hash of its bytes, so
-/// that a search in an index hashes a key once and reads the bytes of no key of another hash.
+/// that a search in an index hashes a key once and reads the bytes of no key of another hash. A key of at most 24 bytes
+/// takes no memory of its own.
 #[derive(Drop)]
 pub struct Key<A: Allocator> {
-    bytes: Vec<u8, A>,
+    bytes: Bytes<A>,
     hash: u32,
 }
 
@@ -58,9 +61,9 @@ impl<A: Allocator> Model for Key<A> {
 
     ghost Value = { List ℕ };
 
-    ghost view = { λ k. k.bytes.items };
+    ghost view = { λ k. k.bytes };
 
-    ghost invariant = { λ k. IsKey k.bytes.items × (k.hash ≡ hash_of k.bytes.items) };
+    ghost invariant = { λ k. IsKey k.bytes × (k.hash ≡ hash_of k.bytes) };
 }
 
 // What an item holds. Its data are shared with the step that brought them; their length stands here too.
@@ -169,7 +172,7 @@ impl<A: Allocator> Key<A> {
             return Err(KeyFault::BadKey);
         }
         let hash = hash(bytes);
-        match bytes.to_vec(alloc) {
+        match Bytes::new(alloc, bytes) {
             Ok(bytes) => Ok(Key { bytes, hash }),
             Err(_) => Err(KeyFault::Memory),
         }
@@ -180,14 +183,14 @@ impl<A: Allocator> Key<A> {
         ensures same { result.now ≡ self.now }
         ensures rule { is_key self.now ≡ true }
     {
-        &self.bytes
+        self.bytes.as_slice()
     }
 
     /// An equal key.
     pub fn copy<B: Allocator>(&self, alloc: B) -> Result<Key<B>, AllocError>
         ensures { IfOk result (λ key. key ≡ self.now) }
     {
-        let bytes = self.bytes.as_slice().to_vec(alloc)?;
+        let bytes = Bytes::new(alloc, self.bytes())?;
         Ok(Key {
             bytes,
             hash: self.hash,

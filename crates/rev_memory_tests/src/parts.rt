@@ -51,7 +51,7 @@ const PARTS: [Part; 7] = [
 fn has_memory(heap: &LocalHeap, part: Part) -> Result<bool, Fail> {
     let table = ClassTable::build(&SMALL)?;
     let has_memory = match part {
-        Part::Key => match Key::new(heap, b"abc") {
+        Part::Key => match Key::new(heap, b"a-key-that-takes-memory-of-its-own") {
             Ok(_) => true,
             Err(KeyFault::Memory) => false,
             Err(KeyFault::BadKey) => return Err(Fail::new("a bad key")),

@@ -10,8 +10,8 @@ use rev_undotree::{NodeId, Session};
 use std::alloc::{AllocError, Allocator, Global};
 use std::test::Fail;
 
-// The keys that are looked up.
-const KEYS: [&[u8]; 3] = [b"a", b"b", b"c"];
+// The keys that are looked up, the last too long to lie in place.
+const KEYS: [&[u8]; 4] = [b"a", b"b", b"c", b"a-key-that-takes-memory-of-its-own"];
 
 const QUEUES: [Queue; 4] = [Queue::Hot, Queue::Warm, Queue::Cold, Queue::Temp];
 

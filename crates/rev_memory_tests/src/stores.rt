@@ -112,6 +112,9 @@ fn rooms(rt: HostRuntime) -> Result<(), Fail> {
     Ok(())
 }
 
+// A key that takes memory of its own.
+const LONG_KEY: &str = "a-key-that-takes-memory-of-its-own";
+
 struct Case {
     name: &'static str,
     pages: u32,
@@ -119,12 +122,18 @@ struct Case {
     command: Command,
 }
 
-static CASES: [Case; 29] = [
+static CASES: [Case; 30] = [
     Case {
         name: "a set that makes a page",
         pages: 1,
         before: &[],
         command: Command::Store(StoreVerb::Set, "a", 1),
+    },
+    Case {
+        name: "a set with a long key",
+        pages: 1,
+        before: &[Command::Store(StoreVerb::Set, LONG_KEY, 1)],
+        command: Command::Store(StoreVerb::Set, LONG_KEY, 2),
     },
     Case {
         name: "a set that takes a free chunk",
@@ -515,9 +524,9 @@ fn try_copy<R: Abort>(rt: &R, alloc: Global, command: Command, left: usize) -> R
 #[test]
 fn copies(rt: HostRuntime) -> Result<(), Fail> {
     for command in [
-        Command::Store(StoreVerb::Set, "a", 100),
-        Command::Join(JoinSide::Append, "a", 100),
-        Command::Keyed(KeyCommand::Get, "a"),
+        Command::Store(StoreVerb::Set, LONG_KEY, 100),
+        Command::Join(JoinSide::Append, LONG_KEY, 100),
+        Command::Keyed(KeyCommand::Get, LONG_KEY),
     ] {
         let mut refused = None;
         for units in 0..BYTES / UNIT {

@@ -11,12 +11,11 @@ use rev_classes::{Config, fault_of};
 use rev_options::{Request, parse_words};
 use rev_output::ToWrite;
 use rev_script::source::FromRead;
-use rev_shell::run::{RunFault, open_session, run_session};
+use rev_shell::run::{RunFault, run_at_last};
 use rev_streams::{Exchange, Incoming, Outgoing};
 use std::alloc::{Allocator, Global};
 use std::convert::AsStr;
 use std::io::{Read, Write};
-use std::mem::ManuallyDrop;
 use std::rt::Files;
 use std::sync::Wait;
 use std::thread::Threads;
@@ -49,14 +48,9 @@ where
     I: Drop,
     requires { IsWithinLimits config.now }
 {
-    let Some(mut session) = open_session(alloc, config) else {
-        return Err(Stop::Memory);
-    };
     let mut source = FromRead::new(reader);
     let mut sink = ToWrite::new(Outgoing::new(exchange));
-    let done = run_session(alloc, &mut session, &mut source, &mut sink);
-    // The program ends with the run, and all memory goes back at once: nothing is gained by taking the tree apart.
-    let _session = ManuallyDrop::new(session);
+    let done = run_at_last(alloc, config, &mut source, &mut sink);
     // What was answered before a fault is sent all the same.
     let sent = exchange.send();
     match done {

@@ -18,6 +18,7 @@ use rev_script::lines::Lines;
 use rev_script::source::Source;
 use rev_undotree::Session;
 use std::alloc::{AllocError, Allocator};
+use std::mem::ManuallyDrop;
 use thiserror::Error;
 
 /// What a run did that read all of its input.
@@ -155,6 +156,34 @@ pub fn run_session<S: Source, K: Sink, A: Allocator + Clone>(
     let mut text = Vec::new(other);
     let ended = run_lines(&mut lines, session, &mut bookmarks, &mut text, sink);
     let _reader = lines.into_source();
+    match ended {
+        Err(e) => Err(e),
+        Ok(sum) => Ok(sum),
+    }
+}
+
+/// Runs the script that the reader gives on an empty store, and writes its answers, as `run` does. It is for a program
+/// that ends with the run: all memory goes back at once then, and the session is not taken apart.
+pub fn run_at_last<S: Source, K: Sink, A: Allocator + Clone>(
+    alloc: &A,
+    config: &Config,
+    reader: &mut S,
+    sink: &mut K,
+) -> Result<Summary, RunFault>
+    requires { IsWithinLimits config.now }
+    ensures ok { IfOk result (λ sum. IsDone (S.told reader.old).remaining (S.told reader.new).remaining (S.told reader.new).last
+        (K.contents sink.old) (K.contents sink.new) (initial config.entry.now) sum) }
+    ensures err { IfErr result (λ e. IsStopped (S.told reader.old).remaining (S.told reader.new).remaining (S.told reader.new).last (K.has_failed sink.new)
+        (K.contents sink.old) (K.contents sink.new) (initial config.entry.now) e) }
+{
+    let ended = match open_session(alloc, config) {
+        None => return Err(RunFault::Memory { line: 0 }),
+        Some(mut session) => {
+            let ended = run_session(alloc, &mut session, reader, sink);
+            let _session = ManuallyDrop::new(session);
+            ended
+        }
+    };
     match ended {
         Err(e) => Err(e),
         Ok(sum) => Ok(sum),
