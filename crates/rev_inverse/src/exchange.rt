@@ -10,7 +10,7 @@ use rev_moves::{Move, Record};
 use std::alloc::Allocator;
 use std::mem;
 
-// Becomes another change.
+// The change becomes another. What it was is dropped here, and not once more in each arm of a long match.
 #[inline(always)]
 fn set<A: Allocator>(group: &mut Move<A>, next: Move<A>)
     ensures { group.new ≡ next }
