@@ -9,7 +9,7 @@ use Rattle.rev_model.specs.declared.ChunkRef.{ChunkRef}
 use Rattle.rev_index.specs.declared.chains.Bucket.{Bucket}
 use Rattle.rev_links.specs.Grids.{cell_at, with_cell}
 use Rattle.rev_index.specs.Chains.{ChainPlace, ChainLink, link_at, next_in, previous_in, SameShape, Opens, all_chunks, trail}
-use Rattle.rev_links.proofs.Grids.{cell_written, cell_other, sizes_written, size_from_cell, size_of_page}
+use Rattle.rev_links.proofs.Grids.{part_kept, cell_written, cell_other, sizes_written, size_from_cell, size_of_page}
 
 pub same_chunk_parts : (x y : ChunkRef) → x.page ≡ y.page → x.slot ≡ y.slot → x ≡ y
 same_chunk_parts x y a b = ap (λ n. record { page = n; slot = x.slot }) a ∙ ap (λ m. record { page = y.page; slot = m }) b
@@ -33,6 +33,38 @@ link_others ends links links' place x v u e (At y) n =
 
 pub link_shape : (ends : List ChainLink) (links links' : List (List ChainLink)) (x : ChunkRef) (v : ChainLink) → links' ≡ with_cell links x.page x.slot v → SameShape ends links ends links'
 link_shape ends links links' x v e = record { same_ends = refl; same_sizes = ap (map length) e ∙ sizes_written links x.page x.slot v }
+
+-- a write of one neighbour of a chunk's link
+module _ (ends : List ChainLink) (links : List (List ChainLink)) (place : ChainPlace) (x : ChunkRef) (l : ChainLink) (v : ChainPlace) (u : place ≡ At x) (h : cell_at links x.page x.slot ≡ Some l) where
+  there : IsSome (link_at ends links place)
+  there = subst (λ q. IsSome (link_at ends links q)) (sym u) (subst IsSome (sym h) refl)
+
+  kept : (f : ChainLink → ChainPlace) (w : ChainLink) → f w ≡ f l → (q : ChainPlace)
+      → option_map f (link_at ends (with_cell links x.page x.slot w) q) ≡ option_map f (link_at ends links q)
+  kept f w e (End b) = refl
+  kept f w e (At y) = part_kept (option_map f) links x.page x.slot y.page y.slot l w h (ap Some e)
+
+  pub next_written : let w = record l { next = v } in let links' = with_cell links x.page x.slot w in
+      SetsNext (next_in ends links) (previous_in ends links) (next_in ends links') (previous_in ends links') place v
+  next_written =
+      let w = record l { next = v } in
+      let links' = with_cell links x.page x.slot w in
+      record {
+        at = ap (option_map (λ (k : ChainLink). k.next)) (link_written ends links links' place x w u refl there);
+        others = λ q d. ap (option_map (λ (k : ChainLink). k.next)) (link_others ends links links' place x w u refl q d);
+        kept = kept (λ k. k.previous) w refl;
+      }
+
+  pub previous_written : let w = record l { previous = v } in let links' = with_cell links x.page x.slot w in
+      SetsPrevious (next_in ends links) (previous_in ends links) (next_in ends links') (previous_in ends links') place v
+  previous_written =
+      let w = record l { previous = v } in
+      let links' = with_cell links x.page x.slot w in
+      record {
+        at = ap (option_map (λ (k : ChainLink). k.previous)) (link_written ends links links' place x w u refl there);
+        others = λ q d. ap (option_map (λ (k : ChainLink). k.previous)) (link_others ends links links' place x w u refl q d);
+        kept = kept (λ k. k.next) w refl;
+      }
 
 -- what the link of the place before a gap says
 gap_link : (ends : List ChainLink) (links : List (List ChainLink)) (a : ChainPlace) (x : ChunkRef) (link : ChainLink) → link_at ends links a ≡ Some link

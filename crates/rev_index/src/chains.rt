@@ -68,14 +68,10 @@ impl<A: Allocator> Chains<A> {
             (next_in self.new.ends.items self.new.links) (previous_in self.new.ends.items self.new.links) place next }
         ensures shape { SameShape self.old.ends.items self.old.links self.new.ends.items self.new.links }
     {
-        let link = self.link(place);
-        self.set_link(
-            place,
-            Link {
-                previous: link.previous,
-                next,
-            },
-        );
+        match place {
+            Place::End(bucket) => self.ends[bucket.number as usize].next = next,
+            Place::At(chunk) => self.links.get_mut(chunk.page, chunk.slot).next = next,
+        }
     }
 
     // Makes a place the one before another.
@@ -85,14 +81,10 @@ impl<A: Allocator> Chains<A> {
             (next_in self.new.ends.items self.new.links) (previous_in self.new.ends.items self.new.links) place previous }
         ensures shape { SameShape self.old.ends.items self.old.links self.new.ends.items self.new.links }
     {
-        let link = self.link(place);
-        self.set_link(
-            place,
-            Link {
-                previous,
-                next: link.next,
-            },
-        );
+        match place {
+            Place::End(bucket) => self.ends[bucket.number as usize].previous = previous,
+            Place::At(chunk) => self.links.get_mut(chunk.page, chunk.slot).previous = previous,
+        }
     }
 
     /// Takes a chunk out from between its neighbours.

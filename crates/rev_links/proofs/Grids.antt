@@ -73,6 +73,22 @@ cell_other g p s q t v n = elim (cases_eq q p) [
   | inr e ↦ ap (λ xs. slice_get xs t) (get_or-set_other g p q (set (get_or g p []) s v) [] e)
 ]
 
+cell_same : {X : Type 0} (g : List (List X)) (p s q t : ℕ) → q ≡ p → t ≡ s → cell_at g q t ≡ cell_at g p s
+cell_same g p s q t a b = ap (λ n. cell_at g n t) a ∙ ap (λ n. cell_at g p n) b
+
+-- what is seen of a cell, where a write leaves that
+pub part_kept : {X Y : Type 0} (f : Option X → Y) (g : List (List X)) (p s q t : ℕ) (v w : X) → cell_at g p s ≡ Some v → f (Some w) ≡ f (Some v)
+    → f (cell_at (with_cell g p s w) q t) ≡ f (cell_at g q t)
+part_kept f g p s q t v w h e = elim (cases_eq q p) [
+  | inl a ↦ elim (cases_eq t s) [
+    | inl b ↦
+        ap f (cell_same (with_cell g p s w) p s q t a b ∙ cell_written g p s w (subst IsSome (sym h) refl))
+        ∙ (e ∙ sym (ap f (cell_same g p s q t a b ∙ h)))
+    | inr n ↦ ap f (cell_other g p s q t w (λ _. n))
+  ]
+  | inr n ↦ ap f (cell_other g p s q t w (λ a. absurd (n a)))
+]
+
 pub size_of_page : {X : Type 0} (g : List (List X)) (p : ℕ) → get_or (map length g) p 0 ≡ length (get_or g p [])
 size_of_page [] p = refl
 size_of_page (x ∷ xs) zero = refl

@@ -1,3 +1,4 @@
 pub mod Rings
 pub mod Neighbours
 pub mod Grids
+pub mod Lending

@@ -1,4 +1,5 @@
-ghost use Rattle.std.specs.Prelude.{◌≡◌, ℕ, ◌+◌, ◌<◌, List, [], length, slice_get, slice_set, Some};
+ghost use Rattle.std.specs.Prelude.{◌≡◌, ℕ, ◌+◌, ◌<◌, List, length, slice_get, slice_set, Some};
+ghost use Rattle.std.specs.Borrow.{sem};
 
 use crate::ticks::Ticks;
 use std::alloc::Allocator;
@@ -18,15 +19,6 @@ impl<T, A: Allocator> Model for Cells<T, A> {
 }
 
 impl<T: Drop, A: Allocator + Drop> Cells<T, A> {
-    /// No values, which take no memory.
-    pub fn none(alloc: A) -> Cells<T, A>
-        ensures { result ≡ [] }
-    {
-        Cells {
-            values: Vec::new(alloc),
-        }
-    }
-
     /// The values of a list.
     pub fn over(values: Vec<T, A>) -> Cells<T, A>
         ensures { result ≡ values.items }
@@ -43,6 +35,8 @@ impl<T: Drop, A: Allocator + Drop> Cells<T, A> {
 }
 
 impl<T: Copy, A: Allocator> Cells<T, A> {
+    ghost use Rattle.rev_links.specs.Lending.{LendsValue};
+
     /// The value at a number.
     pub fn get<L: Ledger>(&self, at: usize, ticks: &mut Ticks<L>) -> T
         requires { at < length self.now }
@@ -51,6 +45,17 @@ impl<T: Copy, A: Allocator> Cells<T, A> {
     {
         ticks.tick();
         self.values[at]
+    }
+
+    /// The value at a number, to write to it in its place.
+    pub fn edit<'a, L: Ledger>(&'a mut self, at: usize, ticks: &mut Ticks<L>) -> &'a mut T
+        requires { at < length self.old }
+        ensures* writes_back { sem 𝓛 (LendsValue T.row A.row A.Allocator self.entry at result) }
+        ensures value { slice_get self.old at ≡ Some result.now }
+        ensures cost { ticks.new ≡ ticks.old + 1 }
+    {
+        ticks.tick();
+        &mut self.values[at]
     }
 
     /// Puts a value at a number.

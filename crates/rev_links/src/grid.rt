@@ -1,11 +1,25 @@
 ghost use Rattle.std.specs.Prelude.{◌≡◌, ◌<◌, ◌+◌, ℕ, List, [], length, IfOk, IsSome, Some, slice_index_or, slice_set};
 ghost use Rattle.rev_links.specs.Grids.{cell_at, with_cell, away};
+ghost use Rattle.std.specs.Borrow.{sem};
+ghost use Rattle.std.specs.Option.Follows.{option_follows_value};
 
 use crate::ticks::Ticks;
 use std::alloc::{AllocError, Allocator};
 use std::marker::Model;
 use std::mem;
 use std::sync::ledger::Ledger;
+
+// What is there, to write to it in its place.
+fn present<T>(value: &mut Option<T>) -> &mut T
+    requires { IsSome value.old }
+    ensures* writes_back { sem 𝓛 (option_follows_value T.row value.entry result) }
+    ensures value { value.old ≡ Some result.now }
+{
+    match value {
+        Some(there) => there,
+        None => unreachable!(),
+    }
+}
 
 /// Cells by page and slot. The table of pages is made once, and a page is there or away.
 #[derive(Drop)]
@@ -52,6 +66,8 @@ impl<T: Drop, A: Allocator + Drop> Grid<T, A> {
 }
 
 impl<T, A: Allocator> Grid<T, A> {
+    ghost use Rattle.rev_links.specs.Lending.{LendsCell};
+
     /// How many cells a page has, 0 where it is away.
     pub fn count(&self, page: u16) -> usize
         requires { page < length self.now }
@@ -72,6 +88,16 @@ impl<T, A: Allocator> Grid<T, A> {
             Some(cells) => &cells[usize::from(slot)],
             None => unreachable!(),
         }
+    }
+
+    /// A cell, to write to it in its place.
+    pub fn get_mut(&mut self, page: u16, slot: u16) -> &mut T
+        requires { IsSome (cell_at self.old page slot) }
+        ensures* writes_back { sem 𝓛 (LendsCell T.row A.row A.Allocator self.entry page slot result) }
+        ensures value { cell_at self.old page slot ≡ Some result.now }
+    {
+        let cells = present(&mut self.pages[usize::from(page)]);
+        &mut cells[usize::from(slot)]
     }
 
     /// Exchanges what a cell holds.
@@ -100,6 +126,8 @@ impl<T, A: Allocator> Grid<T, A> {
 }
 
 impl<T: Copy, A: Allocator> Grid<T, A> {
+    ghost use Rattle.rev_links.specs.Lending.{LendsCell};
+
     /// What a cell holds, read in one tick.
     pub fn read<L: Ledger>(&self, page: u16, slot: u16, ticks: &mut Ticks<L>) -> T
         requires { IsSome (cell_at self.now page slot) }
@@ -108,6 +136,22 @@ impl<T: Copy, A: Allocator> Grid<T, A> {
     {
         ticks.tick();
         *self.get(page, slot)
+    }
+
+    /// A cell, to write to it in its place, in one tick.
+    pub fn edit<'a, L: Ledger>(
+        &'a mut self,
+        page: u16,
+        slot: u16,
+        ticks: &mut Ticks<L>,
+    ) -> &'a mut T
+        requires { IsSome (cell_at self.old page slot) }
+        ensures* writes_back { sem 𝓛 (LendsCell T.row A.row A.Allocator self.entry page slot result) }
+        ensures value { cell_at self.old page slot ≡ Some result.now }
+        ensures cost { ticks.new ≡ ticks.old + 1 }
+    {
+        ticks.tick();
+        self.get_mut(page, slot)
     }
 
     /// Writes a cell in one tick.

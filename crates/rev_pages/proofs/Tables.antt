@@ -1,13 +1,11 @@
 -- Reads and writes of the links of ends and chunks.
-use Rattle.std.proofs.Common.{◌≡◌, ◌≢◌, ℕ, Option, Some, None, IsSome, List, length, set, ◌⊎◌, inl, inr, refl, sym, ◌∙◌, ap, subst, option_map, map}
-use Rattle.std.proofs.lemmas.Bool.{cases_eq}
-use Rattle.std.proofs.lemmas.List.{length-set}
+use Rattle.std.proofs.Common.{◌≡◌, ◌≢◌, ℕ, Option, Some, None, IsSome, List, length, set, refl, sym, ◌∙◌, ap, subst, option_map, map}
 use Rattle.rev_links.specs.declared.places.Place.TheVariants.{End, At}
 use Rattle.rev_pages.specs.declared.places.FreeList.{FreeList}
 use Rattle.rev_model.specs.declared.ChunkRef.{ChunkRef}
 use Rattle.rev_links.proofs.Rings.{opened_by_writes}
 use Rattle.rev_links.specs.Grids.{cell_at, with_cell}
-use Rattle.rev_links.proofs.Grids.{cell_written, cell_other, sizes_written, some_within, slice_get-set_same, slice_get-set_other}
+use Rattle.rev_links.proofs.Grids.{part_kept, cell_written, cell_other, sizes_written, some_within, slice_get-set_same, slice_get-set_other}
 use Rattle.rev_links.specs.Rings.{Joined, SetsNext, SetsPrevious, Between, Gap}
 use Rattle.rev_pages.specs.Tables.{FreePlace, FreeLink, link_at, next_in, previous_in, SameShape, Opens}
 
@@ -51,12 +49,6 @@ link_others ends links links' place x v u e (At y) n =
 pub link_shape : (ends : List FreeLink) (links links' : List (List FreeLink)) (x : ChunkRef) (v : FreeLink) → links' ≡ with_cell links x.page x.slot v → SameShape ends links ends links'
 link_shape ends links links' x v e = record { same_ends = refl; same_sizes = ap (map length) e ∙ sizes_written links x.page x.slot v }
 
-pub end_shape : (ends ends' : List FreeLink) (links : List (List FreeLink)) (n : ℕ) (v : FreeLink) → ends' ≡ set ends n v → SameShape ends links ends' links
-end_shape ends ends' links n v e = record { same_ends = ap length e ∙ length-set ends n v; same_sizes = refl }
-
-pub shape_trans : (e₀ e₁ e₂ : List FreeLink) (s₀ s₁ s₂ : List (List FreeLink)) → SameShape e₀ s₀ e₁ s₁ → SameShape e₁ s₁ e₂ s₂ → SameShape e₀ s₀ e₂ s₂
-shape_trans e₀ e₁ e₂ s₀ s₁ s₂ h k = record { same_ends = k.same_ends ∙ h.same_ends; same_sizes = k.same_sizes ∙ h.same_sizes }
-
 -- ---- neighbours
 pub some_at_next : (ends : List FreeLink) (links : List (List FreeLink)) (p q : FreePlace) → next_in ends links p ≡ Some q → IsSome (link_at ends links p)
 some_at_next ends links p q h = go (link_at ends links p) h
@@ -65,53 +57,37 @@ some_at_next ends links p q h = go (link_at ends links p) h
     go None k = cc
     go (Some l) k = refl
 
-pub place_cases : (p q : FreePlace) → (p ≡ q) ⊎ (p ≢ q)
-place_cases (End c) (End d) = elim (cases_eq c.class d.class) [
-  | inl e ↦ inl (ap (λ n. End (record { class = n })) e)
-  | inr e ↦ inr (λ h. let k : c ≡ d = cc in e (ap (λ (z : FreeList). z.class) k))
-]
-place_cases (End c) (At y) = inr (λ h. cc)
-place_cases (At x) (End d) = inr (λ h. cc)
-place_cases (At x) (At y) = elim (cases_eq x.page y.page) [
-  | inl a ↦ elim (cases_eq x.slot y.slot) [
-    | inl b ↦ inl (ap At (same_chunk_parts x y a b))
-    | inr e ↦ inr (λ h. let k : x ≡ y = cc in e (ap (λ (z : ChunkRef). z.slot) k))
-  ]
-  | inr e ↦ inr (λ h. let k : x ≡ y = cc in e (ap (λ (z : ChunkRef). z.page) k))
-]
+-- a write of one neighbour of a chunk's link
+module _ (ends : List FreeLink) (links : List (List FreeLink)) (place : FreePlace) (x : ChunkRef) (l : FreeLink) (v : FreePlace) (u : place ≡ At x) (h : cell_at links x.page x.slot ≡ Some l) where
+  there : IsSome (link_at ends links place)
+  there = subst (λ q. IsSome (link_at ends links q)) (sym u) (subst IsSome (sym h) refl)
 
--- a write that changes one side of a link
-pub sets_next : (ends : List FreeLink) (links : List (List FreeLink)) (ends' : List FreeLink) (links' : List (List FreeLink)) (place next : FreePlace) (link : FreeLink)
-    → link_at ends links place ≡ Some link
-    → link_at ends' links' place ≡ Some (record { previous = link.previous; next = next })
-    → ((other : FreePlace) → other ≢ place → link_at ends' links' other ≡ link_at ends links other)
-    → SetsNext (next_in ends links) (previous_in ends links) (next_in ends' links') (previous_in ends' links') place next
-sets_next ends links ends' links' place next link h w others =
-    record {
-      at = ap (option_map (λ (l : FreeLink). l.next)) w;
-      others = λ q k. ap (option_map (λ (l : FreeLink). l.next)) (others q k);
-      kept = λ q. elim (place_cases q place) [
-        | inl e ↦ subst (λ z. previous_in ends' links' z ≡ previous_in ends links z) (sym e)
-            (ap (option_map (λ (l : FreeLink). l.previous)) w ∙ sym (ap (option_map (λ (l : FreeLink). l.previous)) h))
-        | inr k ↦ ap (option_map (λ (l : FreeLink). l.previous)) (others q k)
-      ];
-    }
+  kept : (f : FreeLink → FreePlace) (w : FreeLink) → f w ≡ f l → (q : FreePlace)
+      → option_map f (link_at ends (with_cell links x.page x.slot w) q) ≡ option_map f (link_at ends links q)
+  kept f w e (End c) = refl
+  kept f w e (At y) = part_kept (option_map f) links x.page x.slot y.page y.slot l w h (ap Some e)
 
-pub sets_previous : (ends : List FreeLink) (links : List (List FreeLink)) (ends' : List FreeLink) (links' : List (List FreeLink)) (place previous : FreePlace) (link : FreeLink)
-    → link_at ends links place ≡ Some link
-    → link_at ends' links' place ≡ Some (record { previous = previous; next = link.next })
-    → ((other : FreePlace) → other ≢ place → link_at ends' links' other ≡ link_at ends links other)
-    → SetsPrevious (next_in ends links) (previous_in ends links) (next_in ends' links') (previous_in ends' links') place previous
-sets_previous ends links ends' links' place previous link h w others =
-    record {
-      at = ap (option_map (λ (l : FreeLink). l.previous)) w;
-      others = λ q k. ap (option_map (λ (l : FreeLink). l.previous)) (others q k);
-      kept = λ q. elim (place_cases q place) [
-        | inl e ↦ subst (λ z. next_in ends' links' z ≡ next_in ends links z) (sym e)
-            (ap (option_map (λ (l : FreeLink). l.next)) w ∙ sym (ap (option_map (λ (l : FreeLink). l.next)) h))
-        | inr k ↦ ap (option_map (λ (l : FreeLink). l.next)) (others q k)
-      ];
-    }
+  pub next_written : let links' = with_cell links x.page x.slot (record l { next = v }) in
+      SetsNext (next_in ends links) (previous_in ends links) (next_in ends links') (previous_in ends links') place v
+  next_written =
+      let w = record l { next = v } in
+      let links' = with_cell links x.page x.slot w in
+      record {
+        at = ap (option_map (λ (k : FreeLink). k.next)) (link_written ends links links' place x w u refl there);
+        others = λ q d. ap (option_map (λ (k : FreeLink). k.next)) (link_others ends links links' place x w u refl q d);
+        kept = kept (λ k. k.previous) w refl;
+      }
+
+  pub previous_written : let links' = with_cell links x.page x.slot (record l { previous = v }) in
+      SetsPrevious (next_in ends links) (previous_in ends links) (next_in ends links') (previous_in ends links') place v
+  previous_written =
+      let w = record l { previous = v } in
+      let links' = with_cell links x.page x.slot w in
+      record {
+        at = ap (option_map (λ (k : FreeLink). k.previous)) (link_written ends links links' place x w u refl there);
+        others = λ q d. ap (option_map (λ (k : FreeLink). k.previous)) (link_others ends links links' place x w u refl q d);
+        kept = kept (λ k. k.next) w refl;
+      }
 
 -- what a member's link says of its neighbours
 pub between_link : (ends : List FreeLink) (links : List (List FreeLink)) (x : ChunkRef) (link : FreeLink) → link_at ends links (At x) ≡ Some link

@@ -50,17 +50,12 @@ impl<A: Allocator> Table<A> {
         ensures value { SetsNext (next_in self.old.ends self.old.links) (previous_in self.old.ends self.old.links)
             (next_in self.new.ends self.new.links) (previous_in self.new.ends self.new.links) place next }
         ensures shape { SameShape self.old.ends self.old.links self.new.ends self.new.links }
-        ensures cost { ticks.new ≡ ticks.old + 2 }
+        ensures cost { ticks.new ≡ ticks.old + 1 }
     {
-        let link = self.link(place, ticks);
-        self.set_link(
-            place,
-            Link {
-                previous: link.previous,
-                next,
-            },
-            ticks,
-        );
+        match place {
+            Place::End(list) => self.ends.edit(usize::from(list.class), ticks).next = next,
+            Place::At(chunk) => self.links.edit(chunk.page, chunk.slot, ticks).next = next,
+        }
     }
 
     // Makes a place the one before another.
@@ -74,17 +69,12 @@ impl<A: Allocator> Table<A> {
         ensures value { SetsPrevious (next_in self.old.ends self.old.links) (previous_in self.old.ends self.old.links)
             (next_in self.new.ends self.new.links) (previous_in self.new.ends self.new.links) place previous }
         ensures shape { SameShape self.old.ends self.old.links self.new.ends self.new.links }
-        ensures cost { ticks.new ≡ ticks.old + 2 }
+        ensures cost { ticks.new ≡ ticks.old + 1 }
     {
-        let link = self.link(place, ticks);
-        self.set_link(
-            place,
-            Link {
-                previous,
-                next: link.next,
-            },
-            ticks,
-        );
+        match place {
+            Place::End(list) => self.ends.edit(usize::from(list.class), ticks).previous = previous,
+            Place::At(chunk) => self.links.edit(chunk.page, chunk.slot, ticks).previous = previous,
+        }
     }
 
     /// Takes a chunk out from between its neighbours, and tells the place before it.
@@ -93,7 +83,7 @@ impl<A: Allocator> Table<A> {
         ensures before { previous_in self.old.ends self.old.links (At chunk) ≡ Some result }
         ensures value { Closes self.old.ends self.old.links self.new.ends self.new.links chunk }
         ensures shape { SameShape self.old.ends self.old.links self.new.ends self.new.links }
-        ensures cost { ticks.new ≡ ticks.old + 5 }
+        ensures cost { ticks.new ≡ ticks.old + 3 }
     {
         let link = self.link(Place::At(chunk), ticks);
         self.set_next(link.previous, link.next, ticks);
@@ -108,7 +98,7 @@ impl<A: Allocator> Table<A> {
         requires gap { Gap (next_in self.old.ends self.old.links) (previous_in self.old.ends self.old.links) after chunk }
         ensures value { Opens self.old.ends self.old.links self.new.ends self.new.links chunk after }
         ensures shape { SameShape self.old.ends self.old.links self.new.ends self.new.links }
-        ensures cost { ticks.new ≡ ticks.old + 6 }
+        ensures cost { ticks.new ≡ ticks.old + 4 }
     {
         let next = self.link(after, ticks).next;
         self.set_link(

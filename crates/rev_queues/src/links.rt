@@ -1,12 +1,10 @@
 ghost use Rattle.std.specs.Prelude.{◌≡◌, ◌≢◌, ℕ, ◌+◌, ◌<◌, ◌≤◌, Some, IsSome};
 ghost use Rattle.rev_links.specs.Rings.{SetsNext, SetsPrevious, Between, Gap};
 ghost use Rattle.rev_links.specs.declared.places.Place.TheVariants.{At};
-ghost use Rattle.rev_model.specs.declared.ChunkRef.{ChunkRef as ChunkOf};
-ghost use Rattle.rev_queues.specs.Positions.{Position, link_at, next_in, previous_in, slot_at, standing_at, told, Closes, Opens, Tells, SameShape, SameStanding};
+ghost use Rattle.rev_queues.specs.Positions.{Position, link_at, next_in, previous_in, told, Closes, Opens, Tells, SameShape, SameStanding};
 
 use crate::members::{Member, Position, PositionLink, QueueSlot, Standing};
 use rev_links::{Cells, Grid, Link, Place, Ticks};
-use rev_model::ChunkRef;
 use std::alloc::Allocator;
 use std::sync::ledger::Ledger;
 
@@ -56,7 +54,7 @@ impl<A: Allocator> Links<A> {
             (next_in self.new.ends self.new.marks self.new.slots) (previous_in self.new.ends self.new.marks self.new.slots) member }
         ensures standing { SameStanding self.old.slots self.new.slots }
         ensures shape { SameShape self.old.ends self.old.marks self.old.slots self.new.ends self.new.marks self.new.slots }
-        ensures cost { ticks.new ≤ ticks.old + 7 }
+        ensures cost { ticks.new ≡ ticks.old + 3 }
     {
         let link = self.link(Place::At(member), ticks);
         self.set_next(link.previous, link.next, ticks);
@@ -73,7 +71,7 @@ impl<A: Allocator> Links<A> {
             (next_in self.new.ends self.new.marks self.new.slots) (previous_in self.new.ends self.new.marks self.new.slots) member after }
         ensures standing { SameStanding self.old.slots self.new.slots }
         ensures shape { SameShape self.old.ends self.old.marks self.old.slots self.new.ends self.new.marks self.new.slots }
-        ensures cost { ticks.new ≤ ticks.old + 9 }
+        ensures cost { ticks.new ≡ ticks.old + 4 }
     {
         let next = self.link(after, ticks).next;
         self.set_link(
@@ -94,28 +92,14 @@ impl<A: Allocator> Links<A> {
         ensures links { (other : Position) → link_at self.new.ends self.new.marks self.new.slots other ≡ link_at self.old.ends self.old.marks self.old.slots other }
         ensures value { Tells self.old.slots self.new.slots member standing }
         ensures shape { SameShape self.old.ends self.old.marks self.old.slots self.new.ends self.new.marks self.new.slots }
-        ensures cost { ticks.new ≤ ticks.old + 2 }
+        ensures cost { ticks.new ≤ ticks.old + 1 }
     {
         match member {
             Member::Mark(_) => {}
             Member::Chunk(chunk) => {
-                let link = self.slots.read(chunk.page, chunk.slot, ticks).link;
-                self.set_slot(chunk, QueueSlot { link, standing }, ticks);
+                self.slots.edit(chunk.page, chunk.slot, ticks).standing = standing;
             }
         }
-    }
-
-    // Writes the slot of a chunk.
-    fn set_slot<L: Ledger>(&mut self, chunk: ChunkRef, slot: QueueSlot, ticks: &mut Ticks<L>)
-        requires { IsSome (slot_at self.old.slots chunk) }
-        ensures value { slot_at self.new.slots chunk ≡ Some slot }
-        ensures others { (other : ChunkOf) → other ≢ chunk → slot_at self.new.slots other ≡ slot_at self.old.slots other }
-        ensures ends { self.new.ends ≡ self.old.ends }
-        ensures marks { self.new.marks ≡ self.old.marks }
-        ensures shape { SameShape self.old.ends self.old.marks self.old.slots self.new.ends self.new.marks self.new.slots }
-        ensures cost { ticks.new ≡ ticks.old + 1 }
-    {
-        self.slots.write(chunk.page, chunk.slot, slot, ticks);
     }
 
     // Writes the link of a place.
@@ -126,17 +110,16 @@ impl<A: Allocator> Links<A> {
             → link_at self.new.ends self.new.marks self.new.slots other ≡ link_at self.old.ends self.old.marks self.old.slots other }
         ensures standing { SameStanding self.old.slots self.new.slots }
         ensures shape { SameShape self.old.ends self.old.marks self.old.slots self.new.ends self.new.marks self.new.slots }
-        ensures cost { ticks.new ≤ ticks.old + 2 }
+        ensures cost { ticks.new ≡ ticks.old + 1 }
     {
         match position {
             Place::End(queue) => self.ends.set(usize::from(queue.number), link, ticks),
-            Place::At(Member::Mark(queue)) => self
-                .marks
-                .set(usize::from(queue.number), link, ticks),
-            Place::At(Member::Chunk(chunk)) => {
-                let standing = self.slots.read(chunk.page, chunk.slot, ticks).standing;
-                self.set_slot(chunk, QueueSlot { link, standing }, ticks);
-            }
+            Place::At(member) => match member {
+                Member::Mark(queue) => self.marks.set(usize::from(queue.number), link, ticks),
+                Member::Chunk(chunk) => {
+                    self.slots.edit(chunk.page, chunk.slot, ticks).link = link;
+                }
+            },
         }
     }
 
@@ -147,17 +130,19 @@ impl<A: Allocator> Links<A> {
             (next_in self.new.ends self.new.marks self.new.slots) (previous_in self.new.ends self.new.marks self.new.slots) position next }
         ensures standing { SameStanding self.old.slots self.new.slots }
         ensures shape { SameShape self.old.ends self.old.marks self.old.slots self.new.ends self.new.marks self.new.slots }
-        ensures cost { ticks.new ≤ ticks.old + 3 }
+        ensures cost { ticks.new ≡ ticks.old + 1 }
     {
-        let link = self.link(position, ticks);
-        self.set_link(
-            position,
-            Link {
-                previous: link.previous,
-                next,
+        match position {
+            Place::End(queue) => self.ends.edit(usize::from(queue.number), ticks).next = next,
+            Place::At(member) => match member {
+                Member::Mark(queue) => {
+                    self.marks.edit(usize::from(queue.number), ticks).next = next;
+                }
+                Member::Chunk(chunk) => {
+                    self.slots.edit(chunk.page, chunk.slot, ticks).link.next = next;
+                }
             },
-            ticks,
-        );
+        }
     }
 
     // Makes a place the one before another.
@@ -172,16 +157,19 @@ impl<A: Allocator> Links<A> {
             (next_in self.new.ends self.new.marks self.new.slots) (previous_in self.new.ends self.new.marks self.new.slots) position previous }
         ensures standing { SameStanding self.old.slots self.new.slots }
         ensures shape { SameShape self.old.ends self.old.marks self.old.slots self.new.ends self.new.marks self.new.slots }
-        ensures cost { ticks.new ≤ ticks.old + 3 }
+        ensures cost { ticks.new ≡ ticks.old + 1 }
     {
-        let link = self.link(position, ticks);
-        self.set_link(
-            position,
-            Link {
+        match position {
+            Place::End(queue) => self.ends.edit(usize::from(queue.number), ticks).previous =
                 previous,
-                next: link.next,
+            Place::At(member) => match member {
+                Member::Mark(queue) => {
+                    self.marks.edit(usize::from(queue.number), ticks).previous = previous;
+                }
+                Member::Chunk(chunk) => {
+                    self.slots.edit(chunk.page, chunk.slot, ticks).link.previous = previous;
+                }
             },
-            ticks,
-        );
+        }
     }
 }
