@@ -1,4 +1,5 @@
-//! The tests that cross crates: worked scripts, cut input, failing readers and writers, the class table, the program's words.
+//! The tests that cross crates: worked scripts, cut input, failing readers and writers, the class table, the program's words,
+//! want of memory, recordings on threads and over files.
 #![tactic(auto)]
 
 #[cfg(test)]
@@ -6,9 +7,17 @@ mod actor_rows;
 #[cfg(test)]
 mod actor_scripts;
 #[cfg(test)]
+mod actors;
+#[cfg(test)]
 mod classes;
 #[cfg(test)]
+mod memory;
+#[cfg(test)]
+mod owned;
+#[cfg(test)]
 mod programs;
+#[cfg(test)]
+mod recorder;
 #[cfg(test)]
 mod rows;
 #[cfg(test)]

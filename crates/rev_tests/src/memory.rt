@@ -1,0 +1,8 @@
+//! Each request for memory is refused in turn, and what the call worked on is compared before and after.
+
+mod heap;
+mod parts;
+mod pictures;
+mod sessions;
+mod steps;
+mod stores;

@@ -1,0 +1,541 @@
+//! A store that is opened, and steps that are applied to one.
+ghost use Rattle.std.specs.Prelude.{OnOk, IfOk};
+ghost use Rattle.rev_model.specs.Sound.{Sound};
+
+use crate::memory::heap::{BYTES, UNIT, fill};
+use crate::memory::parts::SMALL;
+use crate::memory::pictures::picture_of;
+use crate::memory::steps::{Command, step_of};
+use crate::owned::{after, is_made};
+use linked_list_allocator::LocalHeap;
+use rev_classes::{Config, ConfigFault};
+use rev_inverse::Store;
+use rev_model::{ClassSet, Queue};
+use rev_moves::Record;
+use rev_steps::{ActorStep, Arithmetic, JoinSide, KeyCommand, Step, StoreVerb, apply};
+use std::alloc::{Allocator, Global};
+use std::process::Abort;
+use std::test::Fail;
+
+// Opens a store with so many bytes left.
+fn opens_or_refuses<R: Abort>(
+    rt: &R,
+    alloc: Global,
+    heap: &LocalHeap,
+    left: usize,
+) -> Result<bool, Fail> {
+    let _ballast = fill(alloc, heap, left)?;
+    match Store::open(heap, SMALL) {
+        Ok(store) => {
+            drop(store);
+            Ok(true)
+        }
+        Err(fault) => {
+            assert_eq!(rt; fault, ConfigFault::Memory, "{left} bytes left");
+            assert_eq!(rt; heap.free(), left);
+            Ok(false)
+        }
+    }
+}
+
+// The same on a heap of its own.
+fn try_open<R: Abort>(rt: &R, alloc: Global, left: usize) -> Result<bool, Fail> {
+    let heap = LocalHeap::new(alloc, BYTES)?;
+    opens_or_refuses(rt, alloc, &heap, left)
+}
+
+#[test]
+fn opens(rt: HostRuntime) -> Result<(), Fail> {
+    let mut refused = None;
+    for units in 0..BYTES / UNIT {
+        if try_open(&rt, rt.alloc(), units * UNIT)? {
+            refused = Some(units);
+            break;
+        }
+    }
+    assert!(rt; refused.unwrap_or(0) > 0);
+    Ok(())
+}
+
+// Makes a record, or the slots of a page of the store, with so many bytes left.
+fn makes_room<'a, R: Abort>(
+    rt: &R,
+    alloc: Global,
+    heap: &'a LocalHeap,
+    store: &Store<&'a LocalHeap>,
+    of_page: bool,
+    left: usize,
+) -> Result<bool, Fail> {
+    let _ballast = fill(alloc, heap, left)?;
+    let has_room = if of_page {
+        assert!(rt; store.table().last() >= 1);
+        is_made(store.parts(1))
+    } else {
+        is_made(Record::with_room(heap, 64))
+    };
+    assert_eq!(rt; heap.free(), left);
+    Ok(has_room)
+}
+
+// The same with a store of its own.
+fn make_for_store<'a, R: Abort>(
+    rt: &R,
+    alloc: Global,
+    heap: &'a LocalHeap,
+    of_page: bool,
+    left: usize,
+) -> Result<bool, Fail> {
+    let store = Store::open(heap, SMALL)?;
+    let has_room = makes_room(rt, alloc, heap, &store, of_page, left);
+    drop(store);
+    has_room
+}
+
+// The same on a heap of its own.
+fn try_room<R: Abort>(rt: &R, alloc: Global, of_page: bool, left: usize) -> Result<bool, Fail> {
+    let heap = LocalHeap::new(alloc, BYTES)?;
+    make_for_store(rt, alloc, &heap, of_page, left)
+}
+
+#[test]
+fn rooms(rt: HostRuntime) -> Result<(), Fail> {
+    for of_page in [true, false] {
+        let mut refused = None;
+        for units in 0..BYTES / UNIT {
+            if try_room(&rt, rt.alloc(), of_page, units * UNIT)? {
+                refused = Some(units);
+                break;
+            }
+        }
+        assert!(rt; refused.unwrap_or(0) > 0);
+    }
+    Ok(())
+}
+
+// A key that takes memory of its own.
+const LONG_KEY: &str = "a-key-that-takes-memory-of-its-own";
+
+struct Case {
+    name: &'static str,
+    pages: u32,
+    before: &'static [Command],
+    command: Command,
+}
+
+static CASES: [Case; 30] = [
+    Case {
+        name: "a set that makes a page",
+        pages: 1,
+        before: &[],
+        command: Command::Store(StoreVerb::Set, "a", 1),
+    },
+    Case {
+        name: "a set with a long key",
+        pages: 1,
+        before: &[Command::Store(StoreVerb::Set, LONG_KEY, 1)],
+        command: Command::Store(StoreVerb::Set, LONG_KEY, 2),
+    },
+    Case {
+        name: "a set that takes a free chunk",
+        pages: 1,
+        before: &[Command::Store(StoreVerb::Set, "a", 1)],
+        command: Command::Store(StoreVerb::Set, "b", 1),
+    },
+    Case {
+        name: "a set that replaces an item of its class",
+        pages: 1,
+        before: &[Command::Store(StoreVerb::Set, "a", 1)],
+        command: Command::Store(StoreVerb::Set, "a", 2),
+    },
+    Case {
+        name: "a set that replaces an item of another class, and makes a page",
+        pages: 1,
+        before: &[Command::Store(StoreVerb::Set, "a", 1)],
+        command: Command::Store(StoreVerb::Set, "a", 500),
+    },
+    Case {
+        name: "a set for which an item is evicted",
+        pages: 1,
+        before: &[Command::Store(StoreVerb::Set, "a", 964)],
+        command: Command::Store(StoreVerb::Set, "b", 964),
+    },
+    Case {
+        name: "a set that is too large",
+        pages: 1,
+        before: &[Command::Store(StoreVerb::Set, "a", 1)],
+        command: Command::Store(StoreVerb::Set, "a", 2000),
+    },
+    Case {
+        name: "an add",
+        pages: 1,
+        before: &[],
+        command: Command::Store(StoreVerb::Add, "a", 1),
+    },
+    Case {
+        name: "a replace",
+        pages: 1,
+        before: &[Command::Store(StoreVerb::Set, "a", 1)],
+        command: Command::Store(StoreVerb::Replace, "a", 2),
+    },
+    Case {
+        name: "a cas",
+        pages: 1,
+        before: &[Command::Store(StoreVerb::Set, "a", 1)],
+        command: Command::Store(StoreVerb::Cas(1), "a", 2),
+    },
+    Case {
+        name: "a cas of another number, which makes a page",
+        pages: 1,
+        before: &[Command::Store(StoreVerb::Set, "a", 1)],
+        command: Command::Store(StoreVerb::Cas(7), "a", 500),
+    },
+    Case {
+        name: "an append that needs a larger chunk",
+        pages: 1,
+        before: &[Command::Store(StoreVerb::Set, "a", 100)],
+        command: Command::Join(JoinSide::Append, "a", 200),
+    },
+    Case {
+        name: "a prepend for which its own item is evicted",
+        pages: 1,
+        before: &[Command::Store(StoreVerb::Set, "a", 960)],
+        command: Command::Join(JoinSide::Prepend, "a", 4),
+    },
+    Case {
+        name: "an incr",
+        pages: 1,
+        before: &[Command::Store(StoreVerb::Set, "a", 3)],
+        command: Command::Keyed(KeyCommand::Count(Arithmetic::Increment(9)), "a"),
+    },
+    Case {
+        name: "a decr",
+        pages: 1,
+        before: &[Command::Store(StoreVerb::Set, "a", 3)],
+        command: Command::Keyed(KeyCommand::Count(Arithmetic::Decrement(9)), "a"),
+    },
+    Case {
+        name: "a get",
+        pages: 1,
+        before: &[Command::Store(StoreVerb::Set, "a", 1)],
+        command: Command::Keyed(KeyCommand::Get, "a"),
+    },
+    Case {
+        name: "a touch",
+        pages: 1,
+        before: &[Command::Store(StoreVerb::Set, "a", 1)],
+        command: Command::Keyed(KeyCommand::Touch(100), "a"),
+    },
+    Case {
+        name: "a delete",
+        pages: 1,
+        before: &[
+            Command::Store(StoreVerb::Set, "b", 1),
+            Command::Store(StoreVerb::Set, "a", 1),
+        ],
+        command: Command::Keyed(KeyCommand::Delete, "a"),
+    },
+    Case {
+        name: "a flush",
+        pages: 1,
+        before: &[Command::Store(StoreVerb::Set, "a", 1)],
+        command: Command::FlushAll,
+    },
+    Case {
+        name: "a pull",
+        pages: 1,
+        before: &[
+            Command::Store(StoreVerb::Set, "a", 1),
+            Command::Store(StoreVerb::Set, "b", 1),
+        ],
+        command: Command::Actor(ActorStep::Pull {
+            class: 1,
+            queue: Queue::Hot,
+        }),
+    },
+    Case {
+        name: "a bump",
+        pages: 1,
+        before: &[
+            Command::Store(StoreVerb::Set, "a", 1),
+            Command::Actor(ActorStep::Pull {
+                class: 1,
+                queue: Queue::Hot,
+            }),
+            Command::Keyed(KeyCommand::Get, "a"),
+            Command::Keyed(KeyCommand::Get, "a"),
+        ],
+        command: Command::Actor(ActorStep::Bump),
+    },
+    Case {
+        name: "a crawl's start",
+        pages: 1,
+        before: &[Command::Store(StoreVerb::Set, "a", 1)],
+        command: Command::Actor(ActorStep::StartCrawl(ClassSet::All)),
+    },
+    Case {
+        name: "a crawl",
+        pages: 1,
+        before: &[
+            Command::Store(StoreVerb::Set, "a", 1),
+            Command::Actor(ActorStep::StartCrawl(ClassSet::All)),
+        ],
+        command: Command::Actor(ActorStep::Crawl {
+            class: 1,
+            queue: Queue::Hot,
+        }),
+    },
+    Case {
+        name: "a page move's start",
+        pages: 2,
+        before: &[
+            Command::Store(StoreVerb::Set, "a", 964),
+            Command::Store(StoreVerb::Set, "b", 964),
+        ],
+        command: Command::Actor(ActorStep::Reassign {
+            source: 11,
+            target: 1,
+        }),
+    },
+    Case {
+        name: "an advance that rescues an item",
+        pages: 2,
+        before: &[
+            Command::Store(StoreVerb::Set, "a", 150),
+            Command::Store(StoreVerb::Set, "b", 150),
+            Command::Store(StoreVerb::Set, "c", 150),
+            Command::Store(StoreVerb::Set, "d", 150),
+            Command::Store(StoreVerb::Set, "e", 150),
+            Command::Actor(ActorStep::Reassign {
+                source: 5,
+                target: 1,
+            }),
+        ],
+        command: Command::Actor(ActorStep::Advance),
+    },
+    Case {
+        name: "an advance that evicts an item",
+        pages: 2,
+        before: &[
+            Command::Store(StoreVerb::Set, "a", 964),
+            Command::Store(StoreVerb::Set, "b", 964),
+            Command::Actor(ActorStep::Reassign {
+                source: 11,
+                target: 1,
+            }),
+        ],
+        command: Command::Actor(ActorStep::Advance),
+    },
+    Case {
+        name: "the last advance, which lays the page",
+        pages: 2,
+        before: &[
+            Command::Store(StoreVerb::Set, "a", 964),
+            Command::Store(StoreVerb::Set, "b", 964),
+            Command::Actor(ActorStep::Reassign {
+                source: 11,
+                target: 1,
+            }),
+            Command::Actor(ActorStep::Advance),
+        ],
+        command: Command::Actor(ActorStep::Advance),
+    },
+    Case {
+        name: "a clock",
+        pages: 1,
+        before: &[],
+        command: Command::Actor(ActorStep::Clock(5)),
+    },
+    Case {
+        name: "a tune",
+        pages: 1,
+        before: &[],
+        command: Command::Tune,
+    },
+    Case {
+        name: "a temp_ttl",
+        pages: 1,
+        before: &[],
+        command: Command::Actor(ActorStep::TempTtl(60)),
+    },
+];
+
+// Applies the commands, one after another.
+fn prepare<A: Allocator + Clone>(store: &mut Store<A>, commands: &[Command]) -> Result<(), Fail>
+    requires { Sound store.old }
+    ensures { Sound store.new }
+{
+    for command in commands {
+        let step = step_of(store.alloc()?, *command)?;
+        apply(store, &step)?;
+    }
+    Ok(())
+}
+
+// Applies a step, and tells whether there was memory for it.
+fn has_applied<A: Allocator + Clone>(store: &mut Store<A>, step: &Step<A>) -> bool
+    requires { Sound store.old }
+    ensures { Sound store.new }
+{
+    match apply(store, step) {
+        Ok(_) => true,
+        Err(_) => false,
+    }
+}
+
+// Applies the command with so many bytes left, and tells whether there was memory for it.
+fn try_apply<'a>(
+    alloc: Global,
+    heap: &'a LocalHeap,
+    store: &mut Store<&'a LocalHeap>,
+    command: Command,
+    left: usize,
+) -> Result<bool, Fail>
+    requires { Sound store.old }
+    ensures { OnOk result (Sound store.new) }
+{
+    let step = step_of(heap, command)?;
+    let _ballast = fill(alloc, heap, left)?;
+    Ok(has_applied(store, &step))
+}
+
+// A store to which these commands were applied.
+fn store_after<'a>(
+    heap: &'a LocalHeap,
+    pages: u32,
+    commands: &[Command],
+) -> Result<Store<&'a LocalHeap>, Fail>
+    ensures { IfOk result (λ store. Sound store) }
+{
+    let config = Config { pages, ..SMALL };
+    let mut store = Store::open(heap, config)?;
+    after(prepare(&mut store, commands), store)
+}
+
+// Applies the case's command with so many bytes left. A store that was refused memory tells what it told before.
+fn applies_or_keeps<'a, R: Abort>(
+    rt: &R,
+    alloc: Global,
+    heap: &'a LocalHeap,
+    store: &mut Store<&'a LocalHeap>,
+    case: &Case,
+    left: usize,
+) -> Result<bool, Fail>
+    requires { Sound store.old }
+{
+    let before = picture_of(alloc, store)?;
+    let free = heap.free();
+    let is_done = try_apply(alloc, heap, store, case.command, left)?;
+    let name = case.name;
+    if !is_done {
+        assert_eq!(rt; heap.free(), free, "{name}: {left} bytes left");
+    }
+    let after = picture_of(alloc, store)?;
+    let is_same = before.is_same(&after);
+    assert!(rt; is_same != is_done, "{name}: {left} bytes left");
+    Ok(is_done)
+}
+
+// Applies it to a store of its own.
+fn try_store<'a, R: Abort>(
+    rt: &R,
+    alloc: Global,
+    heap: &'a LocalHeap,
+    case: &Case,
+    left: usize,
+) -> Result<bool, Fail> {
+    let mut store = store_after(heap, case.pages, case.before)?;
+    let is_done = applies_or_keeps(rt, alloc, heap, &mut store, case, left);
+    drop(store);
+    is_done
+}
+
+// The same on a heap of its own.
+fn try_case<R: Abort>(rt: &R, alloc: Global, case: &Case, left: usize) -> Result<bool, Fail> {
+    let heap = LocalHeap::new(alloc, BYTES)?;
+    try_store(rt, alloc, &heap, case, left)
+}
+
+#[test]
+fn applies(rt: HostRuntime) -> Result<(), Fail> {
+    for case in &CASES {
+        let mut refused = None;
+        for units in 0..BYTES / UNIT {
+            if try_case(&rt, rt.alloc(), case, units * UNIT)? {
+                refused = Some(units);
+                break;
+            }
+        }
+        let name = case.name;
+        assert!(rt; refused.unwrap_or(0) > 0, "{name}");
+    }
+    Ok(())
+}
+
+// Whether a copy of the step is the same, none where there was no memory for it.
+fn is_copy_same<'a>(heap: &'a LocalHeap, step: &Step<&'a LocalHeap>) -> Option<bool> {
+    match step.copy(heap) {
+        Ok(copy) => Some(step.is_same(&copy)),
+        Err(_) => None,
+    }
+}
+
+// Copies the step with so many bytes left.
+fn copies_or_refuses<'a, R: Abort>(
+    rt: &R,
+    alloc: Global,
+    heap: &'a LocalHeap,
+    step: &Step<&'a LocalHeap>,
+    command: Command,
+    left: usize,
+) -> Result<bool, Fail> {
+    let _ballast = fill(alloc, heap, left)?;
+    match is_copy_same(heap, step) {
+        Some(is_same) => {
+            assert!(rt; is_same, "{command:?}");
+            Ok(true)
+        }
+        None => {
+            assert_eq!(rt; heap.free(), left, "{command:?}");
+            Ok(false)
+        }
+    }
+}
+
+// Copies the step of a command.
+fn copy_of_command<'a, R: Abort>(
+    rt: &R,
+    alloc: Global,
+    heap: &'a LocalHeap,
+    command: Command,
+    left: usize,
+) -> Result<bool, Fail> {
+    let step = step_of(heap, command)?;
+    let is_copied = copies_or_refuses(rt, alloc, heap, &step, command, left);
+    drop(step);
+    is_copied
+}
+
+// The same on a heap of its own.
+fn try_copy<R: Abort>(rt: &R, alloc: Global, command: Command, left: usize) -> Result<bool, Fail> {
+    let heap = LocalHeap::new(alloc, BYTES)?;
+    copy_of_command(rt, alloc, &heap, command, left)
+}
+
+#[test]
+fn copies(rt: HostRuntime) -> Result<(), Fail> {
+    for command in [
+        Command::Store(StoreVerb::Set, LONG_KEY, 100),
+        Command::Join(JoinSide::Append, LONG_KEY, 100),
+        Command::Keyed(KeyCommand::Get, LONG_KEY),
+    ] {
+        let mut refused = None;
+        for units in 0..BYTES / UNIT {
+            if try_copy(&rt, rt.alloc(), command, units * UNIT)? {
+                refused = Some(units);
+                break;
+            }
+        }
+        assert!(rt; refused.unwrap_or(0) > 0, "{command:?}");
+    }
+    Ok(())
+}

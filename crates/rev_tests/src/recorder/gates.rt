@@ -1,0 +1,270 @@
+//! Hands that play side by side: two threads that meet outside the lock, and one that waits for another's answer.
+ghost use Rattle.std.specs.Prelude.{◌≤◌};
+
+use crate::owned::or_fail;
+use crate::recorder::hands::{clock, set};
+use crate::recorder::openings::{Ending, SEAL, end, open};
+use rev_recorder::{Gate, Hand, RecordFault, Recorder, run_actors};
+use rev_requests::Step;
+use std::alloc::Global;
+use std::process::Abort;
+use std::sync::Wait;
+use std::sync::atomic::{AtomicBool, Ordering};
+use std::test::Fail;
+use std::thread;
+use std::thread::Threads;
+
+// Turns that are waited for a flag.
+const TURNS: u32 = 1000000;
+
+// Steps of each hand.
+const STEPS: u32 = 3;
+
+// Waits for the flag, and tells whether it was set in time.
+fn await_flag(flag: &AtomicBool) -> bool {
+    for _ in 0..TURNS {
+        if flag.load(Ordering::SeqCst) {
+            return true;
+        }
+        thread::yield_now();
+    }
+    false
+}
+
+// Lets every step pass.
+struct Open;
+
+impl Gate for Open {
+    fn before(&self, _actor: usize, _index: usize) {}
+
+    fn after(&self, _actor: usize, _index: usize) {}
+}
+
+// Each of two actors waits, before its first step, for the other to be about to play its own.
+#[derive(Drop)]
+struct Meeting {
+    first: usize,
+    second: usize,
+    is_first_here: AtomicBool,
+    is_second_here: AtomicBool,
+    is_missed: AtomicBool,
+}
+
+impl Meeting {
+    fn new(first: usize, second: usize) -> Meeting {
+        Meeting {
+            first,
+            second,
+            is_first_here: AtomicBool::new(false),
+            is_second_here: AtomicBool::new(false),
+            is_missed: AtomicBool::new(false),
+        }
+    }
+
+    // Sets the own flag, and waits for the other's.
+    fn meet(&self, own: &AtomicBool, other: &AtomicBool) {
+        own.store(true, Ordering::SeqCst);
+        if !await_flag(other) {
+            self.is_missed.store(true, Ordering::SeqCst);
+        }
+    }
+}
+
+impl Gate for Meeting {
+    fn before(&self, actor: usize, index: usize) {
+        if index == 0 {
+            if actor == self.first {
+                self.meet(&self.is_first_here, &self.is_second_here);
+            } else if actor == self.second {
+                self.meet(&self.is_second_here, &self.is_first_here);
+            }
+        }
+    }
+
+    fn after(&self, _actor: usize, _index: usize) {}
+}
+
+// One actor waits, before its first step, until another's first step was answered.
+#[derive(Drop)]
+struct Answer {
+    early: usize,
+    late: usize,
+    is_answered: AtomicBool,
+    is_missed: AtomicBool,
+}
+
+impl Answer {
+    fn new(early: usize, late: usize) -> Answer {
+        Answer {
+            early,
+            late,
+            is_answered: AtomicBool::new(false),
+            is_missed: AtomicBool::new(false),
+        }
+    }
+}
+
+impl Gate for Answer {
+    fn before(&self, actor: usize, index: usize) {
+        if index == 0 && actor == self.late && !await_flag(&self.is_answered) {
+            self.is_missed.store(true, Ordering::SeqCst);
+        }
+    }
+
+    fn after(&self, actor: usize, index: usize) {
+        if index == 0 && actor == self.early {
+            self.is_answered.store(true, Ordering::SeqCst);
+        }
+    }
+}
+
+// What a hand is to play: a set, and steps of the clock.
+fn steps_of_one(alloc: Global) -> Result<Vec<Step<Global>>, Fail> {
+    let mut steps = Vec::new(alloc);
+    steps.push(set(alloc, "a")?)?;
+    for now in 1..STEPS {
+        steps.push(clock(now))?;
+    }
+    Ok(steps)
+}
+
+// Each hand with its steps.
+fn work_of(alloc: Global, hands: Vec<Hand>) -> Result<Vec<(Hand, Vec<Step<Global>>)>, Fail> {
+    let mut work = Vec::new(alloc);
+    for hand in hands {
+        work.push((hand, steps_of_one(alloc)?))?;
+    }
+    Ok(work)
+}
+
+// The hands in the order they came, if each played all its steps.
+fn hands_of(alloc: Global, done: Vec<(Hand, Result<(), RecordFault>)>) -> Result<Vec<Hand>, Fail> {
+    let mut hands = Vec::new(alloc);
+    for (hand, result) in done {
+        result?;
+        hands.push(hand)?;
+    }
+    Ok(hands)
+}
+
+// Runs each hand on a thread.
+fn run_hands<R: Threads + Wait + Sync, G: Gate + Sync>(
+    rt: &R,
+    alloc: Global,
+    recorder: &Recorder,
+    hands: Vec<Hand>,
+    gate: &G,
+) -> Result<Vec<Hand>, Fail> {
+    let work = work_of(alloc, hands)?;
+    let done = or_fail(run_actors(rt, recorder, work, gate), "no memory")?;
+    hands_of(alloc, done)
+}
+
+// Records the steps of so many actors side by side.
+fn record_all<R: Threads + Wait + Sync, G: Gate + Sync>(
+    rt: &R,
+    alloc: Global,
+    actors: usize,
+    gate: &G,
+) -> Result<Ending, Fail>
+    requires { (1 ≤ actors) × (actors ≤ 8) }
+{
+    let (recorder, hands) = open(alloc, actors, SEAL)?;
+    let hands = run_hands(rt, alloc, &recorder, hands, gate)?;
+    Ok(end(recorder, hands))
+}
+
+// How the recording of so many actors ends.
+fn all_played(actors: usize) -> Ending
+    requires { actors ≤ 8 }
+{
+    Ending::Settled {
+        rows: actors * 3,
+        nodes: actors as u32 * 3,
+    }
+}
+
+#[test]
+fn no_hands(rt: HostRuntime) -> Result<(), Fail> {
+    let (recorder, hands) = open(rt.alloc(), 1, SEAL)?;
+    match run_actors(&rt, &recorder, Vec::new(rt.alloc()), &Open) {
+        Ok(done) => assert_eq!(rt; done.len(), 0),
+        Err(_) => return Err(Fail::new("no memory")),
+    }
+    assert_eq!(rt; end(recorder, hands), Ending::Settled { rows: 0, nodes: 0 });
+    Ok(())
+}
+
+#[test]
+fn hands_of_each_number(rt: HostRuntime) -> Result<(), Fail> {
+    for actors in 1..=8 {
+        let ending = record_all(&rt, rt.alloc(), actors, &Open)?;
+        assert_eq!(rt; ending, all_played(actors));
+    }
+    Ok(())
+}
+
+// Whether the two of so many actors met.
+fn try_meeting<R: Threads + Wait + Abort + Sync>(
+    rt: &R,
+    alloc: Global,
+    actors: usize,
+    first: usize,
+    second: usize,
+) -> Result<(), Fail>
+    requires { (1 ≤ actors) × (actors ≤ 8) }
+{
+    let gate = Meeting::new(first, second);
+    let ending = record_all(rt, alloc, actors, &gate)?;
+    assert_eq!(rt; ending, all_played(actors));
+    assert!(rt;
+        !gate.is_missed.load(Ordering::SeqCst),
+        "{first} and {second} of {actors}"
+    );
+    Ok(())
+}
+
+#[test]
+fn gate_meet(rt: HostRuntime) -> Result<(), Fail> {
+    try_meeting(&rt, rt.alloc(), 2, 0, 1)?;
+    for first in 0..7 {
+        for second in first + 1..8 {
+            try_meeting(&rt, rt.alloc(), 8, first, second)?;
+        }
+    }
+    Ok(())
+}
+
+// Whether the late one of so many actors waited for the early one's answer.
+fn try_answer<R: Threads + Wait + Abort + Sync>(
+    rt: &R,
+    alloc: Global,
+    actors: usize,
+    early: usize,
+    late: usize,
+) -> Result<(), Fail>
+    requires { (1 ≤ actors) × (actors ≤ 8) }
+{
+    let gate = Answer::new(early, late);
+    let ending = record_all(rt, alloc, actors, &gate)?;
+    assert_eq!(rt; ending, all_played(actors));
+    assert!(rt;
+        !gate.is_missed.load(Ordering::SeqCst),
+        "{early} before {late} of {actors}"
+    );
+    Ok(())
+}
+
+#[test]
+fn gate_answered(rt: HostRuntime) -> Result<(), Fail> {
+    try_answer(&rt, rt.alloc(), 2, 0, 1)?;
+    try_answer(&rt, rt.alloc(), 2, 1, 0)?;
+    for early in 0..8 {
+        for late in 0..8 {
+            if early != late {
+                try_answer(&rt, rt.alloc(), 8, early, late)?;
+            }
+        }
+    }
+    Ok(())
+}
