@@ -1,11 +1,13 @@
-ghost use Rattle.std.specs.Prelude.{◌≡◌, ℕ, ◌+◌, ◌≤◌, ◌++◌, length, reverse as list_reverse};
+ghost use Rattle.std.specs.Prelude.{◌≡◌, ℕ, ◌+◌, ◌≤◌, ◌++◌, ◌∷◌, [], None, length, reverse as list_reverse};
 ghost use Rattle.rev_model.specs.State.{WellFormed};
-ghost use Rattle.rev_model.specs.Move.{Fits, turned};
+ghost use Rattle.rev_model.specs.Move as plain;
+ghost use Rattle.rev_model.specs.Move.{Fits, Possible, moved, reverse, turned};
 ghost use Rattle.rev_moves.specs.Seen.{plain_moves, plain_notes};
 ghost use Rattle.rev_moves.specs.Leads.{Leads};
 ghost use Rattle.rev_inverse.specs.Groups.{Carries};
 
 use crate::store::Store;
+use rev_model::{Listed, Placed};
 use rev_moves::{Move, Record};
 use std::alloc::Allocator;
 use std::mem;
@@ -76,8 +78,50 @@ impl<A: Allocator> Store<A> {
         }
     }
 
+    // The same, which then stands where the change stood.
+    #[inline(always)]
+    fn carry_in(&mut self, group: &mut Move<A>)
+        requires carries { Carries group.old }
+        requires well { WellFormed self.old }
+        requires possible { Fits (plain_moves group.old) self.old }
+        ensures state { self.new ≡ (turned (plain_moves group.old) self.old).0 }
+        ensures reverse { plain_moves group.new ≡ (turned (plain_moves group.old) self.old).1 }
+        ensures notes { plain_notes group.new ≡ list_reverse (plain_notes group.old) }
+    {
+        let next = mem::replace(group, Move::BumpOut);
+        let reverse = self.carry(next);
+        set(group, reverse);
+    }
+
+    // Takes an entry out of its list; the change becomes the one that puts it back.
+    #[inline(always)]
+    fn take_in(&mut self, group: &mut Move<A>, at: Listed)
+        requires well { WellFormed self.old }
+        requires possible { Possible (plain.Takes at) self.old }
+        ensures state { self.new ≡ moved (plain.Takes at) self.old }
+        ensures reverse { plain_moves group.new ≡ reverse (plain.Takes at) self.old ∷ [] }
+        ensures notes { plain_notes group.new ≡ None ∷ [] }
+    {
+        let reverse = Move::Put(self.take(at));
+        set(group, reverse);
+    }
+
+    // Puts an entry into a list; the change becomes the one that takes it out.
+    #[inline(always)]
+    fn put_in(&mut self, group: &mut Move<A>, at: Placed)
+        requires well { WellFormed self.old }
+        requires possible { Possible (plain.Puts at) self.old }
+        ensures state { self.new ≡ moved (plain.Puts at) self.old }
+        ensures reverse { plain_moves group.new ≡ reverse (plain.Puts at) self.old ∷ [] }
+        ensures notes { plain_notes group.new ≡ None ∷ [] }
+    {
+        let reverse = Move::Take(self.put(at));
+        set(group, reverse);
+    }
+
     // Makes a change, which then is the one that undoes it. It is read and written where it stands.
-    // Who makes a change names its kind: inlined there, with all that it calls, one arm of the match is left.
+    // Who makes a change names its kind: inlined there, with all that it calls, one arm of the match is left. An arm that
+    // makes a change anew is a function of its own, since the parts of all arms are cleared where `exchange` begins.
     #[inline(always)]
     fn exchange(&mut self, group: &mut Move<A>)
         requires well { WellFormed self.old }
@@ -88,11 +132,7 @@ impl<A: Allocator> Store<A> {
     {
         match group {
             Move::Enter { .. } | Move::Leave { .. } | Move::Lay(_, _, _, _) | Move::Lift(_, _, _) =>
-                {
-                    let next = mem::replace(group, Move::BumpOut);
-                    let reverse = self.carry(next);
-                    set(group, reverse);
-                }
+                { self.carry_in(group) }
             Move::Requeue {
                 class,
                 after,
@@ -104,12 +144,12 @@ impl<A: Allocator> Store<A> {
                 mem::swap(from, to);
             }
             Move::Take(at) => {
-                let reverse = Move::Put(self.take(*at));
-                set(group, reverse);
+                let at = *at;
+                self.take_in(group, at);
             }
             Move::Put(at) => {
-                let reverse = Move::Take(self.put(*at));
-                set(group, reverse);
+                let at = *at;
+                self.put_in(group, at);
             }
             Move::Touch(chunk, next) => *next = self.touch(*chunk, *next),
             Move::Shift(from, to) => {

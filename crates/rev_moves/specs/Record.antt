@@ -1,5 +1,5 @@
 -- A record without its allocator.
-use Rattle.std.specs.Prelude.{ℕ, ◌≡◌, ◌++◌, List, [], ◌∷◌, Option}
+use Rattle.std.specs.Prelude.{ℕ, ◌≡◌, ◌-◌, ◌++◌, Bool, true, false, List, [], ◌∷◌, Option, reverse}
 use Rattle.rev_model.specs.Move.{Move}
 use Rattle.rev_model.specs.declared.Cause.{Cause}
 use Rattle.rev_moves.specs.declared.moves.Move as stored
@@ -20,6 +20,16 @@ moves_in (p ∷ ps) = p.moves ++ moves_in ps
 abbrev pub notes_in : List Group → List (Option Cause)
 notes_in [] = []
 notes_in (p ∷ ps) = p.notes ++ notes_in ps
+
+-- the groups that are kept so, or the other way round
+abbrev pub in_order : Bool → List Group → List Group
+in_order false gs = gs
+in_order true gs = reverse gs
+
+-- where the i-th of n groups stands
+abbrev pub place_in : Bool → ℕ → ℕ → ℕ
+place_in false i n = i
+place_in true i n = n - 1 - i
 
 -- the moves in the order made, the note beside each, how many moves there is room for, and in which groups they are kept
 pub record PlainRecord : Type 0 where

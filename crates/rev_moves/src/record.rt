@@ -1,6 +1,6 @@
-ghost use Rattle.std.specs.Prelude.{◌≡◌, ℕ, ◌+◌, ◌<◌, ◌≤◌, IfOk, [], ◌∷◌, ◌++◌, length, slice_set, slice_index_or, reverse, MatchOption};
+ghost use Rattle.std.specs.Prelude.{◌≡◌, ℕ, ◌+◌, ◌<◌, ◌≤◌, IfOk, [], ◌∷◌, ◌++◌, length, map, false, slice_set, slice_index_or, reverse, vec_capacity, MatchOption};
 ghost use Rattle.rev_moves.specs.Seen.{plain_moves, plain_notes};
-ghost use Rattle.rev_moves.specs.Record.{group_of, moves_in, notes_in, IsWhole};
+ghost use Rattle.rev_moves.specs.Record.{group_of, in_order, place_in, moves_in, notes_in, IsWhole};
 ghost use Rattle.std.specs.Borrow.{sem};
 
 use crate::moves::Move;
@@ -12,16 +12,19 @@ use std::marker::Model;
 #[derive(Drop)]
 pub struct Record<A: Allocator> {
     moves: Vec<Move<A>, A>,
-    spare: usize,
+    // Whether the groups stand the other way round, the last in front.
+    is_turned: bool,
+    spare: u8,
 }
 
 impl<A: Allocator> Model for Record<A> {
     ghost use Rattle.std.specs.Prelude.{map, length, ◌+◌, ◌≤◌, vec_capacity, vec_len};
-    ghost use Rattle.rev_moves.specs.Record.{PlainRecord, group_of, moves_in, notes_in};
+    ghost use Rattle.rev_moves.specs.Record.{PlainRecord, group_of, in_order, moves_in, notes_in};
 
     ghost Value = { PlainRecord };
 
-    ghost view = { λ r. record { moves = moves_in (map group_of r.moves.items); notes = notes_in (map group_of r.moves.items); room = length (moves_in (map group_of r.moves.items)) + r.spare; groups = map group_of r.moves.items } };
+    ghost view = { λ r. let groups = in_order r.is_turned (map group_of r.moves.items) in
+        record { moves = moves_in groups; notes = notes_in groups; room = length (moves_in groups) + r.spare; groups = groups } };
 
     ghost invariant = { λ r. vec_len r.moves + r.spare ≤ vec_capacity r.moves };
 }
@@ -35,7 +38,11 @@ impl<A: Allocator> Record<A> {
         ensures { IfOk result (λ made. made ≡ record { moves = []; notes = []; room = n; groups = [] }) }
     {
         let moves = Vec::with_capacity(alloc, n)?;
-        Ok(Record { moves, spare: n })
+        Ok(Record {
+            moves,
+            is_turned: false,
+            spare: n as u8,
+        })
     }
 
     /// In how many groups the moves are kept.
@@ -55,6 +62,7 @@ impl<A: Allocator> Record<A> {
     }
 
     /// Adds what undoes one more change behind the others. It takes no memory.
+    #[inline(always)]
     pub fn push(&mut self, undo: Move<A>)
         requires { length self.old.moves + length (plain_moves undo) ≤ self.old.room }
         ensures moves { self.new.moves ≡ self.old.moves ++ plain_moves undo }
@@ -62,7 +70,8 @@ impl<A: Allocator> Record<A> {
         ensures groups { self.new.groups ≡ self.old.groups ++ group_of undo ∷ [] }
         ensures room { self.new.room ≡ self.old.room }
     {
-        let count = undo.count();
+        straighten(&mut self.moves, &mut self.is_turned);
+        let count = undo.count() as u8;
         match self.moves.push(undo) {
             Ok(()) => self.spare -= count,
             Err(_) => unreachable!(),
@@ -73,7 +82,11 @@ impl<A: Allocator> Record<A> {
     pub fn group(&self, i: usize) -> Option<&Move<A>>
         ensures { MatchOption result (length self.now.groups ≤ i) (λ m. (i < length self.now.groups) × (group_of m.now ≡ slice_index_or self.now.groups i (group_of m.now))) }
     {
-        self.moves.get(i)
+        let count = self.moves.len();
+        if i >= count {
+            return None;
+        }
+        self.moves.get(place_of(self.is_turned, i, count))
     }
 
     /// A group, to write another in its place.
@@ -83,7 +96,8 @@ impl<A: Allocator> Record<A> {
         ensures value { group_of result.now ≡ slice_index_or self.old.groups place (group_of result.now) }
         ensures room { length self.old.moves ≤ self.old.room }
     {
-        &mut self.moves[place]
+        let at = place_of(self.is_turned, place, self.moves.len());
+        &mut self.moves[at]
     }
 
     /// The same groups, the last in front.
@@ -92,6 +106,29 @@ impl<A: Allocator> Record<A> {
         ensures whole { IsWhole self.new }
         ensures room { self.new.room + length self.old.moves ≡ self.old.room + length self.new.moves }
     {
-        self.moves.reverse();
+        self.is_turned = !self.is_turned;
+    }
+}
+
+// Where the i-th of `count` groups stands.
+fn place_of(is_turned: bool, i: usize, count: usize) -> usize
+    requires { i < count }
+    ensures place { result ≡ place_in is_turned i count }
+    ensures within { result < count }
+{
+    if is_turned { count - 1 - i } else { i }
+}
+
+// Puts the groups into their own order. Only a record that was turned keeps them otherwise.
+#[inline(always)]
+fn straighten<A: Allocator>(moves: &mut Vec<Move<A>, A>, is_turned: &mut bool)
+    ensures groups { map group_of moves.new.items ≡ in_order is_turned.old (map group_of moves.old.items) }
+    ensures order { is_turned.new ≡ false }
+    ensures room { vec_capacity moves.new ≡ vec_capacity moves.old }
+    ensures count { length moves.new.items ≡ length moves.old.items }
+{
+    if *is_turned {
+        moves.reverse();
+        *is_turned = false;
     }
 }

@@ -1,24 +1,35 @@
-use Rattle.std.proofs.Common.{◌≡◌, ◌+◌, ◌-◌, ◌≤◌, ap, map, sym, ◌∙◌, arith, refl, length, slice_set, subst}
-use Rattle.std.proofs.Math.ListN.{get_or-map}
-use Rattle.std.proofs.lemmas.List.{map-set}
-use Rattle.rev_moves.specs.Record.{PlainRecord, group_of, moves_in, notes_in}
+use Rattle.std.proofs.Common.{rules, ◌≡◌, ◌+◌, ◌-◌, ◌<◌, ◌≤◌, ap, map, sym, ◌∙◌, arith, refl, length, slice_set, subst}
+use Rattle.std.proofs.lemmas.List.{length-map}
+use Rattle.rev_moves.proofs.Lists.{length-in_order, shown, written}
+use Rattle.rev_moves.specs.Record.{PlainRecord, group_of, in_order, place_in, moves_in, notes_in}
 use Rattle.rev_moves.proofs.record.Record.group_mut.Goals as goal
 
 pub returns : goal.returns
 returns g c =
     let items = c.self.inside.moves.items in
+    let turned = c.self.inside.is_turned in
     let spare = c.self.inside.spare in
-    let long = length (moves_in (map group_of items)) in
+    let at = c.place_of-at.result in
+    let groups = in_order turned (map group_of items) in
+    let long = length (moves_in groups) in
     let few : long ≤ long + spare = omega arith in
-    let rest : spare ≡ (long + spare) - long = omega arith in (
+    let rest : spare ≡ (long + spare) - long = omega arith in
+    let there : c.args.place < length groups = subst (λ (r : PlainRecord). c.args.place < length r.groups) (sym c.self.view_is) c.requires in
+    let n : c.len.result ≡ length items = search rules in
+    let place : at ≡ place_in turned c.args.place (length items) = c.place_of-at.ensures.place ∙ ap (place_in turned c.args.place) n in
+    let lt : c.args.place < length items = omega (arith, there, length-in_order turned (map group_of items), length-map items group_of) in (
       (
         refl,
-        λ w. rw (← c.self.view_is) (λ i. record {
-          moves = ap moves_in (map-set group_of items c.args.place w) i;
-          notes = ap notes_in (map-set group_of items c.args.place w) i;
-          room = (ap (λ n. length (moves_in (map group_of (slice_set items c.args.place w))) + n) rest ∙ ap (λ l. length (moves_in l) + ((long + spare) - long)) (map-set group_of items c.args.place w)) i;
-          groups = map-set group_of items c.args.place w i;
+        λ w. let e = written turned items c.args.place at w lt place in rw (← c.self.view_is) (λ i. record {
+          moves = ap moves_in e i;
+          notes = ap notes_in e i;
+          room = (ap (λ n. length (moves_in (in_order turned (map group_of (slice_set items at w)))) + n) rest ∙ ap (λ l. length (moves_in l) + ((long + spare) - long)) e) i;
+          groups = e i;
         }),
       ),
-      record { writes_back = tt; room = subst (λ (r : PlainRecord). length r.moves ≤ r.room) c.self.view_is few; value = rw (← c.self.view_is) (ap group_of c.index_mut.ensures.value ∙ sym (get_or-map group_of items c.args.place c.index_mut.result.now)) },
+      record {
+        writes_back = tt;
+        room = subst (λ (r : PlainRecord). length r.moves ≤ r.room) c.self.view_is few;
+        value = rw (← c.self.view_is) (shown turned items c.args.place at c.index_mut.result.now lt place c.index_mut.ensures.value);
+      },
     )
