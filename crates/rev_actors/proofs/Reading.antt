@@ -1,10 +1,10 @@
 -- One line more of a script whose lines are steps.
-use Rattle.std.proofs.Common.{◌≡◌, ℕ, ◌+◌, ◌-◌, ◌<◌, ◌⊎◌, inl, inr, List, [], ◌∷◌, ◌++◌, length, take, map, Option, None, Some, refl, sym, ◌∙◌, ap, subst, arith, length-append, append_assoc, append-nil, slice_get}
+use Rattle.std.proofs.Common.{◌≡◌, ℕ, ◌+◌, inl, inr, List, [], ◌∷◌, ◌++◌, length, take, Option, None, Some, refl, sym, ◌∙◌, ap, subst, arith, length-append, append_assoc, append-nil, slice_get}
 use Rattle.std.proofs.Math.Seq.{take-append_seam}
 use Rattle.std.specs.Io.KnownBytes.{Consumes, IsAtEnd}
 use Rattle.rev_model.specs.Actor.{Step}
 use Rattle.rev_script.specs.ByteReader.{Took, AtEnd, given, in_piece}
-use Rattle.rev_script.specs.Script.{ScriptLine, lines, whole_lines, IsWhole, IsLast}
+use Rattle.rev_script.specs.Script.{ScriptLine, lines, whole_lines}
 use Rattle.rev_script.specs.Line.{IsNext, IsFault}
 use Rattle.rev_script.specs.Source.{Told}
 use Rattle.rev_script.specs.declared.byte_reader.ByteReader.{ByteReader}

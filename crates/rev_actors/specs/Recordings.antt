@@ -1,5 +1,5 @@
 -- A whole recording: what the files ask for, what was played, and what is printed of it.
-use Rattle.std.specs.Prelude.{ℕ, ◌≡◌, List, [], ◌∷◌, ◌++◌, length, map, All, codes, Option, None, Some, Result, String}
+use Rattle.std.specs.Prelude.{ℕ, ◌≡◌, ◌⊎◌, List, [], ◌∷◌, ◌++◌, length, map, All, codes, Option, None, Some, Result, String}
 use Rattle.std.specs.List.{zip}
 use Rattle.std.specs.Global.{Vec}
 use Rattle.std.specs.declared.alloc.Global.{Global}
@@ -40,6 +40,38 @@ Spoils reader name TooLong = Unit {0}
 Spoils reader name Memory = Unit {0}
 Spoils reader name CannotWrite = ⊥
 Spoils reader name LogDiffers = ⊥
+
+-- one of the files did not become steps, for this reason, and each before it did
+pub record IsSpoilt {F : Type 0} (remaining : F → Option (List ℕ)) (files : List (String Global × F)) (e : RecordingFault) : Type 0 where
+  pub before : List (String Global × F)
+  pub scripts : List (Vec (Step Global))
+  pub scripts_are : AreScripts remaining before scripts
+  pub file : String Global × F
+  pub behind : List (String Global × F)
+  pub files_are : files ≡ before ++ file ∷ behind
+  pub spoils : Spoils (remaining file.1) file.0 e
+
+-- all files are steps, from their first lines to their last
+abbrev pub AreAllScripts : {F : Type 0} → (F → Option (List ℕ)) → List (String Global × F) → Type 0
+AreAllScripts remaining files = (scripts : List (Vec (Step Global))) × AreScripts remaining files scripts
+
+-- why a recording ended without its rows: the first file that is not steps; or, where all are, what came when they were played or
+-- printed. Memory may be wanted at any time.
+abbrev pub EndedBy : {F : Type 0} → (F → Option (List ℕ)) → List (String Global × F) → RecordingFault → Type 0
+EndedBy remaining files (NotAStep file line) = IsSpoilt remaining files (NotAStep file line)
+EndedBy remaining files (CannotRead file) = IsSpoilt remaining files (CannotRead file)
+EndedBy remaining files TooLong = IsSpoilt remaining files TooLong
+EndedBy remaining files Memory = Unit {0}
+EndedBy remaining files CannotWrite = AreAllScripts remaining files
+EndedBy remaining files LogDiffers = AreAllScripts remaining files
+
+-- a fault that may come once all files are steps: when they are played
+abbrev pub IsOfPlay : RecordingFault → Type 0
+IsOfPlay e = (e ≡ Memory) ⊎ (e ≡ LogDiffers)
+
+-- when they are printed
+abbrev pub IsOfPrint : RecordingFault → Type 0
+IsOfPrint e = (e ≡ Memory) ⊎ (e ≡ CannotWrite)
 
 -- hands that ran these scripts came back so, each to its script's end or stopped by a limit of the tree; these are the lines of those
 pub record HaveRun {A : Type 0} (seal : ℕ) (hands : List PlainHand) (scripts : List (Vec (Step A))) (back : List PlainHand) (stopped : List ℕ) : Type 0 where

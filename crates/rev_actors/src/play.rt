@@ -8,7 +8,8 @@ ghost use Rattle.rev_recorder.specs.Hands.{Settles};
 ghost use Rattle.rev_recorder.specs.Settling.{AreNew, IsLegalLog};
 ghost use Rattle.rev_actors.specs.Fault.{IsStatus, status};
 ghost use Rattle.rev_actors.specs.Rows.{ends_text, IsEnd};
-ghost use Rattle.rev_actors.specs.Recordings.{IsScript, AreScripts, Spoils, HaveRun, IsPlayed, IsRecorded, recording_text};
+ghost use Rattle.rev_actors.specs.Recordings.{IsScript, AreScripts, Spoils, IsSpoilt, EndedBy, IsOfPlay, IsOfPrint, HaveRun, IsPlayed, IsRecorded, recording_text};
+ghost use Rattle.rev_actors.specs.declared.fault.RecordingFault.{RecordingFault};
 
 use crate::fault::{RecordingFault, ended};
 use crate::rows::{put_end, text_of};
@@ -68,6 +69,7 @@ fn read_files<F: Read + Drop>(
 ) -> Result<Vec<Vec<Step<Global>>>, RecordingFault>
     ensures count { IfOk result (λ scripts. length scripts.items ≡ length files.items) }
     ensures steps { IfOk result (λ scripts. AreScripts F.remaining files.items scripts.items) }
+    ensures err { IfErr result (λ e. IsSpoilt F.remaining files.items e) }
 {
     let mut scripts = Vec::new(alloc);
     let mut rest = VecDeque::from_vec(files);
@@ -89,7 +91,7 @@ fn open_recorder(
     requires actors { (1 ≤ actors) × (actors ≤ 8) }
     requires limits { IsWithinLimits config.now }
     ensures ok { IfOk result (λ r. (r.0.seal ≡ 1) × AreNew 1 actors r.1.items) }
-    ensures err { IfErr result (λ e. status e ≢ 4) }
+    ensures err { IfErr result (λ e. IsOfPlay e) }
 {
     let Some(session) = open_session(&alloc, config) else {
         return Err(RecordingFault::Memory);
@@ -131,7 +133,7 @@ fn parted(
     ensures lines { OnOk result (stopped.new.items ≡ stopped.old.items ++ ends_text done.items) }
     ensures ends { OnOk result (All (λ d. IsEnd d.1) done.items) }
     ensures hands { IfOk result (λ hands. hands.items ≡ map (λ d. d.0) done.items) }
-    ensures err { IfErr result (λ e. status e ≢ 4) }
+    ensures err { IfErr result (λ e. IsOfPlay e) }
 {
     let mut hands = Vec::new(alloc);
     let mut rest = VecDeque::from_vec(done);
@@ -154,7 +156,7 @@ fn run_hands<R: Threads + Wait + Sync>(
 ) -> Result<Vec<Hand>, RecordingFault>
     requires { stopped.old.items ≡ [] }
     ensures ok { IfOk result (λ back. HaveRun recorder.now.seal hands.items scripts.items back.items stopped.new.items) }
-    ensures err { IfErr result (λ e. status e ≢ 4) }
+    ensures err { IfErr result (λ e. IsOfPlay e) }
 {
     let alloc = *stopped.allocator();
     let Ok(work) = paired(alloc, hands, scripts) else {
@@ -169,7 +171,7 @@ fn run_hands<R: Threads + Wait + Sync>(
 // The log and the session, where the hands agree with them.
 fn settled(recorder: Recorder, hands: Vec<Hand>, stopped: Vec<u8>) -> Result<Played, RecordingFault>
     ensures ok { IfOk result (λ played. (played.stopped ≡ stopped) × IsLegalLog played.settled.log.items played.settled.session × Settles hands.items played.settled.log.items played.settled.session) }
-    ensures err { IfErr result (λ e. status e ≢ 4) }
+    ensures err { IfErr result (λ e. IsOfPlay e) }
 {
     match recorder.settle(hands) {
         Ok(settled) => Ok(Played { settled, stopped }),
@@ -190,7 +192,7 @@ fn play_scripts<R: Threads + Wait + Sync>(
     requires actors { (1 ≤ length scripts.items) × (length scripts.items ≤ 8) }
     requires limits { IsWithinLimits config.now }
     ensures ok { IfOk result (λ played. IsPlayed scripts.items played.settled.log.items played.settled.session played.stopped.items) }
-    ensures err { IfErr result (λ e. status e ≢ 4) }
+    ensures err { IfErr result (λ e. IsOfPlay e) }
 {
     let (recorder, hands) = match open_recorder(alloc, config, scripts.len()) {
         Ok(opened) => opened,
@@ -206,7 +208,7 @@ fn play_scripts<R: Threads + Wait + Sync>(
 // Writes all that a recording prints, in one piece.
 fn print<W: Write>(played: Played, writer: &mut W) -> Result<(), RecordingFault>
     ensures ok { OnOk result (Appends (W.contents writer.old) (W.contents writer.new) (recording_text played.settled.log.items played.settled.session played.stopped.items)) }
-    ensures err { IfErr result (λ e. status e ≢ 4 → Keeps (W.contents writer.old) (W.contents writer.new)) }
+    ensures err { IfErr result (λ e. IsOfPrint e × (status e ≢ 4 → Keeps (W.contents writer.old) (W.contents writer.new))) }
 {
     let Played { settled, stopped } = played;
     let text = text_of(settled.log.as_slice(), &settled.session, stopped);
@@ -235,6 +237,7 @@ fn record<R: Threads + Wait + Sync + AllocGlobal, F: Read + Drop, W: Write>(
     requires limits { IsWithinLimits config.now }
     ensures ok { OnOk result (IsRecorded F.remaining files.items (W.contents writer.old) (W.contents writer.new)) }
     ensures err { IfErr result (λ e. status e ≢ 4 → Keeps (W.contents writer.old) (W.contents writer.new)) }
+    ensures why { IfErr result (λ e. EndedBy F.remaining files.items e) }
 {
     let scripts = read_files(rt.alloc(), files)?;
     let played = play_scripts(rt, rt.alloc(), config, scripts)?;
@@ -259,6 +262,7 @@ pub fn play_files<R: Threads + Wait + Sync + AllocGlobal, F: Read + Drop, W: Wri
     requires limits { IsWithinLimits config.now }
     ensures status { IsStatus result }
     ensures rows { result ≡ 0 → IsRecorded F.remaining files.items (W.contents writer.old) (W.contents writer.new) }
+    ensures why { result ≢ 0 → (e : RecordingFault) × (result ≡ status e) × EndedBy F.remaining files.items e }
     ensures none { result ≢ 0 → result ≢ 4 → Keeps (W.contents writer.old) (W.contents writer.new) }
     ensures quiet { result ≡ 0 → Keeps (E.contents errors.old) (E.contents errors.new) }
 {

@@ -1,8 +1,8 @@
 //! The text of a recording: a row for each play, a line for each actor that a limit stopped, and the end.
-ghost use Rattle.std.specs.Prelude.{◌≡◌, ◌≢◌, ◌++◌, codes, OnOk, IfOk, IfErr};
+ghost use Rattle.std.specs.Prelude.{◌≡◌, ◌++◌, codes, OnOk, IfOk, IfErr};
 ghost use Rattle.rev_requests.specs.Plain.{plain_step};
 ghost use Rattle.rev_shell.specs.Texts.{output};
-ghost use Rattle.rev_actors.specs.Fault.{status};
+ghost use Rattle.rev_actors.specs.Recordings.{IsOfPlay};
 ghost use Rattle.rev_actors.specs.Rows.{play_text, call_text, rows_text, stopped_text, end_text, IsEnd};
 
 use crate::fault::RecordingFault;
@@ -84,7 +84,7 @@ pub fn put_end(
 ) -> Result<(), RecordingFault>
     ensures ok { OnOk result (text.new.items ≡ text.old.items ++ end_text actor end) }
     ensures limit { OnOk result (IsEnd end) }
-    ensures err { IfErr result (λ e. status e ≢ 4) }
+    ensures err { IfErr result (λ e. IsOfPlay e) }
 {
     let put = match end {
         Ok(()) => Ok(()),

@@ -1,3 +1,6 @@
+use Rattle.std.proofs.Common.{rules}
+use Rattle.rev_actors.specs.Recordings.{AreAllScripts, EndedBy}
+use Rattle.rev_actors.proofs.Scripts.{ended_reading, ended_playing, ended_printing}
 use Rattle.rev_actors.proofs.play.record.Goals as goal
 
 pub returns-in-Ok-clause-ok : goal.returns-in-Ok-clause-ok
@@ -10,3 +13,17 @@ returns-in-Ok-clause-ok g c = record {
   played = c.in_ok-played.ensures.ok;
   wrote = c.in-Ok.ensures.ok;
 }
+
+pub returns-in_err-scripts-clause-why : goal.returns-in_err-scripts-clause-why
+returns-in_err-scripts-clause-why g c =
+    let h : EndedBy g.F.Read.remaining c.args.files.items c.in_err-scripts.field-0.0 = ended_reading g.F.Read.remaining c.args.files.items c.in_err-scripts.field-0.0 c.in_err-scripts.ensures.err in
+    search rules
+
+pub returns-in_err-played-clause-why : goal.returns-in_err-played-clause-why
+returns-in_err-played-clause-why g c =
+    let all : AreAllScripts g.F.Read.remaining c.args.files.items = (c.in_ok-scripts.scripts.items, c.in_ok-scripts.ensures.steps) in
+    let h : EndedBy g.F.Read.remaining c.args.files.items c.in_err-played.field-0.0 = ended_playing g.F.Read.remaining c.args.files.items c.in_err-played.field-0.0 all c.in_err-played.ensures.err in
+    search rules
+
+pub returns-in-Err-clause-why : goal.returns-in-Err-clause-why
+returns-in-Err-clause-why g c = ended_printing g.F.Read.remaining _ _ (c.in_ok-scripts.scripts.items, c.in_ok-scripts.ensures.steps) c.in-Err.ensures.err.0

@@ -1,4 +1,4 @@
-use Rattle.std.proofs.Common.{◌≡◌, [], None, Some, inl, refl, sym, ◌∙◌, ap, arith, map}
+use Rattle.std.proofs.Common.{[], Some, inl, refl, sym, ap, arith, map}
 use Rattle.rev_requests.specs.Plain.{plain_step}
 use Rattle.rev_shell.proofs.Runs.{takes_byte, Took-refl}
 use Rattle.rev_actors.proofs.Reading.{still_whole, progress, finished, fault_now, memory_now, other_now}
