@@ -11,10 +11,14 @@ abbrev pub ahead_of : Placed → Option Entry
 ahead_of (ToFree c x a) = None
 ahead_of (ToQueue c q e a) = a
 
--- it carries an item or a page's slots
-abbrev pub Carries : {A : Type 0} → Move A → Type 0
-Carries (Enter c i a x n q) = Unit {0}
-Carries (Leave c o x n q) = Unit {0}
-Carries (Lay p c n f) = Unit {0}
-Carries (Lift p f h) = Unit {0}
-Carries m = ⊥
+-- it carries an item
+abbrev pub CarriesItem : {A : Type 0} → Move A → Type 0
+CarriesItem (Enter c i a x n q) = Unit {0}
+CarriesItem (Leave c o x n q) = Unit {0}
+CarriesItem m = ⊥
+
+-- it carries a page's slots
+abbrev pub CarriesPage : {A : Type 0} → Move A → Type 0
+CarriesPage (Lay p c n f) = Unit {0}
+CarriesPage (Lift p f h) = Unit {0}
+CarriesPage m = ⊥

@@ -4,27 +4,28 @@ ghost use Rattle.rev_model.specs.Move as plain;
 ghost use Rattle.rev_model.specs.Move.{Fits, Possible, moved, reverse, turned};
 ghost use Rattle.rev_moves.specs.Seen.{plain_moves, plain_notes};
 ghost use Rattle.rev_moves.specs.Leads.{Leads};
-ghost use Rattle.rev_inverse.specs.Groups.{Carries};
+ghost use Rattle.rev_inverse.specs.Groups.{CarriesItem, CarriesPage};
 
 use crate::store::Store;
 use rev_model::{Listed, Placed};
 use rev_moves::{Move, Record};
 use std::alloc::Allocator;
-use std::mem;
+use std::mem::{self, ManuallyDrop};
 
-// The change becomes another. What it was is dropped here, and not once more in each arm of a long match.
+// The change becomes another. What it was has nothing of its own left, so nothing of it is dropped: to ask which kind it
+// was would cost more than to write the new one.
 #[inline(always)]
 fn set<A: Allocator>(group: &mut Move<A>, next: Move<A>)
     ensures { group.new ≡ next }
 {
-    *group = next;
+    let _emptied = ManuallyDrop::new(mem::replace(group, next));
 }
 
 impl<A: Allocator> Store<A> {
-    // Makes a change that carries an item or a page's slots, and gives the one that undoes it.
+    // Makes a change that carries an item, and gives the one that undoes it.
     #[inline(always)]
-    fn carry(&mut self, next: Move<A>) -> Move<A>
-        requires carries { Carries next }
+    fn carry_item(&mut self, next: Move<A>) -> Move<A>
+        requires carries { CarriesItem next }
         requires well { WellFormed self.old }
         requires possible { Fits (plain_moves next) self.old }
         ensures state { self.new ≡ (turned (plain_moves next) self.old).0 }
@@ -66,6 +67,20 @@ impl<A: Allocator> Store<A> {
                     after,
                 }
             }
+            _ => unreachable!(),
+        }
+    }
+
+    // Makes a change that carries a page's slots, and gives the one that undoes it.
+    fn carry_page(&mut self, next: Move<A>) -> Move<A>
+        requires carries { CarriesPage next }
+        requires well { WellFormed self.old }
+        requires possible { Fits (plain_moves next) self.old }
+        ensures state { self.new ≡ (turned (plain_moves next) self.old).0 }
+        ensures reverse { plain_moves result ≡ (turned (plain_moves next) self.old).1 }
+        ensures notes { plain_notes result ≡ list_reverse (plain_notes next) }
+    {
+        match next {
             Move::Lay(page, class, parts, form) => {
                 let shelf = self.lay(page, class, parts, form);
                 Move::Lift(page, form, shelf)
@@ -78,10 +93,11 @@ impl<A: Allocator> Store<A> {
         }
     }
 
-    // The same, which then stands where the change stood.
+    // The change of an item becomes the one that undoes it. It is taken out meanwhile, and apart from that of a page: a
+    // local that may be either is copied by single bytes where their fields lie across one another.
     #[inline(always)]
-    fn carry_in(&mut self, group: &mut Move<A>)
-        requires carries { Carries group.old }
+    fn carry_item_in(&mut self, group: &mut Move<A>)
+        requires carries { CarriesItem group.old }
         requires well { WellFormed self.old }
         requires possible { Fits (plain_moves group.old) self.old }
         ensures state { self.new ≡ (turned (plain_moves group.old) self.old).0 }
@@ -89,7 +105,21 @@ impl<A: Allocator> Store<A> {
         ensures notes { plain_notes group.new ≡ list_reverse (plain_notes group.old) }
     {
         let next = mem::replace(group, Move::BumpOut);
-        let reverse = self.carry(next);
+        let reverse = self.carry_item(next);
+        set(group, reverse);
+    }
+
+    // The change of a page becomes the one that undoes it.
+    fn carry_page_in(&mut self, group: &mut Move<A>)
+        requires carries { CarriesPage group.old }
+        requires well { WellFormed self.old }
+        requires possible { Fits (plain_moves group.old) self.old }
+        ensures state { self.new ≡ (turned (plain_moves group.old) self.old).0 }
+        ensures reverse { plain_moves group.new ≡ (turned (plain_moves group.old) self.old).1 }
+        ensures notes { plain_notes group.new ≡ list_reverse (plain_notes group.old) }
+    {
+        let next = mem::replace(group, Move::BumpOut);
+        let reverse = self.carry_page(next);
         set(group, reverse);
     }
 
@@ -131,8 +161,8 @@ impl<A: Allocator> Store<A> {
         ensures notes { plain_notes group.new ≡ list_reverse (plain_notes group.old) }
     {
         match group {
-            Move::Enter { .. } | Move::Leave { .. } | Move::Lay(_, _, _, _) | Move::Lift(_, _, _) =>
-                { self.carry_in(group) }
+            Move::Enter { .. } | Move::Leave { .. } => self.carry_item_in(group),
+            Move::Lay(_, _, _, _) | Move::Lift(_, _, _) => self.carry_page_in(group),
             Move::Requeue {
                 class,
                 after,
