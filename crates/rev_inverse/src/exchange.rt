@@ -4,7 +4,7 @@ ghost use Rattle.rev_model.specs.Move as plain;
 ghost use Rattle.rev_model.specs.Move.{Fits, Possible, moved, reverse, turned};
 ghost use Rattle.rev_moves.specs.Seen.{plain_moves, plain_notes};
 ghost use Rattle.rev_moves.specs.Leads.{Leads};
-ghost use Rattle.rev_inverse.specs.Groups.{CarriesItem, CarriesPage};
+ghost use Rattle.rev_inverse.specs.Groups.{Enters, Leaves, Lays, Lifts};
 
 use crate::store::Store;
 use rev_model::{Listed, Placed};
@@ -22,17 +22,19 @@ fn set<A: Allocator>(group: &mut Move<A>, next: Move<A>)
 }
 
 impl<A: Allocator> Store<A> {
-    // Makes a change that carries an item, and gives the one that undoes it.
+    // An item enters; the change becomes the one by which it leaves. What a change holds is taken out meanwhile, of each kind
+    // by a function of its own: a local that may be of two kinds is copied by single bytes where their fields lie across
+    // one another.
     #[inline(always)]
-    fn carry_item(&mut self, next: Move<A>) -> Move<A>
-        requires carries { CarriesItem next }
+    fn enter_in(&mut self, group: &mut Move<A>)
+        requires kind { Enters group.old }
         requires well { WellFormed self.old }
-        requires possible { Fits (plain_moves next) self.old }
-        ensures state { self.new ≡ (turned (plain_moves next) self.old).0 }
-        ensures reverse { plain_moves result ≡ (turned (plain_moves next) self.old).1 }
-        ensures notes { plain_notes result ≡ list_reverse (plain_notes next) }
+        requires possible { Fits (plain_moves group.old) self.old }
+        ensures state { self.new ≡ (turned (plain_moves group.old) self.old).0 }
+        ensures reverse { plain_moves group.new ≡ (turned (plain_moves group.old) self.old).1 }
+        ensures notes { plain_notes group.new ≡ list_reverse (plain_notes group.old) }
     {
-        match next {
+        match mem::replace(group, Move::BumpOut) {
             Move::Enter {
                 queue,
                 cause,
@@ -42,14 +44,30 @@ impl<A: Allocator> Store<A> {
                 after,
             } => {
                 let under = self.enter(class, queue, chunk, after, item);
-                Move::Leave {
+                let reverse = Move::Leave {
                     queue,
                     cause,
                     chunk,
                     class,
                     under,
-                }
+                };
+                set(group, reverse);
             }
+            _ => unreachable!(),
+        }
+    }
+
+    // An item leaves; the change becomes the one by which it enters.
+    #[inline(always)]
+    fn leave_in(&mut self, group: &mut Move<A>)
+        requires kind { Leaves group.old }
+        requires well { WellFormed self.old }
+        requires possible { Fits (plain_moves group.old) self.old }
+        ensures state { self.new ≡ (turned (plain_moves group.old) self.old).0 }
+        ensures reverse { plain_moves group.new ≡ (turned (plain_moves group.old) self.old).1 }
+        ensures notes { plain_notes group.new ≡ list_reverse (plain_notes group.old) }
+    {
+        match mem::replace(group, Move::BumpOut) {
             Move::Leave {
                 queue,
                 cause,
@@ -58,69 +76,54 @@ impl<A: Allocator> Store<A> {
                 under,
             } => {
                 let (after, item) = self.leave(class, queue, chunk, under);
-                Move::Enter {
+                let reverse = Move::Enter {
                     queue,
                     cause,
                     chunk,
                     class,
                     item,
                     after,
-                }
+                };
+                set(group, reverse);
             }
             _ => unreachable!(),
         }
     }
 
-    // Makes a change that carries a page's slots, and gives the one that undoes it.
-    fn carry_page(&mut self, next: Move<A>) -> Move<A>
-        requires carries { CarriesPage next }
+    // A page gets a class and slots; the change becomes the one by which it loses them.
+    fn lay_in(&mut self, group: &mut Move<A>)
+        requires kind { Lays group.old }
         requires well { WellFormed self.old }
-        requires possible { Fits (plain_moves next) self.old }
-        ensures state { self.new ≡ (turned (plain_moves next) self.old).0 }
-        ensures reverse { plain_moves result ≡ (turned (plain_moves next) self.old).1 }
-        ensures notes { plain_notes result ≡ list_reverse (plain_notes next) }
+        requires possible { Fits (plain_moves group.old) self.old }
+        ensures state { self.new ≡ (turned (plain_moves group.old) self.old).0 }
+        ensures reverse { plain_moves group.new ≡ (turned (plain_moves group.old) self.old).1 }
+        ensures notes { plain_notes group.new ≡ list_reverse (plain_notes group.old) }
     {
-        match next {
+        match mem::replace(group, Move::BumpOut) {
             Move::Lay(page, class, parts, form) => {
                 let shelf = self.lay(page, class, parts, form);
-                Move::Lift(page, form, shelf)
-            }
-            Move::Lift(page, form, shelf) => {
-                let (class, parts) = self.lift(page, form, shelf);
-                Move::Lay(page, class, parts, form)
+                set(group, Move::Lift(page, form, shelf));
             }
             _ => unreachable!(),
         }
     }
 
-    // The change of an item becomes the one that undoes it. It is taken out meanwhile, and apart from that of a page: a
-    // local that may be either is copied by single bytes where their fields lie across one another.
-    #[inline(always)]
-    fn carry_item_in(&mut self, group: &mut Move<A>)
-        requires carries { CarriesItem group.old }
+    // A page loses its class and slots; the change becomes the one by which it gets them.
+    fn lift_in(&mut self, group: &mut Move<A>)
+        requires kind { Lifts group.old }
         requires well { WellFormed self.old }
         requires possible { Fits (plain_moves group.old) self.old }
         ensures state { self.new ≡ (turned (plain_moves group.old) self.old).0 }
         ensures reverse { plain_moves group.new ≡ (turned (plain_moves group.old) self.old).1 }
         ensures notes { plain_notes group.new ≡ list_reverse (plain_notes group.old) }
     {
-        let next = mem::replace(group, Move::BumpOut);
-        let reverse = self.carry_item(next);
-        set(group, reverse);
-    }
-
-    // The change of a page becomes the one that undoes it.
-    fn carry_page_in(&mut self, group: &mut Move<A>)
-        requires carries { CarriesPage group.old }
-        requires well { WellFormed self.old }
-        requires possible { Fits (plain_moves group.old) self.old }
-        ensures state { self.new ≡ (turned (plain_moves group.old) self.old).0 }
-        ensures reverse { plain_moves group.new ≡ (turned (plain_moves group.old) self.old).1 }
-        ensures notes { plain_notes group.new ≡ list_reverse (plain_notes group.old) }
-    {
-        let next = mem::replace(group, Move::BumpOut);
-        let reverse = self.carry_page(next);
-        set(group, reverse);
+        match mem::replace(group, Move::BumpOut) {
+            Move::Lift(page, form, shelf) => {
+                let (class, parts) = self.lift(page, form, shelf);
+                set(group, Move::Lay(page, class, parts, form));
+            }
+            _ => unreachable!(),
+        }
     }
 
     // Takes an entry out of its list; the change becomes the one that puts it back.
@@ -149,6 +152,30 @@ impl<A: Allocator> Store<A> {
         set(group, reverse);
     }
 
+    // The entry at the back of the bump queue leaves; the change becomes the one by which it enters there.
+    fn bump_back_in(&mut self, group: &mut Move<A>)
+        requires well { WellFormed self.old }
+        requires possible { Possible plain.BumpsBack self.old }
+        ensures state { self.new ≡ moved plain.BumpsBack self.old }
+        ensures reverse { plain_moves group.new ≡ reverse plain.BumpsBack self.old ∷ [] }
+        ensures notes { plain_notes group.new ≡ None ∷ [] }
+    {
+        let reverse = Move::BumpIn(self.bump_back());
+        set(group, reverse);
+    }
+
+    // The entry in front of the bump queue leaves; the change becomes the one by which it enters there.
+    fn bump_out_in(&mut self, group: &mut Move<A>)
+        requires well { WellFormed self.old }
+        requires possible { Possible plain.BumpsOut self.old }
+        ensures state { self.new ≡ moved plain.BumpsOut self.old }
+        ensures reverse { plain_moves group.new ≡ reverse plain.BumpsOut self.old ∷ [] }
+        ensures notes { plain_notes group.new ≡ None ∷ [] }
+    {
+        let reverse = Move::BumpFront(self.bump_out());
+        set(group, reverse);
+    }
+
     // Makes a change, which then is the one that undoes it. It is read and written where it stands.
     // Who makes a change names its kind: inlined there, with all that it calls, one arm of the match is left. An arm that
     // makes a change anew is a function of its own, since the parts of all arms are cleared where `exchange` begins.
@@ -161,8 +188,10 @@ impl<A: Allocator> Store<A> {
         ensures notes { plain_notes group.new ≡ list_reverse (plain_notes group.old) }
     {
         match group {
-            Move::Enter { .. } | Move::Leave { .. } => self.carry_item_in(group),
-            Move::Lay(_, _, _, _) | Move::Lift(_, _, _) => self.carry_page_in(group),
+            Move::Enter { .. } => self.enter_in(group),
+            Move::Leave { .. } => self.leave_in(group),
+            Move::Lay(_, _, _, _) => self.lay_in(group),
+            Move::Lift(_, _, _) => self.lift_in(group),
             Move::Requeue {
                 class,
                 after,
@@ -195,14 +224,8 @@ impl<A: Allocator> Store<A> {
                 self.bump_in(*entry);
                 set(group, Move::BumpBack);
             }
-            Move::BumpBack => {
-                let reverse = Move::BumpIn(self.bump_back());
-                set(group, reverse);
-            }
-            Move::BumpOut => {
-                let reverse = Move::BumpFront(self.bump_out());
-                set(group, reverse);
-            }
+            Move::BumpBack => self.bump_back_in(group),
+            Move::BumpOut => self.bump_out_in(group),
             Move::BumpFront(entry) => {
                 self.bump_front(*entry);
                 set(group, Move::BumpOut);
