@@ -171,11 +171,20 @@ impl<A: Allocator> Key<A> {
         if !is_key(bytes) {
             return Err(KeyFault::BadKey);
         }
-        let hash = hash(bytes);
-        match Bytes::new(alloc, bytes) {
-            Ok(bytes) => Ok(Key { bytes, hash }),
+        match Key::of(alloc, bytes) {
+            Ok(key) => Ok(key),
             Err(_) => Err(KeyFault::Memory),
         }
+    }
+
+    /// The key of these bytes, which are known to be one and are copied. Err: they are many, and their memory was refused.
+    pub fn of(alloc: A, bytes: &[u8]) -> Result<Key<A>, AllocError>
+        requires rule { is_key bytes.now ≡ true }
+        ensures ok { IfOk result (λ key. key ≡ bytes.now) }
+    {
+        let hash = hash(bytes);
+        let bytes = Bytes::new(alloc, bytes)?;
+        Ok(Key { bytes, hash })
     }
 
     /// The key's bytes, 1 to 250.

@@ -23,29 +23,17 @@ use arrayvec::ArrayVec;
 use rev_grammar::command::{BadAnswer, Command, StorageCommand};
 use rev_grammar::line::{asked, body};
 use rev_grammar::words::{few_words, word, words};
-use rev_items::{Key, KeyFault};
+use rev_items::Key;
 use rev_requests::Payload;
 use std::alloc::{AllocError, Allocator};
-
-// A copy of a word that meets the rule of keys.
-fn key_of<A: Allocator>(alloc: A, word: &[u8]) -> Result<Key<A>, AllocError>
-    requires { is_key word.now ≡ true }
-    ensures { IfOk result (λ key. key ≡ word.now) }
-{
-    match Key::new(alloc, word) {
-        Ok(key) => Ok(key),
-        Err(KeyFault::Memory) => Err(AllocError),
-        Err(KeyFault::BadKey) => unreachable!(),
-    }
-}
 
 fn keys_of<A: Allocator + Clone>(alloc: A, words: &[&[u8]]) -> Result<Vec<Key<A>, A>, AllocError>
     requires { list_all is_key (map (λ x. x.now) words.now) ≡ true }
     ensures { IfOk result (λ keys. keys.items ≡ map (λ x. x.now) words.now) }
 {
-    let mut keys = Vec::new(alloc.clone()?);
+    let mut keys = Vec::with_capacity(alloc.clone()?, words.len())?;
     for w in words {
-        let key = key_of(alloc.clone()?, *w)?;
+        let key = Key::of(alloc.clone()?, *w)?;
         keys.push(key)?;
     }
     Ok(keys)
@@ -75,7 +63,7 @@ fn asked_by<A: Allocator + Clone>(
             size,
             noreply,
         } => {
-            let key = key_of(alloc, word(words, 1))?;
+            let key = Key::of(alloc, word(words, 1))?;
             Ok(Asked::Storage {
                 command,
                 key,
@@ -90,7 +78,7 @@ fn asked_by<A: Allocator + Clone>(
             Ok(Asked::Done(Line::Client(ClientLine::Retrieval { keys, with_cas })))
         }
         Command::Update { command, noreply } => {
-            let key = key_of(alloc, word(words, 1))?;
+            let key = Key::of(alloc, word(words, 1))?;
             Ok(Asked::Done(Line::Client(ClientLine::Update {
                 command,
                 key,
@@ -105,7 +93,7 @@ fn asked_by<A: Allocator + Clone>(
         Command::Clock(now) => Ok(Asked::Done(Line::Clock(now))),
         Command::Debug(command) => Ok(Asked::Done(Line::Debug(DebugLine::Plain(command)))),
         Command::Query(query) => {
-            let key = key_of(alloc, word(words, 1))?;
+            let key = Key::of(alloc, word(words, 1))?;
             Ok(Asked::Done(Line::Debug(DebugLine::Query { query, key })))
         }
         Command::Bookmark(command) => {

@@ -4,5 +4,6 @@ use Rattle.rev_items.specs.Keys.{is_key}
 use Rattle.rev_script.proofs.Each.{list_all-get_or}
 use Rattle.rev_script.proofs.lines.keys_of.Goals as goal
 
-pub key_of-requires : goal.key_of-requires
-key_of-requires g c = list_all-get_or (λ x. is_key x.now) c.args.words.now c.loop-w.w-index _ c.loop-w-test.true (sym (list_all-map is_key _ c.args.words.now) ∙ c.requires)
+pub of-requires : goal.of-requires
+of-requires g c =
+    record { rule = list_all-get_or (λ x. is_key x.now) c.args.words.now c.loop-w.w-index _ c.loop-w-test.true (sym (list_all-map is_key _ c.args.words.now) ∙ c.requires) }
