@@ -1,14 +1,15 @@
-ghost use Rattle.std.specs.Prelude.{◌≡◌, ℕ, ◌+◌, ◌≤◌, ◌++◌, ◌∷◌, [], None, length, reverse as list_reverse};
+ghost use Rattle.std.specs.Prelude.{◌≡◌, ℕ, ◌+◌, ◌≤◌, ◌++◌, ◌∷◌, [], None, length, map, not, reverse as list_reverse};
 ghost use Rattle.rev_model.specs.State.{WellFormed};
 ghost use Rattle.rev_model.specs.Move as plain;
 ghost use Rattle.rev_model.specs.Move.{Fits, Possible, moved, reverse, turned};
 ghost use Rattle.rev_moves.specs.Seen.{plain_moves, plain_notes};
 ghost use Rattle.rev_moves.specs.Leads.{Leads};
+ghost use Rattle.rev_moves.specs.Record.{group_of, in_order, moves_in, notes_in};
 ghost use Rattle.rev_inverse.specs.Groups.{Enters, Leaves, Lays, Lifts};
 
 use crate::store::Store;
 use rev_model::{Listed, Placed};
-use rev_moves::{Move, Record};
+use rev_moves::{Move, Record, place_of};
 use std::alloc::Allocator;
 use std::mem::{self, ManuallyDrop};
 
@@ -259,6 +260,26 @@ impl<A: Allocator> Store<A> {
         let mut group = next;
         self.exchange(&mut group);
         undo.push(group);
+    }
+
+    /// Plays the groups of a record that stand in a list, or the other way round there, from the last to the first, each
+    /// where it stands. The list then holds the reverses, and what was their order is turned over. It takes no memory.
+    pub fn turn_groups(&mut self, groups: &mut [Move<A>], is_turned: bool)
+        requires well { WellFormed self.old }
+        requires fits { Fits (moves_in (in_order is_turned (map group_of groups.old))) self.old }
+        ensures state { self.new ≡ (turned (moves_in (in_order is_turned (map group_of groups.old))) self.old).0 }
+        ensures moves { moves_in (in_order (not is_turned) (map group_of groups.new)) ≡ (turned (moves_in (in_order is_turned (map group_of groups.old))) self.old).1 }
+        ensures notes { notes_in (in_order (not is_turned) (map group_of groups.new)) ≡ list_reverse (notes_in (in_order is_turned (map group_of groups.old))) }
+        ensures length { length groups.new ≡ length groups.old }
+        ensures well { WellFormed self.new }
+    {
+        let count = groups.len();
+        let mut place = count;
+        while place > 0 {
+            place -= 1;
+            let at = place_of(is_turned, place, count);
+            self.exchange(&mut groups[at]);
+        }
     }
 
     /// Plays the record from its last move to its first. The record then holds the reverses, each with the note that it

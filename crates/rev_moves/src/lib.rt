@@ -7,4 +7,4 @@ mod record;
 
 pub use moves::Move;
 pub use parts::{Parts, Shelf, Unshelved};
-pub use record::Record;
+pub use record::{Record, place_of};

@@ -1,4 +1,4 @@
-ghost use Rattle.std.specs.Prelude.{◌≡◌, ℕ, ◌+◌, ◌<◌, ◌≤◌, IfOk, [], ◌∷◌, ◌++◌, length, map, false, slice_set, slice_index_or, reverse, vec_capacity, MatchOption};
+ghost use Rattle.std.specs.Prelude.{◌≡◌, ℕ, ◌+◌, ◌<◌, ◌≤◌, IfOk, OnOk, OnErr, [], ◌∷◌, ◌++◌, length, map, false, slice_set, slice_index_or, reverse, vec_capacity, MatchOption};
 ghost use Rattle.rev_moves.specs.Seen.{plain_moves, plain_notes};
 ghost use Rattle.rev_moves.specs.Record.{group_of, in_order, place_in, moves_in, notes_in, IsWhole};
 ghost use Rattle.std.specs.Borrow.{sem};
@@ -100,6 +100,20 @@ impl<A: Allocator> Record<A> {
         &mut self.moves[at]
     }
 
+    /// Moves the groups behind those of a list, in their own order.
+    ///
+    /// Err: a growth was refused, and both are as they were.
+    #[inline(always)]
+    pub fn append_to(&mut self, list: &mut Vec<Move<A>, A>) -> Result<(), AllocError>
+        ensures ok { OnOk result (map group_of list.new.items ≡ map group_of list.old.items ++ self.old.groups) }
+        ensures emptied { OnOk result (self.new.groups ≡ []) }
+        ensures err { OnErr result ((list.new.items ≡ list.old.items) × (self.new ≡ self.old)) }
+        ensures whole { IsWhole self.old }
+    {
+        straighten(&mut self.moves, &mut self.is_turned);
+        list.append(&mut self.moves)
+    }
+
     /// The same groups, the last in front.
     pub fn turn_over(&mut self)
         ensures groups { self.new.groups ≡ reverse self.old.groups }
@@ -110,8 +124,8 @@ impl<A: Allocator> Record<A> {
     }
 }
 
-// Where the i-th of `count` groups stands.
-fn place_of(is_turned: bool, i: usize, count: usize) -> usize
+/// Where the i-th of `count` groups stands in a list that may be kept the other way round.
+pub fn place_of(is_turned: bool, i: usize, count: usize) -> usize
     requires { i < count }
     ensures place { result ≡ place_in is_turned i count }
     ensures within { result < count }

@@ -1,0 +1,57 @@
+use Rattle.std.proofs.Common.{rules, ◌≡◌, ℕ, ◌-◌, ◌<◌, Bool, List, length, map, not, slice_index_or, slice_set, arith, ap, subst, sym, ◌∙◌, refl}
+use Rattle.std.proofs.lemmas.List.{length-map, length-set}
+use Rattle.rev_moves.specs.declared.moves.Move.{Move}
+use Rattle.rev_moves.specs.Lists.{length-in_order, turned-over, shown, written}
+use Rattle.rev_moves.specs.Record.{group_of, in_order, place_in, moves_in, notes_in}
+use Rattle.rev_moves.specs.Turning.{IsTurnedFrom, next, ended, turned_none}
+use Rattle.rev_inverse.proofs.store.Store.turn_groups.Goals as goal
+
+long : {A : Type 0} (b : Bool) (ms : List (Move A)) → length (in_order b (map group_of ms)) ≡ length ms
+long b ms = length-in_order b (map group_of ms) ∙ length-map ms group_of
+
+pub loop-place-init : goal.loop-place-init
+loop-place-init g c =
+    let gs = in_order c.args.is_turned (map group_of c.args.groups.now) in
+    (subst (λ n. IsTurnedFrom gs c.args.self.now n c.args.self.now gs) (long c.args.is_turned c.args.groups.now) (turned_none gs c.args.self.now), refl)
+
+pub place_of-at-requires : goal.place_of-at-requires
+place_of-at-requires g c = omega (arith, c.loop-place-test.true, c.loop-place.invariant.0.within, long c.args.is_turned c.args.groups.now)
+
+pub exchange-requires-clause-well : goal.exchange-requires-clause-well
+exchange-requires-clause-well g c =
+    let lt : c.loop-place.place - 1 < length c.loop-place.groups = omega (arith, c.loop-place-test.true, c.loop-place.invariant.0.within, long c.args.is_turned c.args.groups.now, c.loop-place.invariant.1) in
+    let place = c.place_of-at.ensures.place ∙ ap (place_in c.args.is_turned (c.loop-place.place - 1)) (sym c.loop-place.invariant.1) in
+    (next _ _ c.requires.well c.requires.fits _ _ _ c.loop-place-test.true c.loop-place.invariant.0 _ (shown c.args.is_turned _ _ _ _ lt place (ap (slice_index_or c.loop-place.groups c.place_of-at.result) c.index-groups-at.is))).well
+
+pub exchange-requires-clause-possible : goal.exchange-requires-clause-possible
+exchange-requires-clause-possible g c =
+    let lt : c.loop-place.place - 1 < length c.loop-place.groups = omega (arith, c.loop-place-test.true, c.loop-place.invariant.0.within, long c.args.is_turned c.args.groups.now, c.loop-place.invariant.1) in
+    let place = c.place_of-at.ensures.place ∙ ap (place_in c.args.is_turned (c.loop-place.place - 1)) (sym c.loop-place.invariant.1) in
+    (next _ _ c.requires.well c.requires.fits _ _ _ c.loop-place-test.true c.loop-place.invariant.0 _ (shown c.args.is_turned _ _ _ _ lt place (ap (slice_index_or c.loop-place.groups c.place_of-at.result) c.index-groups-at.is))).fits
+
+pub loop-place-preserved : goal.loop-place-preserved
+loop-place-preserved g c =
+    let lt : c.loop-place.place - 1 < length c.loop-place.groups = omega (arith, c.loop-place-test.true, c.loop-place.invariant.0.within, long c.args.is_turned c.args.groups.now, c.loop-place.invariant.1) in
+    let place = c.place_of-at.ensures.place ∙ ap (place_in c.args.is_turned (c.loop-place.place - 1)) (sym c.loop-place.invariant.1) in
+    let n = next _ _ c.requires.well c.requires.fits _ _ _ c.loop-place-test.true c.loop-place.invariant.0 _ (shown c.args.is_turned _ _ _ _ lt place (ap (slice_index_or c.loop-place.groups c.place_of-at.result) c.index-groups-at.is)) in
+    let back = group_of c.exchange.new.group in (
+      rw (c.exchange.ensures.state, written c.args.is_turned c.loop-place.groups (c.loop-place.place - 1) c.place_of-at.result c.exchange.new.group lt place)
+      (n.turned back (record { moves = c.exchange.ensures.reverse; notes = c.exchange.ensures.notes })),
+      length-set c.loop-place.groups c.place_of-at.result c.exchange.new.group ∙ c.loop-place.invariant.1,
+    )
+
+pub returns-clause-state : goal.returns-clause-state
+returns-clause-state g c = (ended _ _ c.requires.well c.requires.fits _ _ _ c.loop-place-test.false c.loop-place.invariant.0).state
+
+pub returns-clause-moves : goal.returns-clause-moves
+returns-clause-moves g c =
+    ap moves_in (turned-over c.args.is_turned (map group_of c.loop-place.groups))
+    ∙ (ended _ _ c.requires.well c.requires.fits _ _ _ c.loop-place-test.false c.loop-place.invariant.0).moves
+
+pub returns-clause-notes : goal.returns-clause-notes
+returns-clause-notes g c =
+    ap notes_in (turned-over c.args.is_turned (map group_of c.loop-place.groups))
+    ∙ (ended _ _ c.requires.well c.requires.fits _ _ _ c.loop-place-test.false c.loop-place.invariant.0).notes
+
+pub returns-clause-well : goal.returns-clause-well
+returns-clause-well g c = (ended _ _ c.requires.well c.requires.fits _ _ _ c.loop-place-test.false c.loop-place.invariant.0).well
