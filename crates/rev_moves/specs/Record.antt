@@ -1,5 +1,5 @@
 -- A record without its allocator.
-use Rattle.std.specs.Prelude.{ℕ, ◌≡◌, ◌-◌, ◌++◌, Bool, true, false, List, [], ◌∷◌, Option, reverse}
+use Rattle.std.specs.Prelude.{ℕ, ◌≡◌, ◌-◌, ◌++◌, Bool, true, false, List, [], ◌∷◌, Option, length, reverse}
 use Rattle.rev_model.specs.Move.{Move}
 use Rattle.rev_model.specs.declared.Cause.{Cause}
 use Rattle.rev_moves.specs.declared.moves.Move as stored
@@ -43,6 +43,18 @@ pub record IsWhole (r : PlainRecord) : Type 0 where
   pub moves : r.moves ≡ moves_in r.groups
   pub notes : r.notes ≡ notes_in r.groups
 
--- the same, without a word on the groups
+-- the record of these groups, with no room for more
+abbrev pub whole : List Group → PlainRecord
+whole gs = record { moves = moves_in gs; notes = notes_in gs; room = length (moves_in gs); groups = gs }
+
+-- the same record, with no room for more
+abbrev pub fitted : PlainRecord → PlainRecord
+fitted r = record r { room = length r.moves }
+
+-- what is read where there is no record
+abbrev pub no_record : PlainRecord
+no_record = whole []
+
+-- the same, without a word on the groups and on room
 abbrev pub flat : PlainRecord → PlainRecord
-flat r = record r { groups = [] }
+flat r = record r { room = length r.moves; groups = [] }

@@ -4,7 +4,9 @@
 mod moves;
 mod parts;
 mod record;
+mod reference;
 
 pub use moves::Move;
 pub use parts::{Parts, Shelf, Unshelved};
 pub use record::{Record, place_of};
+pub use reference::RecordRef;
