@@ -4,26 +4,36 @@ ghost use Rattle.rev_model.specs.Move.{Fits, turned};
 ghost use Rattle.rev_moves.specs.Record.{fitted, no_record};
 
 use rev_inverse::Store;
-use rev_moves::{Record, RecordRef};
+use rev_moves::{Move, Record, RecordRef};
 use std::alloc::{AllocError, Allocator};
 use std::marker::Model;
-use std::mem;
 
-/// Records of steps, one behind another. They are read and turned where they stand, so that who turns them in a row goes
-/// through memory in a row.
+// Which groups of the list are a record's, and whether they stand the other way round, the last in front.
+#[derive(Clone, Copy, Debug, Drop)]
+struct Extent {
+    start: u32,
+    count: u16,
+    is_turned: bool,
+}
+
+/// Records of steps, one behind another. They are read and turned where they stand, so who turns them in a row goes through
+/// memory in a row.
 #[derive(Drop)]
 pub struct Records<A: Allocator> {
-    records: Vec<Record<A>, A>,
-    alloc: A,
+    groups: Vec<Move<A>, A>,
+    extents: Vec<Extent, A>,
 }
 
 impl<A: Allocator> Model for Records<A> {
-    ghost use Rattle.std.specs.Prelude.{List, map};
-    ghost use Rattle.rev_moves.specs.Record.{PlainRecord, fitted};
+    ghost use Rattle.std.specs.Prelude.{List, map, length};
+    ghost use Rattle.rev_moves.specs.Record.{PlainRecord, group_of};
+    ghost use Rattle.rev_records.specs.Cuts.{cut_by, Tiles};
 
     ghost Value = { List PlainRecord };
 
-    ghost view = { λ r. map fitted r.records.items };
+    ghost view = { λ r. cut_by r.extents.items (map group_of r.groups.items) };
+
+    ghost invariant = { λ r. Tiles 0 r.extents.items (length r.groups.items) };
 }
 
 impl<A: Allocator> Records<A> {
@@ -36,8 +46,8 @@ impl<A: Allocator> Records<A> {
         ensures { IfOk result (λ r. r ≡ []) }
     {
         Ok(Records {
-            records: Vec::new(alloc.clone()?),
-            alloc: alloc.clone()?,
+            groups: Vec::new(alloc.clone()?),
+            extents: Vec::new(alloc.clone()?),
         })
     }
 
@@ -46,21 +56,31 @@ impl<A: Allocator> Records<A> {
         ensures value { result ≡ length self.now }
         ensures small { length self.now < 2 ^ 63 }
     {
-        self.records.len()
+        self.extents.len()
     }
 
-    /// Moves a record behind the others, which then has no moves left.
+    /// Moves a record behind the others; it then has no moves left. A record has at most 65535 groups, and all together
+    /// at most 2^32.
     ///
-    /// Err: a growth was refused, or the moves of all records would be more than 2^32 - 1 groups; nothing is changed.
+    /// Err: a growth was refused, or there would be more groups; nothing is changed.
     pub fn push(&mut self, record: &mut Record<A>) -> Result<(), AllocError>
-    where
-        A: Clone,
         ensures ok { OnOk result (self.new ≡ self.old ++ fitted record.old ∷ []) }
         ensures err { OnErr result ((self.new ≡ self.old) × (record.new ≡ record.old)) }
     {
-        self.records.reserve(1)?;
-        let empty = Record::with_room(self.alloc.clone()?, 0)?;
-        match self.records.push(mem::replace(record, empty)) {
+        let Ok(start) = u32::try_from(self.groups.len()) else {
+            return Err(AllocError);
+        };
+        let Ok(count) = u16::try_from(record.len()) else {
+            return Err(AllocError);
+        };
+        self.extents.reserve(1)?;
+        record.append_to(&mut self.groups)?;
+        let extent = Extent {
+            start,
+            count,
+            is_turned: false,
+        };
+        match self.extents.push(extent) {
             Ok(()) => Ok(()),
             Err(_) => unreachable!(),
         }
@@ -70,7 +90,12 @@ impl<A: Allocator> Records<A> {
     pub fn truncate(&mut self, n: usize)
         ensures { self.new ≡ take n self.old }
     {
-        self.records.truncate(n);
+        if n >= self.extents.len() {
+            return;
+        }
+        let end = self.extents[n].start as usize;
+        self.groups.truncate(end);
+        self.extents.truncate(n);
     }
 
     /// The i-th record, from 0.
@@ -78,7 +103,10 @@ impl<A: Allocator> Records<A> {
         requires { i < length self.now }
         ensures { result ≡ get_or self.now i no_record }
     {
-        self.records[i].as_ref()
+        let extent = self.extents[i];
+        let (_, behind) = self.groups.as_slice().split_at(extent.start as usize);
+        let (groups, _) = behind.split_at(extent.count as usize);
+        RecordRef::new(groups, extent.is_turned)
     }
 
     /// Plays the i-th record, from its last move to its first. It then holds the reverses, each with the note that it had,
@@ -94,6 +122,10 @@ impl<A: Allocator> Records<A> {
         ensures room { (get_or self.new i no_record).room ≡ (get_or self.old i no_record).room }
         ensures well { WellFormed store.new }
     {
-        store.turn(&mut self.records[i]);
+        let extent = &mut self.extents[i];
+        let start = extent.start as usize;
+        let end = start + extent.count as usize;
+        store.turn_groups(self.groups.slice_mut(start..end), extent.is_turned);
+        extent.is_turned = !extent.is_turned;
     }
 }
