@@ -124,9 +124,9 @@ at s (x ∷ es) gs zero e t lt is =
       within = omega (arith, count, b.few);
       is = ap (λ y. first_of y gs) (sym is);
       turned = λ ws n.
-        ap (λ y. cut_by (flipped y ∷ es) (ws ++ drop (length ws) gs)) is
-        ∙ over_first x es gs ws (n ∙ count)
-        ∙ ap (λ (y : Extent). whole (in_order (not y.is_turned) ws) ∷ cut_by es (drop x.count gs)) (sym is);
+          ap (λ y. cut_by (flipped y ∷ es) (ws ++ drop (length ws) gs)) is
+          ∙ over_first x es gs ws (n ∙ count)
+          ∙ ap (λ (y : Extent). whole (in_order (not y.is_turned) ws) ∷ cut_by es (drop x.count gs)) (sym is);
     })
 at s (x ∷ es) gs (suc i) e t lt is =
     let b = behind s x es gs t in
@@ -139,9 +139,9 @@ at s (x ∷ es) gs (suc i) e t lt is =
       within = within;
       is = h.is ∙ ap (λ l. whole (in_order e.is_turned (take e.count l))) (drop-drop off x.count gs);
       turned = λ ws n.
-        ap (λ l. whole (in_order x.is_turned l) ∷ cut_by (set es i (flipped e)) (drop x.count (over (x.count + off) gs ws))) (over_take x.count off gs ws (omega (arith, within)))
-        ∙ ap (λ l. first_of x gs ∷ cut_by (set es i (flipped e)) l) (over_drop x.count off gs ws (omega (arith, within)))
-        ∙ ap (λ l. first_of x gs ∷ l) (h.turned ws n);
+          ap (λ l. whole (in_order x.is_turned l) ∷ cut_by (set es i (flipped e)) (drop x.count (over (x.count + off) gs ws))) (over_take x.count off gs ws (omega (arith, within)))
+          ∙ ap (λ l. first_of x gs ∷ cut_by (set es i (flipped e)) l) (over_drop x.count off gs ws (omega (arith, within)))
+          ∙ ap (λ l. first_of x gs ∷ l) (h.turned ws n);
     })
 
 pub tiles_flip : (s : ℕ) (es : List Extent) (n i : ℕ) (e : Extent) → Tiles s es n → e ≡ get_or es i e → Tiles s (set es i (flipped e)) n
@@ -192,12 +192,12 @@ groups_over items ws i =
     map-append group_of (take i items) (ws ++ drop (length ws) (drop i items))
     ∙ ap (λ l. l ++ map group_of (ws ++ drop (length ws) (drop i items))) (sym (take-map group_of i items))
     ∙ ap (λ l. take i (map group_of items) ++ l) (
-      map-append group_of ws (drop (length ws) (drop i items))
-      ∙ ap (λ l. map group_of ws ++ l) (
-        sym (drop-map group_of (length ws) (drop i items))
-        ∙ ap (drop (length ws)) (sym (drop-map group_of i items))
-        ∙ ap (λ n. drop n (drop i (map group_of items))) (sym (length-map ws group_of))
-      )
+    map-append group_of ws (drop (length ws) (drop i items))
+    ∙ ap (λ l. map group_of ws ++ l) (
+    sym (drop-map group_of (length ws) (drop i items))
+    ∙ ap (drop (length ws)) (sym (drop-map group_of i items))
+    ∙ ap (λ n. drop n (drop i (map group_of items))) (sym (length-map ws group_of))
+    )
     )
 
 pub long_part : {A : Type 0} (es : List Extent) (items : List (Move A)) (i : ℕ) (e : Extent) (ws : List (Move A)) → Tiles 0 es (length items) → i < length es → e ≡ get_or es i e → length ws ≡ e.count → length (with_part items e.start ws) ≡ length items

@@ -36,7 +36,7 @@ loop-place-preserved g c =
     let n = next _ _ c.requires.well c.requires.fits _ _ _ c.loop-place-test.true c.loop-place.invariant.0 _ (shown c.args.is_turned _ _ _ _ lt place (ap (slice_index_or c.loop-place.groups c.place_of-at.result) c.index-groups-at.is)) in
     let back = group_of c.exchange.new.group in (
       rw (c.exchange.ensures.state, written c.args.is_turned c.loop-place.groups (c.loop-place.place - 1) c.place_of-at.result c.exchange.new.group lt place)
-      (n.turned back (record { moves = c.exchange.ensures.reverse; notes = c.exchange.ensures.notes })),
+          (n.turned back (record { moves = c.exchange.ensures.reverse; notes = c.exchange.ensures.notes })),
       length-set c.loop-place.groups c.place_of-at.result c.exchange.new.group ∙ c.loop-place.invariant.1,
     )
 
