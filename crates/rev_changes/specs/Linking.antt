@@ -14,7 +14,7 @@ use Rattle.rev_model.specs.State.{State, WellFormed, IsChunkOf, queue_place, own
 use Rattle.rev_model.specs.declared.GlobalPart.TheVariants.{LastCas}
 use Rattle.rev_model.specs.Move.{Puts, Fills, Binds, Sets, moved, Possible}
 use Rattle.rev_model.specs.Undo.{tells_chunk, get-put_at, get-put_at_same, tied}
-use Rattle.rev_model.specs.Keeps.{keeps-fill, keeps-bind, keeps-put_queue}
+use Rattle.rev_model.specs.Keeps.{keeps-fill, keeps-bind, keeps-put_queue, keeps-sets}
 use Rattle.rev_model.specs.declared.ChunkRef.{ChunkRef}
 use Rattle.rev_model.specs.declared.Entry.TheVariants.{Chunk}
 use Rattle.rev_model.specs.declared.Queue.{Queue}
@@ -83,6 +83,9 @@ module _ (s : State) (c : ℕ) (x : ChunkRef) (i : PlainItem) where
       (queue_in s well c h.class q, h.loose.nowhere, refl)
       (h.loose.chunk, ap is_some there) in
       subst (Possible (Puts (ToQueue c q (Chunk x) None))) (sym bind_is) possible
+
+  pub link_cas : WellFormed s → Fresh → (q : Queue) (n : ℕ) → Possible (Sets (LastCas n)) (moved (Puts (ToQueue c q (Chunk x) None)) (moved (Binds x) (with_item x i s)))
+  link_cas well h q n = keeps-sets (moved (Puts (ToQueue c q (Chunk x) None)) (moved (Binds x) (with_item x i s))) (link_put well h q).after (LastCas n)
 
   pub linked_is : moved (Sets (LastCas i.cas)) (moved (Puts (ToQueue c (queue_for s.globals i.moment) (Chunk x) None)) (moved (Binds x) (with_item x i s))) ≡ linked c x i s
   linked_is = rw there refl

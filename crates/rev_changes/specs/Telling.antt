@@ -76,6 +76,18 @@ tells_three r t a b c n o p s u well first second third state moves notes =
     (moves ∙ sym (append_more r.moves (reverse a s ∷ []) (reverse b (moved a s) ∷ reverse c (moved b (moved a s)) ∷ [])))
     (notes ∙ sym (append_more r.notes (n ∷ []) (o ∷ p ∷ []))))
 
+-- four
+pub tells_four : (r t : PlainRecord) (a b c d : Move) (n o p q : Option Cause) (s u : State) → WellFormed s → Possible a s → Possible b (moved a s) → Possible c (moved b (moved a s)) → Possible d (moved c (moved b (moved a s))) → u ≡ moved d (moved c (moved b (moved a s)))
+    → t.moves ≡ r.moves ++ reverse a s ∷ reverse b (moved a s) ∷ reverse c (moved b (moved a s)) ∷ reverse d (moved c (moved b (moved a s))) ∷ [] → t.notes ≡ r.notes ++ n ∷ o ∷ p ∷ q ∷ []
+    → Tells r s t u (removed a n s ++ (removed b o (moved a s) ++ (removed c p (moved b (moved a s)) ++ removed d q (moved c (moved b (moved a s))))))
+tells_four r t a b c d n o p q s u well first second third fourth state moves notes =
+    let x : PlainRecord = record r { moves = r.moves ++ reverse a s ∷ []; notes = r.notes ++ n ∷ [] } in
+    tells_then r x t s (moved a s) u (removed a n s) (removed b o (moved a s) ++ (removed c p (moved b (moved a s)) ++ removed d q (moved c (moved b (moved a s)))))
+    (tells_made r x a n s (moved a s) well first refl refl refl)
+    (tells_three x t b c d o p q (moved a s) u first.after second third fourth state
+    (moves ∙ sym (append_more r.moves (reverse a s ∷ []) (reverse b (moved a s) ∷ reverse c (moved b (moved a s)) ∷ reverse d (moved c (moved b (moved a s))) ∷ [])))
+    (notes ∙ sym (append_more r.notes (n ∷ []) (o ∷ p ∷ q ∷ []))))
+
 -- a whole record: a note beside each move, and these removals
 pub record TellsAll (t : PlainRecord) (u : State) (rs : List Removal) : Type 0 where
   pub beside : length t.notes ≡ length t.moves

@@ -85,14 +85,13 @@ pub fn link<A: Allocator>(
 {
     let queue = queue_of_new(store.globals(), item.moment());
     let cas = item.cas();
-    let enter = Move::Enter {
+    let enter = Move::Link {
         queue,
-        cause: None,
+        class: class as u8,
         chunk,
-        class,
         item,
         after: None,
+        last_cas: cas,
     };
     store.make(enter, undo);
-    change(store, Move::LastCas(cas), undo);
 }

@@ -83,8 +83,15 @@ pub fn drop_item<A: Allocator>(
     ensures made { length undo.new.moves ≡ length undo.old.moves + 4 }
     ensures told { Tells undo.old store.old undo.new store.new (removal (item_at store.old chunk) cause) }
 {
-    unlink(store, class, queue, chunk, cause, undo);
-    free(store, class, chunk, undo);
+    let gone = Move::Free {
+        queue,
+        cause,
+        chunk,
+        class,
+        under: None,
+        behind: None,
+    };
+    store.make(gone, undo);
 }
 
 /// An item leaves, its chunk is free, and a counter is raised: five moves.

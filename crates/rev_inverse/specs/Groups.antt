@@ -4,7 +4,7 @@ use Rattle.rev_model.specs.declared.Entry.{Entry}
 use Rattle.rev_model.specs.declared.Placed.{Placed}
 use Rattle.rev_model.specs.declared.Placed.TheVariants.{ToFree, ToQueue}
 use Rattle.rev_moves.specs.declared.moves.Move.{Move}
-use Rattle.rev_moves.specs.declared.moves.Move.TheVariants.{Enter, Leave, Lay, Lift}
+use Rattle.rev_moves.specs.declared.moves.Move.TheVariants.{Enter, Leave, Link, Unlink, Revive, Free, Lay, Lift}
 
 -- what the entry goes behind, where it enters a queue
 abbrev pub ahead_of : Placed → Option Entry
@@ -20,6 +20,26 @@ Enters m = ⊥
 abbrev pub Leaves : {A : Type 0} → Move A → Type 0
 Leaves (Leave c o x n q) = Unit {0}
 Leaves m = ⊥
+
+-- a new item enters, and its cas number is the last
+abbrev pub Links : {A : Type 0} → Move A → Type 0
+Links (Link q c x i a n) = Unit {0}
+Links m = ⊥
+
+-- the last cas number is what it was, and the item leaves
+abbrev pub Unlinks : {A : Type 0} → Move A → Type 0
+Unlinks (Unlink q c x o n) = Unit {0}
+Unlinks m = ⊥
+
+-- a free chunk gets an item
+abbrev pub Revives : {A : Type 0} → Move A → Type 0
+Revives (Revive q n x c i a) = Unit {0}
+Revives m = ⊥
+
+-- an item leaves, and its chunk is free
+abbrev pub Frees : {A : Type 0} → Move A → Type 0
+Frees (Free q n x c o b) = Unit {0}
+Frees m = ⊥
 
 -- a page gets a class and slots
 abbrev pub Lays : {A : Type 0} → Move A → Type 0

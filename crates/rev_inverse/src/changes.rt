@@ -1,8 +1,12 @@
 ghost use Rattle.std.specs.Prelude.{◌≡◌, ℕ, ◌+◌, ◌<◌, ◌≤◌, length};
-ghost use Rattle.rev_model.specs.State.{WellFormed, item_at, counter_of, counter_number};
+ghost use Rattle.rev_model.specs.State.{WellFormed, free_of, item_at, counter_of, counter_number};
+ghost use Rattle.rev_model.specs.Chunk.{same_chunk};
+ghost use Rattle.rev_model.specs.Lists.{before};
 ghost use Rattle.rev_model.specs.Move as plain;
 ghost use Rattle.rev_model.specs.Move.{moved, reverse, Possible, retouched, back_of, out_of};
 ghost use Rattle.rev_model.specs.declared.GlobalPart.TheVariants as part;
+ghost use Rattle.rev_model.specs.declared.Listed.TheVariants as listed;
+ghost use Rattle.rev_model.specs.declared.Placed.TheVariants as placed;
 ghost use Rattle.rev_model.specs.Words.{weight};
 
 use crate::store::Store;
@@ -99,6 +103,27 @@ impl<A: Allocator> Store<A> {
                 Listed::InQueue(class, queue, entry)
             }
         }
+    }
+
+    // A chunk leaves its free list. The answer is what it stood behind.
+    #[inline(always)]
+    pub(crate) fn take_from_free(&mut self, class: usize, chunk: ChunkRef) -> Option<ChunkRef>
+        requires well { WellFormed self.old }
+        requires possible { Possible (plain.Takes (listed.InFree class chunk)) self.old }
+        ensures state { self.new ≡ moved (plain.Takes (listed.InFree class chunk)) self.old }
+        ensures ahead { result ≡ before same_chunk chunk (free_of self.old class) }
+    {
+        take_free::<A, Brand>(&mut self.pages, class, chunk, Blank::new(1))
+    }
+
+    // A chunk enters a free list, behind another or in front.
+    #[inline(always)]
+    pub(crate) fn put_to_free(&mut self, class: usize, chunk: ChunkRef, after: Option<ChunkRef>)
+        requires well { WellFormed self.old }
+        requires possible { Possible (plain.Puts (placed.ToFree class chunk after)) self.old }
+        ensures state { self.new ≡ moved (plain.Puts (placed.ToFree class chunk after)) self.old }
+    {
+        put_free::<A, Brand>(&mut self.pages, class, chunk, after, Blank::new(1));
     }
 
     pub(crate) fn fill(&mut self, chunk: ChunkRef, item: Option<Item<A>>) -> Option<Item<A>>

@@ -5,7 +5,7 @@ ghost use Rattle.rev_model.specs.Move.{Fits, Possible, moved, reverse, turned};
 ghost use Rattle.rev_moves.specs.Seen.{plain_moves, plain_notes};
 ghost use Rattle.rev_moves.specs.Leads.{Leads};
 ghost use Rattle.rev_moves.specs.Record.{group_of, in_order, moves_in, notes_in};
-ghost use Rattle.rev_inverse.specs.Groups.{Enters, Leaves, Lays, Lifts};
+ghost use Rattle.rev_inverse.specs.Groups.{Enters, Leaves, Links, Unlinks, Revives, Frees, Lays, Lifts};
 
 use crate::store::Store;
 use rev_model::{Listed, Placed};
@@ -78,6 +78,144 @@ impl<A: Allocator> Store<A> {
             } => {
                 let (after, item) = self.leave(class, queue, chunk, under);
                 let reverse = Move::Enter {
+                    queue,
+                    cause,
+                    chunk,
+                    class,
+                    item,
+                    after,
+                };
+                set(group, reverse);
+            }
+            _ => unreachable!(),
+        }
+    }
+
+    // A new item enters, and the last cas number is exchanged; the change becomes the one that takes both back.
+    #[inline(always)]
+    fn link_in(&mut self, group: &mut Move<A>)
+        requires kind { Links group.old }
+        requires well { WellFormed self.old }
+        requires possible { Fits (plain_moves group.old) self.old }
+        ensures state { self.new ≡ (turned (plain_moves group.old) self.old).0 }
+        ensures reverse { plain_moves group.new ≡ (turned (plain_moves group.old) self.old).1 }
+        ensures notes { plain_notes group.new ≡ list_reverse (plain_notes group.old) }
+    {
+        match mem::replace(group, Move::BumpOut) {
+            Move::Link {
+                queue,
+                class,
+                chunk,
+                item,
+                after,
+                last_cas,
+            } => {
+                let under = self.enter(class as usize, queue, chunk, after, item);
+                let last_cas = self.set_last_cas(last_cas);
+                let reverse = Move::Unlink {
+                    queue,
+                    class,
+                    chunk,
+                    under,
+                    last_cas,
+                };
+                set(group, reverse);
+            }
+            _ => unreachable!(),
+        }
+    }
+
+    // The last cas number is exchanged, and an item leaves; the change becomes the one that takes both back.
+    #[inline(always)]
+    fn unlink_in(&mut self, group: &mut Move<A>)
+        requires kind { Unlinks group.old }
+        requires well { WellFormed self.old }
+        requires possible { Fits (plain_moves group.old) self.old }
+        ensures state { self.new ≡ (turned (plain_moves group.old) self.old).0 }
+        ensures reverse { plain_moves group.new ≡ (turned (plain_moves group.old) self.old).1 }
+        ensures notes { plain_notes group.new ≡ list_reverse (plain_notes group.old) }
+    {
+        match mem::replace(group, Move::BumpOut) {
+            Move::Unlink {
+                queue,
+                class,
+                chunk,
+                under,
+                last_cas,
+            } => {
+                let last_cas = self.set_last_cas(last_cas);
+                let (after, item) = self.leave(class as usize, queue, chunk, under);
+                let reverse = Move::Link {
+                    queue,
+                    class,
+                    chunk,
+                    item,
+                    after,
+                    last_cas,
+                };
+                set(group, reverse);
+            }
+            _ => unreachable!(),
+        }
+    }
+
+    // A chunk leaves its free list, and an item enters it; the change becomes the one by which the item leaves.
+    #[inline(always)]
+    fn revive_in(&mut self, group: &mut Move<A>)
+        requires kind { Revives group.old }
+        requires well { WellFormed self.old }
+        requires possible { Fits (plain_moves group.old) self.old }
+        ensures state { self.new ≡ (turned (plain_moves group.old) self.old).0 }
+        ensures reverse { plain_moves group.new ≡ (turned (plain_moves group.old) self.old).1 }
+        ensures notes { plain_notes group.new ≡ list_reverse (plain_notes group.old) }
+    {
+        match mem::replace(group, Move::BumpOut) {
+            Move::Revive {
+                queue,
+                cause,
+                chunk,
+                class,
+                item,
+                after,
+            } => {
+                let behind = self.take_from_free(class, chunk);
+                let under = self.enter(class, queue, chunk, after, item);
+                let reverse = Move::Free {
+                    queue,
+                    cause,
+                    chunk,
+                    class,
+                    under,
+                    behind,
+                };
+                set(group, reverse);
+            }
+            _ => unreachable!(),
+        }
+    }
+
+    // An item leaves, and its chunk enters its free list; the change becomes the one by which the item enters again.
+    #[inline(always)]
+    fn free_in(&mut self, group: &mut Move<A>)
+        requires kind { Frees group.old }
+        requires well { WellFormed self.old }
+        requires possible { Fits (plain_moves group.old) self.old }
+        ensures state { self.new ≡ (turned (plain_moves group.old) self.old).0 }
+        ensures reverse { plain_moves group.new ≡ (turned (plain_moves group.old) self.old).1 }
+        ensures notes { plain_notes group.new ≡ list_reverse (plain_notes group.old) }
+    {
+        match mem::replace(group, Move::BumpOut) {
+            Move::Free {
+                queue,
+                cause,
+                chunk,
+                class,
+                under,
+                behind,
+            } => {
+                let (after, item) = self.leave(class, queue, chunk, under);
+                self.put_to_free(class, chunk, behind);
+                let reverse = Move::Revive {
                     queue,
                     cause,
                     chunk,
@@ -191,6 +329,10 @@ impl<A: Allocator> Store<A> {
         match group {
             Move::Enter { .. } => self.enter_in(group),
             Move::Leave { .. } => self.leave_in(group),
+            Move::Link { .. } => self.link_in(group),
+            Move::Unlink { .. } => self.unlink_in(group),
+            Move::Revive { .. } => self.revive_in(group),
+            Move::Free { .. } => self.free_in(group),
             Move::Lay(_, _, _, _) => self.lay_in(group),
             Move::Lift(_, _, _) => self.lift_in(group),
             Move::Requeue {

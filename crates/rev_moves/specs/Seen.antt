@@ -4,15 +4,19 @@ use Rattle.rev_model.specs.Move as plain
 use Rattle.rev_model.specs.declared.Cause.{Cause}
 use Rattle.rev_model.specs.declared.Entry.TheVariants as entry
 use Rattle.rev_model.specs.declared.GlobalPart.TheVariants as part
-use Rattle.rev_model.specs.declared.Listed.TheVariants.{InQueue}
-use Rattle.rev_model.specs.declared.Placed.TheVariants.{ToQueue}
+use Rattle.rev_model.specs.declared.Listed.TheVariants.{InFree, InQueue}
+use Rattle.rev_model.specs.declared.Placed.TheVariants.{ToFree, ToQueue}
 use Rattle.rev_moves.specs.declared.moves.Move.{Move}
-use Rattle.rev_moves.specs.declared.moves.Move.TheVariants.{Enter, Leave, Requeue, Take, Put, Touch, Shift, Lay, Lift, Count, LastCas, Timing, Mover, Settings, BumpIn, BumpBack, BumpOut, BumpFront, Marks, Unmarks}
+use Rattle.rev_moves.specs.declared.moves.Move.TheVariants.{Enter, Leave, Link, Unlink, Revive, Free, Requeue, Take, Put, Touch, Shift, Lay, Lift, Count, LastCas, Timing, Mover, Settings, BumpIn, BumpBack, BumpOut, BumpFront, Marks, Unmarks}
 
 -- the plain moves of which it is made, of which the last is played first: an item without its allocator, and the number of slots for a page's parts
 abbrev pub plain_moves : {A : Type 0} → Move A → List plain.Move
 plain_moves (Enter q n x c i a) = plain.Puts (ToQueue c q (entry.Chunk x) a) ∷ plain.Binds x ∷ plain.Fills x (Some i) ∷ []
 plain_moves (Leave q n x c o) = plain.Fills x o ∷ plain.Unbinds x ∷ plain.Takes (InQueue c q (entry.Chunk x)) ∷ []
+plain_moves (Link q c x i a n) = plain.Sets (part.LastCas n) ∷ plain.Puts (ToQueue c q (entry.Chunk x) a) ∷ plain.Binds x ∷ plain.Fills x (Some i) ∷ []
+plain_moves (Unlink q c x o n) = plain.Fills x o ∷ plain.Unbinds x ∷ plain.Takes (InQueue c q (entry.Chunk x)) ∷ plain.Sets (part.LastCas n) ∷ []
+plain_moves (Revive q n x c i a) = plain.Puts (ToQueue c q (entry.Chunk x) a) ∷ plain.Binds x ∷ plain.Fills x (Some i) ∷ plain.Takes (InFree c x) ∷ []
+plain_moves (Free q n x c o b) = plain.Puts (ToFree c x b) ∷ plain.Fills x o ∷ plain.Unbinds x ∷ plain.Takes (InQueue c q (entry.Chunk x)) ∷ []
 plain_moves (Requeue c a x p q) = plain.Puts (ToQueue c q (entry.Chunk x) a) ∷ plain.Takes (InQueue c p (entry.Chunk x)) ∷ []
 plain_moves (Take at) = plain.Takes at ∷ []
 plain_moves (Put at) = plain.Puts at ∷ []
@@ -36,6 +40,10 @@ plain_moves (Unmarks set) = plain.MarksOut set ∷ []
 abbrev pub plain_notes : {A : Type 0} → Move A → List (Option Cause)
 plain_notes (Enter q n x c i a) = None ∷ n ∷ None ∷ []
 plain_notes (Leave q n x c o) = None ∷ n ∷ None ∷ []
+plain_notes (Link q c x i a n) = None ∷ None ∷ None ∷ None ∷ []
+plain_notes (Unlink q c x o n) = None ∷ None ∷ None ∷ None ∷ []
+plain_notes (Revive q n x c i a) = None ∷ n ∷ None ∷ None ∷ []
+plain_notes (Free q n x c o b) = None ∷ None ∷ n ∷ None ∷ []
 plain_notes (Requeue c a x p q) = None ∷ None ∷ []
 plain_notes m = None ∷ []
 

@@ -9,7 +9,7 @@ use rev_model::{
 };
 use std::alloc::Allocator;
 
-/// A change of a store that another one undoes (this project's own set). The first three are a few moves of the plain
+/// A change of a store that another one undoes (this project's own set). The first seven are a few moves of the plain
 /// model that always go together, each other one is a single move.
 #[derive(Drop)]
 pub enum Move<A: Allocator> {
@@ -32,6 +32,45 @@ pub enum Move<A: Allocator> {
         class: usize,
         /// What the chunk holds from then on, for each step of ours nothing.
         under: Option<Item<A>>,
+    },
+    /// A new item enters as by `Enter`, and then the last cas number is exchanged.
+    Link {
+        queue: Queue,
+        /// In one byte, since there are few classes: so a change stays as small as the others.
+        class: u8,
+        chunk: ChunkRef,
+        item: Item<A>,
+        after: Option<Entry>,
+        last_cas: u64,
+    },
+    /// The last cas number is exchanged, and then an item leaves as by `Leave`.
+    Unlink {
+        queue: Queue,
+        class: u8,
+        chunk: ChunkRef,
+        under: Option<Item<A>>,
+        last_cas: u64,
+    },
+    /// A chunk leaves its free list, and then an item enters it as by `Enter`.
+    Revive {
+        queue: Queue,
+        /// What removed the item, where this undoes a removal.
+        cause: Option<Cause>,
+        chunk: ChunkRef,
+        class: usize,
+        item: Item<A>,
+        after: Option<Entry>,
+    },
+    /// An item leaves as by `Leave`, and then its chunk enters its free list, behind another or in front.
+    Free {
+        queue: Queue,
+        /// What removed the item, where this is no undoing.
+        cause: Option<Cause>,
+        chunk: ChunkRef,
+        class: usize,
+        /// What the chunk holds from then on, for each step of ours nothing.
+        under: Option<Item<A>>,
+        behind: Option<ChunkRef>,
     },
     /// A chunk goes to another queue of its class, or to another place of its own, behind an entry or in front.
     Requeue {
@@ -78,13 +117,17 @@ pub enum Move<A: Allocator> {
 }
 
 impl<A: Allocator> Move<A> {
-    /// How many moves of the plain model it is: one to three.
+    /// How many moves of the plain model it is: one to four.
     pub fn count(&self) -> usize
         ensures value { result ≡ length (plain_moves self.now) }
     {
         match self {
             Move::Enter { .. } => 3,
             Move::Leave { .. } => 3,
+            Move::Link { .. } => 4,
+            Move::Unlink { .. } => 4,
+            Move::Revive { .. } => 4,
+            Move::Free { .. } => 4,
             Move::Requeue { .. } => 2,
             _ => 1,
         }

@@ -54,14 +54,6 @@ impl<A: Allocator> Record<A> {
         self.moves.len()
     }
 
-    /// Gives memory back that the moves made so far do not need; there is then room for these alone.
-    pub fn trim(&mut self)
-        ensures { self.new ≡ record self.old { room = length self.old.moves } }
-    {
-        self.moves.shrink_to_fit();
-        self.spare = 0;
-    }
-
     /// Adds what undoes one more change behind the others. It takes no memory.
     #[inline(always)]
     pub fn push(&mut self, undo: Move<A>)

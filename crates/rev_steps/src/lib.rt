@@ -28,30 +28,11 @@ pub use rev_requests::{
 use settings::{retune, set_temp_ttl};
 use std::alloc::{AllocError, Allocator};
 
-/// Does a step: it gives the outcome, and the record of at most 64 moves by which `Store::turn` leads back. The record
-/// keeps no memory for moves that were not made.
+/// Does a step: it gives the outcome, and the record of at most 64 moves by which `Store::turn` leads back. The record has
+/// room for every move that the step might have made: who keeps it moves it to others (`rev_records`).
 ///
 /// Err: a growth was refused, and the store is as it was.
 pub fn apply<A: Allocator + Clone>(
-    store: &mut Store<A>,
-    step: &Step<A>,
-) -> Result<(Outcome, Record<A>), AllocError>
-    requires { Sound store.old }
-    ensures step { IfOk result (λ p. (store.new, p.0) ≡ step_of store.old (plain_step step.now)) }
-    ensures sound { OnOk result (Sound store.new) }
-    ensures leads { IfOk result (λ p. LeadsBack p.1.moves store.new store.old) }
-    ensures few { IfOk result (λ p. length p.1.moves ≤ 64) }
-    ensures err { OnErr result (store.new ≡ store.old) }
-    ensures told { IfOk result (λ p. TellsAll p.1 store.new (step_removals store.old (plain_step step.now))) }
-    ensures tight { IfOk result (λ p. p.1.room ≡ length p.1.moves) }
-{
-    let (outcome, mut undo) = dispatch(store, step)?;
-    undo.trim();
-    Ok((outcome, undo))
-}
-
-/// Does a step, by its kind.
-fn dispatch<A: Allocator + Clone>(
     store: &mut Store<A>,
     step: &Step<A>,
 ) -> Result<(Outcome, Record<A>), AllocError>

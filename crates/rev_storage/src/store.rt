@@ -67,7 +67,7 @@ fn store_in<A: Allocator + Clone>(
     let plan = plan_room(store, class)?;
     let moves = plan.moves + REMOVAL_MOVES + 4;
     let item = item_for(store, key, flags, exptime, value)?;
-    // the record comes last, so that the room that it gives back lies at the end of the heap
+    // the record comes last: it is soon given back, and then lies at the end of the heap
     let mut undo = Record::with_room(store.alloc()?, moves)?;
     let outcome = place(store, verb, class, plan.page, item, &mut undo);
     Ok((outcome, undo))
