@@ -101,6 +101,10 @@ queue-through home lru (m ∷ ms) rest x =
 abbrev pub change_or : {A : Type 0} → List ℕ → Option ChunkRef → List Move → kept.Move A → Option KeyChange → Option KeyChange
 change_or k home rest (stored.Enter q n x c i a) o = cond (same_key k i.key) (Some (record { leads = Some x; note = n })) o
 change_or k home rest (stored.Leave q n x c u) o = cond (keyed k home rest x) (Some (record { leads = None; note = n })) o
+change_or k home rest (stored.Link q c x i a n) o = cond (same_key k i.key) (Some (record { leads = Some x; note = None })) o
+change_or k home rest (stored.Unlink q c x u n) o = cond (keyed k home rest x) (Some (record { leads = None; note = None })) o
+change_or k home rest (stored.Revive q n x c i a) o = cond (same_key k i.key) (Some (record { leads = Some x; note = n })) o
+change_or k home rest (stored.Free q n x c u b) o = cond (keyed k home rest x) (Some (record { leads = None; note = n })) o
 change_or k home rest (stored.Shift a b) o = cond (keyed k home rest a) (Some (record { leads = Some b; note = note_of o })) o
 change_or k home rest m o = o
 
@@ -112,6 +116,12 @@ change-through : {A : Type 0} → (k : List ℕ) (home : Option ChunkRef) (m : k
 change-through k home (stored.Enter q n x c i a) rest more =
     ap (λ b. cond (cond b (same_key k i.key) (keyed k home rest x)) (Some (record { leads = Some x; note = n })) (key_change k home rest more)) (same_chunk-self x)
 change-through k home (stored.Leave q n x c u) rest more = refl
+change-through k home (stored.Link q c x i a n) rest more =
+    ap (λ b. cond (cond b (same_key k i.key) (keyed k home rest x)) (Some (record { leads = Some x; note = None })) (key_change k home rest more)) (same_chunk-self x)
+change-through k home (stored.Unlink q c x u n) rest more = refl
+change-through k home (stored.Revive q n x c i a) rest more =
+    ap (λ b. cond (cond b (same_key k i.key) (keyed k home rest x)) (Some (record { leads = Some x; note = n })) (key_change k home rest more)) (same_chunk-self x)
+change-through k home (stored.Free q n x c u b) rest more = refl
 change-through k home (stored.Requeue c a x p q) rest more = refl
 change-through k home (stored.Take l) rest more = refl
 change-through k home (stored.Put l) rest more = refl

@@ -61,8 +61,28 @@ fn keyed_after<A: Allocator>(
             chunk: filled,
             item,
             ..
+        }
+        | Move::Link {
+            chunk: filled,
+            item,
+            ..
+        }
+        | Move::Revive {
+            chunk: filled,
+            item,
+            ..
         } if is_same(chunk, *filled) => ControlFlow::Break(is_key(key, item.key())),
         Move::Leave {
+            chunk: left,
+            under,
+            ..
+        }
+        | Move::Unlink {
+            chunk: left,
+            under,
+            ..
+        }
+        | Move::Free {
             chunk: left,
             under,
             ..
@@ -88,6 +108,12 @@ fn queue_after<A: Allocator>(
             chunk: put,
             ..
         }
+        | Move::Revive {
+            class,
+            queue,
+            chunk: put,
+            ..
+        }
         | Move::Requeue {
             class,
             to: queue,
@@ -97,9 +123,20 @@ fn queue_after<A: Allocator>(
             class: *class,
             queue: *queue,
         })),
+        Move::Link {
+            class,
+            queue,
+            chunk: put,
+            ..
+        } if is_same(chunk, *put) => ControlFlow::Break(Some(ClassQueue {
+            class: *class as usize,
+            queue: *queue,
+        })),
         Move::Shift(from, to) if is_same(chunk, *to) => ControlFlow::Continue(*from),
         Move::Take(Listed::InQueue(_, _, Entry::Chunk(gone)))
         | Move::Leave { chunk: gone, .. }
+        | Move::Unlink { chunk: gone, .. }
+        | Move::Free { chunk: gone, .. }
         | Move::Shift(gone, _)
             if is_same(chunk, *gone) => ControlFlow::Break(None),
         _ => ControlFlow::Continue(chunk),
@@ -182,6 +219,21 @@ fn change_from<A: Allocator>(
                     ..
                 },
             ) if is_key(key, item.key()) => (Some(*chunk), *cause),
+            Some(Move::Link { chunk, item, .. }) if is_key(key, item.key()) => (Some(*chunk), None),
+            Some(
+                Move::Revive {
+                    chunk,
+                    item,
+                    cause,
+                    ..
+                },
+            ) if is_key(key, item.key()) => (Some(*chunk), *cause),
+            Some(Move::Unlink { chunk, .. }) if is_keyed(trace, i + 1, key, home, *chunk) => {
+                (None, None)
+            }
+            Some(Move::Free { chunk, cause, .. }) if is_keyed(trace, i + 1, key, home, *chunk) => {
+                (None, *cause)
+            }
             Some(Move::Leave { chunk, cause, .. }) if is_keyed(trace, i + 1, key, home, *chunk) => {
                 (None, *cause)
             }

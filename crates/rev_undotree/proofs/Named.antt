@@ -49,6 +49,12 @@ each_mentioned ms xs ys n a b h e = ⊎_elim (a h) (b h) (has_either h xs ys e)
 pub both_mentioned : (ms more : List Mention) (xs ys : List ℕ) (n : ℕ) → AreMentioned ms xs n → Grows ms more n → AreMentioned more ys n → AreMentioned more (xs ++ ys) n
 both_mentioned ms more xs ys n a g = each_mentioned more xs ys n (still_mentioned ms more xs n a g)
 
+-- the moves by which an item leaves a chunk
+pub left_mentioned : (ms : List Mention) (item there : List ℕ) (n : ℕ) → AreMentioned ms item n × AreMentioned ms there n → AreMentioned ms ((item ++ there) ++ (there ++ (there ++ []))) n
+left_mentioned ms item there n a =
+    each_mentioned ms (item ++ there) (there ++ (there ++ [])) n (each_mentioned ms item there n a.0 a.1)
+    (each_mentioned ms there (there ++ []) n a.1 (each_mentioned ms there [] n a.1 (none_mentioned ms n)))
+
 -- ---- what holds where a call answered Ok
 
 pub ok_any : {T E : Type 0} → (r : Result T E) (P : Type 0) → P → OnOk r P

@@ -100,6 +100,22 @@ fn mention_chunk<A: Allocator>(
     mention_hash(mentions, item_hash(store.content(chunk)), node)
 }
 
+/// Mentions the key of an item that a change holds, if there is one, and of what a chunk holds.
+fn mention_both<A: Allocator>(
+    mentions: &mut Mentions<A>,
+    store: &Store<A>,
+    item: Option<&Item<A>>,
+    chunk: ChunkRef,
+    node: u32,
+) -> Result<(), AllocError>
+    requires { Within mentions.old node }
+    ensures named { OnOk result (AreMentioned mentions.new (hashed (option_map (λ i. i.now) item.entry)) node × AreMentioned mentions.new (hashed (item_at store.now chunk)) node) }
+    ensures grows { Grows mentions.old mentions.new node }
+{
+    mention_hash(mentions, item_hash(item), node)?;
+    mention_chunk(mentions, store, chunk, node)
+}
+
 /// Mentions the keys that a change names.
 fn mention_move<A: Allocator>(
     mentions: &mut Mentions<A>,
@@ -112,13 +128,15 @@ fn mention_move<A: Allocator>(
     ensures grows { Grows mentions.old mentions.new node }
 {
     match undo {
-        Move::Enter { chunk, item, .. } => {
-            mention_hash(mentions, item_hash(Some(item)), node)?;
-            mention_chunk(mentions, store, *chunk, node)
+        Move::Enter { chunk, item, .. }
+        | Move::Link { chunk, item, .. }
+        | Move::Revive { chunk, item, .. } => {
+            mention_both(mentions, store, Some(item), *chunk, node)
         }
-        Move::Leave { chunk, under, .. } => {
-            mention_hash(mentions, item_hash(under.as_ref()), node)?;
-            mention_chunk(mentions, store, *chunk, node)
+        Move::Leave { chunk, under, .. }
+        | Move::Unlink { chunk, under, .. }
+        | Move::Free { chunk, under, .. } => {
+            mention_both(mentions, store, under.as_ref(), *chunk, node)
         }
         Move::Requeue { chunk, .. }
         | Move::Take(Listed::InQueue(_, _, Entry::Chunk(chunk)))
