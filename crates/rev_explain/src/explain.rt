@@ -14,7 +14,7 @@ use crate::readings::{find_before, find_change, home_of, is_key, note_of};
 use rev_inverse::Store;
 use rev_items::Key;
 use rev_model::{Cause, ClassQueue, KeyPlace, Outcome, Queue};
-use rev_moves::Record;
+use rev_moves::RecordRef;
 use rev_requests::{ClientStep, KeyCommand, Step};
 use rev_undotree::{NodeId, Session};
 use std::alloc::{AllocError, Allocator};
@@ -38,7 +38,7 @@ fn find_place<A: Allocator>(store: &Store<A>, key: &Key<A>) -> Option<KeyPlace>
 }
 
 /// The cause that a step's record notes of a key that is not held after the step, where it was held before.
-fn find_left<A: Allocator>(trace: &Record<A>, key: &Key<A>) -> Option<Cause>
+fn find_left<A: Allocator>(trace: &RecordRef<A>, key: &Key<A>) -> Option<Cause>
     ensures { result ≡ left_cause (key_change key.now None trace.now.moves trace.now.notes) }
 {
     match find_change(trace, key, None) {
@@ -57,7 +57,7 @@ fn find_departure<A: Allocator + Clone>(session: &Session<A>, key: &Key<A>) -> W
 {
     let mut depth = session.last_mention(key, session.depth());
     while let Some((node, _, _, trace)) = session.trail(depth) {
-        match find_left(trace, key) {
+        match find_left(&trace, key) {
             Some(cause) => return Why::Left { node, cause },
             None => {}
         }
@@ -186,8 +186,8 @@ pub fn story<A: Allocator + Clone>(
     let mut place = find_place(session.store(), key);
     let mut depth = session.last_mention(key, session.depth());
     while let Some((node, step, outcome, trace)) = session.trail(depth) {
-        let change = find_change(trace, key, home_of(place));
-        let before = find_before(trace, key, change, place);
+        let change = find_change(&trace, key, home_of(place));
+        let before = find_before(&trace, key, change, place);
         let stored = has_stored(step, outcome, key);
         let kind = find_event(stored, before, place, note_of(change));
         add(&mut events, node, kind)?;

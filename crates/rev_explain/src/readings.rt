@@ -10,7 +10,7 @@ ghost use Rattle.rev_explain.specs.Readings.{keyed_through, queue_through, note_
 
 use rev_items::{Item, Key};
 use rev_model::{Cause, ChunkRef, ClassQueue, Entry, KeyChange, KeyPlace, Listed, Placed};
-use rev_moves::{Move, Record};
+use rev_moves::{Move, RecordRef};
 use std::alloc::Allocator;
 use std::ops::ControlFlow;
 
@@ -146,7 +146,7 @@ fn queue_after<A: Allocator>(
 /// Whether a chunk's item has the key once the groups from `start` on were played, where `home` is the key's chunk before
 /// them.
 fn is_keyed<A: Allocator>(
-    trace: &Record<A>,
+    trace: &RecordRef<A>,
     start: usize,
     key: &Key<A>,
     home: Option<ChunkRef>,
@@ -169,7 +169,7 @@ fn is_keyed<A: Allocator>(
 
 /// The queue of a chunk once all moves were played, where `home` is the key's chunk before them, in the queue `lru`.
 fn find_queue<A: Allocator>(
-    trace: &Record<A>,
+    trace: &RecordRef<A>,
     home: Option<ChunkRef>,
     lru: Option<ClassQueue>,
     chunk: ChunkRef,
@@ -201,7 +201,7 @@ pub fn note_of(change: Option<KeyChange>) -> Option<Cause>
 
 /// What the groups from `start` on do to the key, where it leads to `home` before them.
 fn change_from<A: Allocator>(
-    trace: &Record<A>,
+    trace: &RecordRef<A>,
     start: usize,
     key: &Key<A>,
     home: Option<ChunkRef>,
@@ -250,7 +250,7 @@ fn change_from<A: Allocator>(
 
 /// What a record does to the key, where it leads to `home` before it.
 pub fn find_change<A: Allocator>(
-    trace: &Record<A>,
+    trace: &RecordRef<A>,
     key: &Key<A>,
     home: Option<ChunkRef>,
 ) -> Option<KeyChange>
@@ -271,7 +271,7 @@ pub fn home_of(place: Option<KeyPlace>) -> Option<ChunkRef>
 
 /// Where the key was before the step, from where it is after it and what the record does to it.
 pub fn find_before<A: Allocator>(
-    trace: &Record<A>,
+    trace: &RecordRef<A>,
     key: &Key<A>,
     change: Option<KeyChange>,
     after: Option<KeyPlace>,

@@ -1,4 +1,5 @@
 pub mod Turns
+pub mod Runs
 pub mod Walk
 pub mod States
 pub mod Rows

@@ -228,7 +228,7 @@ trailed root t b w v x k d i j issued e c h low high ec ei ex er en =
     }
 
 -- the groups in which the moves are kept tell nothing more
-pub trailed_groups : (s : SessionState) (d n : ℕ) (e : Step) (o : Outcome) (r : PlainRecord) → Trailed s d n e o (flat r) → Trailed s d n e o r
+trailed_groups : (s : SessionState) (d n : ℕ) (e : Step) (o : Outcome) (r : PlainRecord) → Trailed s d n e o (flat r) → Trailed s d n e o r
 trailed_groups s d n e o r h = record {
   row = h.row;
   numbered = h.numbered;
@@ -242,6 +242,15 @@ trailed_groups s d n e o r h = record {
   leads = h.leads;
   told = record { beside = h.told.beside; told = h.told.told };
 }
+
+-- the same by the parts of the node, as they are read one by one
+pub trailed_parts : (s : SessionState) (d n : ℕ) (e : Step) (o : Outcome) (r : PlainRecord) (x : PlainNode) → n ≡ x.number → e ≡ x.step → o ≡ x.outcome → flat r ≡ x.undo → Trailed s d x.number x.step x.outcome x.undo → Trailed s d n e o r
+trailed_parts s d n e o r x en ee eo er h =
+    trailed_groups s d n e o r
+    (subst (λ z. Trailed s d z e o (flat r)) (sym en)
+    (subst (λ z. Trailed s d x.number z o (flat r)) (sym ee)
+    (subst (λ z. Trailed s d x.number x.step z (flat r)) (sym eo)
+    (subst (λ z. Trailed s d x.number x.step x.outcome z) (sym er) h))))
 
 -- the way cut in a loop
 abbrev pub rest_cut : List Junction → ℕ → ℕ → Position
@@ -295,3 +304,12 @@ take_length [] zero l = refl
 take_length [] (suc i) l = absurd (omega (arith, l))
 take_length (p ∷ ps) zero l = refl
 take_length (p ∷ ps) (suc i) l = ap suc (take_length ps i (omega (arith, l)))
+
+-- and the node is one of its run
+pub cut_place : (b : PlainBranch) (w v x : List Junction) (k d i : ℕ) (c : PlainBranch) → IsPath b w k → 0 < d → d ≤ depth w k → cut w d ≡ (v, i) → x ≡ v → c ≡ reach b x → i - 1 < length c.run
+cut_place b w v x k d i c q low high e ex ec =
+    let n = cut_inside b w v k d i q low high e in
+    let l = n.0 in
+    let m = path_within b v i n.1 in
+    let r : length c.run ≡ length (reach b v).run = ap (λ (z : PlainBranch). length z.run) (ec ∙ ap (λ z. reach b z) ex) in
+    omega (arith, l, m, r)

@@ -1,6 +1,6 @@
 -- What the contracts of `apply` and `turn` say of a record.
 use Rattle.std.proofs.Common.{◌≡◌, refl, ap, ◌∙◌, subst}
-use Rattle.std.specs.Prelude.{reverse}
+use Rattle.std.specs.Prelude.{reverse, length}
 use Rattle.std.proofs.lemmas.List.{reverse-reverse}
 use Rattle.rev_model.specs.State.{WellFormed}
 use Rattle.rev_model.specs.Move as moves
@@ -8,29 +8,31 @@ use Rattle.rev_model.specs.Actor as actor
 use Rattle.rev_model.specs.Causes.{step_removals}
 use Rattle.rev_model.specs.Undo.{LeadsBack, turns_back}
 use Rattle.rev_moves.specs.Record.{flat}
+use Rattle.rev_moves.specs.Turning.{length-turned}
 use Rattle.rev_changes.specs.Telling.{TellsAll}
 use Rattle.rev_undotree.specs.Steps.{State, Step, Outcome, PlainRecord, Sound, next, outcome_of, Fits, turned, Leads, Recalls, Undoes}
 
 -- what a turn needs
-pub fits_moves : (r : PlainRecord) (s : State) → Fits r s → moves.Fits r.moves s
-unfolding Fits
-fits_moves r s h = h.1
-
 pub fits_well : (r : PlainRecord) (s : State) → Fits r s → WellFormed s
 unfolding Fits
 fits_well r s h = h.0.well
 
+-- also where the tree's node tells less of the record
+pub fits_flat : (r q : PlainRecord) (s : State) → q ≡ flat r → Fits q s → moves.Fits r.moves s
+unfolding Fits
+fits_flat r q s e h = subst (λ (z : PlainRecord). moves.Fits z.moves s) e h.1
+
 -- what it gives
-pub turned_state : (r : PlainRecord) (s t : State) → t ≡ (moves.turned r.moves s).0 → t ≡ (turned r s).0
+pub turned_state : (r : PlainRecord) (s t : State) → t ≡ (moves.turned r.moves s).0 → t ≡ (turned (flat r) s).0
 unfolding turned
 turned_state r s t e = e
 
-pub turned_record : (r x : PlainRecord) (s : State) → x.moves ≡ (moves.turned r.moves s).1 → x.notes ≡ reverse r.notes → x.room ≡ r.room → flat x ≡ (turned (flat r) s).1
+pub turned_record : (r x : PlainRecord) (s : State) → x.moves ≡ (moves.turned r.moves s).1 → x.notes ≡ reverse r.notes → flat x ≡ (turned (flat r) s).1
 unfolding turned
-turned_record r x s em en er =
-    ap (λ z. record (flat x) { moves = z }) em
-    ∙ ap (λ z. record (flat x) { moves = (moves.turned r.moves s).1; notes = z }) en
-    ∙ ap (λ z. record (flat r) { moves = (moves.turned r.moves s).1; notes = reverse r.notes; room = z }) er
+turned_record r x s em en =
+    ap (λ z. record (flat x) { moves = z; room = length z }) em
+    ∙ ap (λ z. record (flat x) { moves = (moves.turned r.moves s).1; notes = z; room = length (moves.turned r.moves s).1 }) en
+    ∙ ap (λ z. record (flat r) { moves = (moves.turned r.moves s).1; notes = reverse r.notes; room = z }) (length-turned r.moves s)
 
 -- what a step gives
 pub step_next : (s u : State) (e : Step) (o : Outcome) → (u, o) ≡ actor.step s e → u ≡ next s e

@@ -1,8 +1,7 @@
 -- One step along a way, as the code takes it: the first place, and the places behind it.
-use Rattle.std.proofs.Common.{Fits, w64, Option, None, Some, IsSome, ◌+◌, ◌≡◌, ℕ, suc, zero, ◌-◌, ◌<◌, ◌≤◌, List, [], ◌∷◌, length, get_or, set, take, drop, map, refl, ap, sym, ◌∙◌, subst, arith, ◌++◌, Bool, true, false, cond, Result, Ok, Err, is_ok, OnOk, OnErr}
+use Rattle.std.proofs.Common.{Fits, w64, Option, None, Some, ◌+◌, ◌≡◌, ℕ, suc, zero, ◌-◌, ◌<◌, ◌≤◌, List, [], ◌∷◌, length, get_or, set, take, drop, map, refl, ap, sym, ◌∙◌, subst, arith, ◌++◌}
 use Rattle.std.proofs.lemmas.List.{take_all}
-use Rattle.std.proofs.lemmas.Bool.{false≢true}
-use Rattle.rev_undotree.specs.Tree.{PlainNode, PlainBranch, Forks, bare, fork, forks_of, fork_at, put_fork, add_fork, count}
+use Rattle.rev_undotree.specs.Tree.{PlainNode, PlainBranch, Forks, bare, fork, forks_of, fork_at, put_fork, count, add_fork-forks_of}
 use Rattle.rev_undotree.specs.Ways.{reach, IsWay, at_end, with_node, with_fork}
 use Rattle.rev_undotree.specs.declared.junction.Junction.{Junction}
 
@@ -85,28 +84,31 @@ pub at_end-id : (b : PlainBranch) (w : List Junction) → at_end (λ z. z) b w �
 at_end-id b [] = refl
 at_end-id b (p ∷ ps) = ap (λ z. let r : PlainBranch = record { from = b.from; run = b.run; forks = z } in r) (ap (λ z. put_fork b.forks p.fork z) (at_end-id (fork_at b.forks p.fork) ps) ∙ put_fork-same b.forks p.fork)
 
-pub split_here : {X : Type 0} (v : X → PlainBranch) (bs : List X) (y : X) → forks_of (map v (bs ++ y ∷ [])) ≡ add_fork (forks_of (map v bs)) (v y)
-split_here v [] y = refl
-split_here v (b ∷ bs) y = ap (λ m. fork (v b).from (v b).run (v b).forks m) (split_here v bs y)
+pub split_empty : {X : Type 0} (v : X → PlainBranch) (from : ℕ) (run : List PlainNode) (bs cs : List X) (b : PlainBranch) (w : List Junction) (c : PlainBranch) → ◌≡◌ {A = PlainBranch} (record { from = from; run = run; forks = forks_of (map v bs) }) b → length w < 1 → map v cs ≡ map v bs ++ c ∷ [] →
+    ◌≡◌ {A = PlainBranch} (record { from = from; run = run; forks = forks_of (map v cs) }) (at_end (with_fork c) b w)
+split_empty v from run bs cs b (p ∷ ps) c e h g = absurd (omega arith)
+split_empty v from run bs cs b [] c e h g =
+    ap (λ z. let r : PlainBranch = record { from = from; run = run; forks = forks_of z } in r) g
+    ∙ ap (λ z. let r : PlainBranch = record { from = from; run = run; forks = z } in r) (sym (add_fork-forks_of (map v bs) c))
+    ∙ ap (λ z. with_fork c z) e
 
-pub on_ok_from : {T E P : Type 0} (r : Result T E) → (is_ok r ≡ true → P) → OnOk r P
-on_ok_from (Ok x) f = f refl
-on_ok_from (Err e) f = tt
+pub split_refused : {X : Type 0} (v : X → PlainBranch) (from : ℕ) (run : List PlainNode) (bs cs : List X) (b : PlainBranch) → ◌≡◌ {A = PlainBranch} (record { from = from; run = run; forks = forks_of (map v bs) }) b → cs ≡ bs → ◌≡◌ {A = PlainBranch} (record { from = from; run = run; forks = forks_of (map v cs) }) b
+split_refused v from run bs cs b h g = ap (λ z. let r : PlainBranch = record { from = from; run = run; forks = forks_of (map v z) } in r) g ∙ h
 
-pub split_empty : {X : Type 0} (v : X → PlainBranch) (from : ℕ) (run : List PlainNode) (bs cs : List X) (b : PlainBranch) (w : List Junction) (y : X) (o : Bool) → ◌≡◌ {A = PlainBranch} (record { from = from; run = run; forks = forks_of (map v bs) }) b → length w < 1 → cs ≡ cond o (bs ++ y ∷ []) bs → o ≡ true →
-    ◌≡◌ {A = PlainBranch} (record { from = from; run = run; forks = forks_of (map v cs) }) (at_end (with_fork (v y)) b w)
-split_empty v from run bs cs b (p ∷ ps) y o e h g q = absurd (omega arith)
-split_empty v from run bs cs b [] y o e h g q =
-    let k : cs ≡ bs ++ y ∷ [] = g ∙ ap (λ z. cond z (bs ++ y ∷ []) bs) q in
-    ap (λ z. let r : PlainBranch = record { from = from; run = run; forks = forks_of (map v z) } in r) k
-    ∙ ap (λ z. let r : PlainBranch = record { from = from; run = run; forks = z } in r) (split_here v bs y)
-    ∙ ap (λ z. with_fork (v y) z) e
+-- a fork of the node that was held out, behind the others
+append_map : {X : Type 0} (v : X → PlainBranch) (bs : List X) (y : X) → map v (bs ++ y ∷ []) ≡ map v bs ++ v y ∷ []
+append_map v [] y = refl
+append_map v (b ∷ bs) y = ap (λ z. v b ∷ z) (append_map v bs y)
+
+pub sprouted : {X : Type 0} (v : X → PlainBranch) (bs cs : List X) (y : X) (k from : ℕ) (run part : List PlainNode) (f : Forks) (b : PlainBranch) (n : PlainNode) → cs ≡ bs ++ y ∷ [] → v y ≡ record { from = k; run = part; forks = f } → ◌≡◌ {A = PlainBranch} (record { from = k; run = run; forks = f }) b → b ≡ record { from = from; run = []; forks = bare } → part ≡ run ++ n ∷ [] →
+    map v cs ≡ map v bs ++ record { from = from; run = n ∷ []; forks = bare } ∷ []
+sprouted v bs cs y k from run part f b n ec ey eb en ep =
+    ap (λ z. map v z) ec
+    ∙ append_map v bs y
+    ∙ ap (λ z. map v bs ++ z ∷ [])
+    (ey ∙ ap (λ z. let r : PlainBranch = record { from = k; run = z; forks = f } in r) ep ∙ ap (λ z. let r : PlainBranch = record { from = z.from; run = z.run ++ n ∷ []; forks = z.forks } in r) (eb ∙ en))
 
 -- a node pushed on the run at the end of the way, or not
-pub on_err_from : {T E P : Type 0} (r : Result T E) → (is_ok r ≡ false → P) → OnErr r P
-on_err_from (Ok x) f = tt
-on_err_from (Err e) f = f refl
-
 pub extend_empty : (from : ℕ) (run part : List PlainNode) (f : Forks) (b : PlainBranch) (w : List Junction) (e : PlainNode) → ◌≡◌ {A = PlainBranch} (record { from = from; run = run; forks = f }) b → length w < 1 → part ≡ run ++ e ∷ [] → ◌≡◌ {A = PlainBranch} (record { from = from; run = part; forks = f }) (at_end (with_node e) b w)
 extend_empty from run part f b (p ∷ ps) e h l g = absurd (omega (arith, l))
 extend_empty from run part f b [] e h l g =
@@ -118,15 +120,6 @@ extend_refused from run part f b h g = ap (λ z. let r : PlainBranch = record { 
 -- a position in a run fits a word, and so does the next
 pub next_fits : (k l : ℕ) → k ≡ l → l < 9223372036854775808 → Fits w64 (k + 1)
 next_fits k l e s = omega (arith, e, s)
-
--- what a run of the node that was held out tells of that node
-pub held_one : (o : Option PlainNode) (xs ys : List PlainNode) → IsSome o → ((n : PlainNode) → o ≡ Some n → xs ≡ ys ++ n ∷ []) → ys ≡ [] → length xs ≡ 1
-held_one None xs ys s f e = absurd (false≢true s)
-held_one (Some n) xs ys s f e = ap length (f n refl ∙ ap (λ l. l ++ n ∷ []) e)
-
-pub held_back : (o : Option PlainNode) (xs ys : List PlainNode) (m : PlainNode) → IsSome o → ((n : PlainNode) → o ≡ Some n → xs ≡ ys ++ n ∷ []) → ys ≡ [] → xs ≡ m ∷ [] → Some m ≡ o
-held_back None xs ys m s f e h = absurd (false≢true s)
-held_back (Some n) xs ys m s f e h = ap (λ l. Some (get_or l 0 m)) (sym h ∙ f n refl ∙ ap (λ l. l ++ n ∷ []) e)
 
 -- the number of the node that is held out
 abbrev pub held_number : Option PlainNode → ℕ

@@ -1,5 +1,6 @@
 pub mod Steps
 pub mod Tree
+pub mod Runs
 pub mod Ways
 pub mod States
 pub mod Rows

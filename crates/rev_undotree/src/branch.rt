@@ -1,5 +1,6 @@
 //! A branch: a run of nodes, and the branches that fork from it.
 ghost use Rattle.std.specs.Prelude.{◌≡◌, ◌++◌, ◌∷◌, ◌^◌, ◌<◌, ◌-◌, ◌≤◌, ℕ, Bool, IfOk, IfErr, OnOk, OnErr, IfSome, IfNone, IsSome, Some, None, [], length, get_or, slice_get, cond, eqb, List, map};
+ghost use Rattle.rev_moves.specs.Record.{flat};
 ghost use Rattle.rev_steps.specs.Plain.{plain_step};
 ghost use Rattle.rev_undotree.specs.Steps.{Fits, turned};
 ghost use Rattle.rev_undotree.specs.Ways.{IsWay, reach, undo_of, at_end, with_undo, with_node, with_fork, no_node};
@@ -11,50 +12,20 @@ ghost use Rattle.rev_undotree.specs.Children.{children_at, put_in, next_number};
 ghost use Rattle.rev_undotree.specs.Finds.{RisesRun, Rises, Fitted, Found, IsMissing};
 
 use crate::junction::Junction;
+use crate::run::{Node, Run};
 use arrayvec::ArrayVec;
 use rev_inverse::Store;
 use rev_model::Outcome;
-use rev_moves::Record;
+use rev_moves::RecordRef;
 use rev_steps::Step;
-use std::alloc::{AllocError, AllocFailed, Allocator};
+use std::alloc::{AllocError, Allocator};
 use std::marker::Model;
-
-/// One node of a run.
-#[derive(Drop)]
-pub struct Node<A: Allocator> {
-    pub number: u32,
-    pub step: Step<A>,
-    pub outcome: Outcome,
-    pub undo: Record<A>,
-}
-
-impl<A: Allocator> Model for Node<A> {
-    ghost use Rattle.rev_moves.specs.Record.{flat};
-    ghost use Rattle.rev_steps.specs.Plain.{plain_step};
-    ghost use Rattle.rev_undotree.specs.Tree.{PlainNode};
-
-    ghost Value = { PlainNode };
-
-    // In which groups the record keeps its moves is not seen.
-    ghost view = { λ a. record { number = a.number; step = plain_step a.step; outcome = a.outcome; undo = flat a.undo } };
-}
-
-impl<A: Allocator> Node<A> {
-    /// Turns the record of the node.
-    fn turn(&mut self, store: &mut Store<A>)
-        requires { Fits self.old.undo store.old }
-        ensures state { store.new ≡ (turned self.old.undo store.old).0 }
-        ensures node { self.new ≡ record self.old { undo = (turned self.old.undo store.old).1 } }
-    {
-        store.turn(&mut self.undo);
-    }
-}
 
 /// A run of nodes, where it leaves its parent's run, and the branches that fork from it.
 #[derive(Drop)]
 pub struct Branch<A: Allocator> {
     from: usize,
-    run: Vec<Node<A>, A>,
+    run: Run<A>,
     forks: Vec<Box<Branch<A>, A>, A>,
 }
 
@@ -68,7 +39,7 @@ impl<A: Allocator> Model for Branch<A> {
 
     ghost coded = { branch_code (Prim.hlevel codes) };
 
-    ghost view = { λ a. record { from = a.from; run = a.run.items; forks = forks_of (map (λ b. b.value) a.forks.items) } };
+    ghost view = { λ a. record { from = a.from; run = a.run; forks = forks_of (map (λ b. b.value) a.forks.items) } };
 
     ghost size = { branch_size };
 
@@ -85,10 +56,7 @@ impl<A: Allocator> Branch<A> {
         ensures tree { self.new ≡ at_end (with_undo at (turned (undo_of (reach self.old way.now).run at) store.old).1) self.old way.now }
     {
         match way {
-            [] => {
-                let node = &mut self.run[at];
-                node.turn(store);
-            }
+            [] => self.run.turn(at, store),
             [junction, rest @ ..] => {
                 let child = &mut self.forks[junction.fork];
                 child.turn(rest, at, store);
@@ -120,16 +88,7 @@ impl<A: Allocator> Branch<A> {
         requires { at < length self.now.run }
         ensures { result ≡ (get_or self.now.run at no_node).number }
     {
-        let node = &self.run[at];
-        node.number
-    }
-
-    /// The node at `at` of the run.
-    pub fn node(&self, at: usize) -> &Node<A>
-        requires { at < length self.now.run }
-        ensures { result.now ≡ get_or self.now.run at no_node }
-    {
-        &self.run[at]
+        self.run.number(at)
     }
 
     /// The step of the node at `at` of the run, and its outcome.
@@ -138,8 +97,15 @@ impl<A: Allocator> Branch<A> {
         ensures step { plain_step result.0.now ≡ (get_or self.now.run at no_node).step }
         ensures outcome { result.1 ≡ (get_or self.now.run at no_node).outcome }
     {
-        let node = &self.run[at];
-        (&node.step, node.outcome)
+        self.run.step_at(at)
+    }
+
+    /// The record of the node at `at` of the run.
+    pub fn record(&self, at: usize) -> RecordRef<'_, A>
+        requires { at < length self.now.run }
+        ensures { flat result ≡ (get_or self.now.run at no_node).undo }
+    {
+        self.run.record(at)
     }
 
     /// How many branches fork from the run.
@@ -275,6 +241,8 @@ impl<A: Allocator> Branch<A> {
     ///
     /// Err: a growth was refused, and the node is still there.
     pub fn extend(&mut self, way: &[Junction], node: &mut Option<Node<A>>) -> Result<(), AllocError>
+    where
+        A: Clone, // clone
         requires way { IsWay self.old way.now }
         requires node { IsSome node.old }
         ensures ok { OnOk result ((n : PlainNode) → node.old ≡ Some n → self.new ≡ at_end (with_node n) self.old way.now) }
@@ -283,7 +251,7 @@ impl<A: Allocator> Branch<A> {
         ensures returned { OnErr result (node.new ≡ node.old) }
     {
         match way {
-            [] => add_to(&mut self.run, node),
+            [] => self.run.push(node),
             [junction, rest @ ..] => {
                 let child = &mut self.forks[junction.fork];
                 child.extend(rest, node)
@@ -291,22 +259,30 @@ impl<A: Allocator> Branch<A> {
         }
     }
 
-    /// Adds a fork to the branch at the end of `way`, or hands it back.
+    /// Adds a fork of the node that is held out, which leaves its parent's run at `from`, to the branch at the end of `way`.
+    ///
+    /// Err: a growth was refused, and the node is still there.
     pub fn split(
         &mut self,
         way: &[Junction],
-        fork: Box<Branch<A>, A>,
-    ) -> Result<(), AllocFailed<Box<Branch<A>, A>>>
-        requires { IsWay self.old way.now }
-        ensures ok { OnOk result (self.new ≡ at_end (with_fork fork.value) self.old way.now) }
+        alloc: &A,
+        from: usize,
+        node: &mut Option<Node<A>>,
+    ) -> Result<(), AllocError>
+    where
+        A: Clone,
+        requires way { IsWay self.old way.now }
+        requires node { IsSome node.old }
+        ensures ok { OnOk result ((n : PlainNode) → node.old ≡ Some n → self.new ≡ at_end (with_fork (record { from = from; run = n ∷ []; forks = bare })) self.old way.now) }
         ensures err { OnErr result (self.new ≡ self.old) }
-        ensures returned { IfErr result (λ e. e.value ≡ fork) }
+        ensures taken { OnOk result (node.new ≡ None) }
+        ensures returned { OnErr result (node.new ≡ node.old) }
     {
         match way {
-            [] => self.forks.push(fork),
+            [] => sprout(&mut self.forks, alloc, from, node),
             [junction, rest @ ..] => {
                 let child = &mut self.forks[junction.fork];
-                child.split(rest, fork)
+                child.split(rest, alloc, from, node)
             }
         }
     }
@@ -317,7 +293,7 @@ impl<A: Allocator> Branch<A> {
     {
         if self.from > at {
             self.from = 0;
-            self.run.clear();
+            self.run.truncate(0);
             self.forks.clear();
         }
     }
@@ -350,90 +326,58 @@ impl<A: Allocator> Branch<A> {
         A: Clone,
         ensures { IfOk result (λ b. b ≡ record { from = 0; run = []; forks = bare }) }
     {
+        Branch::empty(alloc, 0)
+    }
+
+    // A branch with no node that leaves its parent's run at `from`.
+    fn empty(alloc: &A, from: usize) -> Result<Branch<A>, AllocError>
+    where
+        A: Clone,
+        ensures { IfOk result (λ b. b ≡ record { from = from; run = []; forks = bare }) }
+    {
         Ok(Branch {
-            from: 0,
-            run: Vec::new(alloc.clone()?),
+            from,
+            run: Run::new(alloc)?,
             forks: Vec::new(alloc.clone()?),
         })
     }
 
-    /// A branch of the node that is held out, which leaves its parent's run at `from`.
-    ///
-    /// Err: a growth was refused, and the node is still there.
-    pub fn sprout(
-        alloc: &A,
-        from: usize,
-        node: &mut Option<Node<A>>,
-    ) -> Result<Box<Branch<A>, A>, AllocError>
+    // The same in a box.
+    fn boxed(alloc: &A, from: usize) -> Result<Box<Branch<A>, A>, AllocError>
     where
         A: Clone,
-        requires { IsSome node.old }
-        ensures ok { IfOk result (λ b. (n : PlainNode) → node.old ≡ Some n → b.value ≡ record { from = from; run = n ∷ []; forks = bare }) }
-        ensures taken { OnOk result (node.new ≡ None) }
-        ensures err { OnErr result (node.new ≡ node.old) }
+        ensures { IfOk result (λ b. b.value ≡ record { from = from; run = []; forks = bare }) }
     {
-        let (first, second, third) = handles(alloc)?;
-        let mut run = Vec::new(first);
-        add_to(&mut run, node)?;
-        match Box::new(
-            second,
-            Branch {
-                from,
-                run,
-                forks: Vec::new(third),
-            },
-        ) {
+        match Box::new(alloc.clone()?, Branch::empty(alloc, from)?) {
             Ok(branch) => Ok(branch),
             Err(refused) => {
-                give_back(node, refused.value.into_node());
+                drop(refused);
                 Err(AllocError)
             }
         }
     }
-
-    /// The node of a branch that has one.
-    pub fn into_node(self) -> Node<A>
-        requires { length self.run ≡ 1 }
-        ensures { self.run ≡ result ∷ [] }
-    {
-        let Branch {
-            from: _,
-            mut run,
-            forks: _,
-        } = self;
-        match run.pop() {
-            Some(node) => node,
-            None => unreachable!(),
-        }
-    }
 }
 
-/// Holds a node out again.
-pub fn give_back<A: Allocator>(held: &mut Option<Node<A>>, node: Node<A>)
-    ensures { held.new ≡ Some node }
-{
-    *held = Some(node);
-}
-
-// Adds the node that is held out to a run. Err: a growth was refused, and the node is still there.
-#[inline(always)]
-fn add_to<A: Allocator>(
-    run: &mut Vec<Node<A>, A>,
+// Adds a branch of the node that is held out, which leaves its parent's run at `from`. Err: a growth was refused, and the
+// node is still there.
+fn sprout<A: Allocator + Clone>(
+    forks: &mut Vec<Box<Branch<A>, A>, A>,
+    alloc: &A,
+    from: usize,
     node: &mut Option<Node<A>>,
 ) -> Result<(), AllocError>
     requires { IsSome node.old }
-    ensures ok { OnOk result ((n : PlainNode) → node.old ≡ Some n → run.new.items ≡ run.old.items ++ n ∷ []) }
-    ensures err { OnErr result (run.new.items ≡ run.old.items) }
+    ensures ok { OnOk result ((n : PlainNode) → node.old ≡ Some n → map (λ b. b.value) forks.new.items ≡ map (λ b. b.value) forks.old.items ++ record { from = from; run = n ∷ []; forks = bare } ∷ []) }
+    ensures err { OnErr result (forks.new.items ≡ forks.old.items) }
     ensures taken { OnOk result (node.new ≡ None) }
     ensures returned { OnErr result (node.new ≡ node.old) }
 {
-    run.reserve(1)?;
-    match node.take() {
-        Some(next) => match run.push(next) {
-            Ok(()) => Ok(()),
-            Err(_) => unreachable!(),
-        },
-        None => unreachable!(),
+    forks.reserve(1)?;
+    let mut branch = Branch::boxed(alloc, from)?;
+    branch.run.push(node)?;
+    match forks.push(branch) {
+        Ok(()) => Ok(()),
+        Err(_) => unreachable!(),
     }
 }
 
@@ -475,9 +419,4 @@ fn pass(next: Option<u32>, left: usize, number: u32) -> Result<u32, (Option<u32>
             Err((Some(own), left - 1))
         }
     }
-}
-
-// Three handles on the allocator.
-fn handles<A: Allocator + Clone>(alloc: &A) -> Result<(A, A, A), AllocError> {
-    Ok((alloc.clone()?, alloc.clone()?, alloc.clone()?))
 }

@@ -7,6 +7,7 @@ pub mod index;
 pub mod junction;
 mod naming;
 pub mod position;
+pub mod run;
 pub mod session;
 
 pub use session::{

@@ -10,7 +10,7 @@ ghost use Rattle.rev_requests.specs.Plain.{plain_step};
 ghost use Rattle.rev_undotree.specs.Named.{hashed, named, step_keys, stored_keys, none_or};
 ghost use Rattle.rev_undotree.specs.Mentioned.{AreMentioned, Grows};
 
-use crate::branch::Node;
+use crate::run::Node;
 use rev_inverse::Store;
 use rev_items::Item;
 use rev_mentions::Mentions;

@@ -12,9 +12,10 @@ ghost use Rattle.rev_undotree.specs.Trails.{cut};
 ghost use Rattle.rev_undotree.specs.Children.{next_number};
 ghost use Rattle.rev_undotree.specs.Trips.{Trip};
 
-use crate::branch::{Branch, Node, give_back};
+use crate::branch::Branch;
 use crate::index::Index;
 use crate::junction::Junction;
+use crate::run::Node;
 use arrayvec::ArrayVec;
 use rev_inverse::Store;
 use std::alloc::{AllocError, Allocator};
@@ -270,19 +271,12 @@ impl<A: Allocator> Position<A> {
             return Ok(());
         }
         let fork = self.base.reach(self.way.as_slice()).fork_count();
-        let branch = Branch::sprout(alloc, self.here, node)?;
-        match self.base.split(self.way.as_slice(), branch) {
-            Ok(()) => {
-                let taken = self.here;
-                self.way.push(Junction { taken, fork });
-                self.here = 1;
-                Ok(())
-            }
-            Err(refused) => {
-                give_back(node, Box::into_inner(refused.value).into_node());
-                Err(AllocError)
-            }
-        }
+        self.base
+            .split(self.way.as_slice(), alloc, self.here, node)?;
+        let taken = self.here;
+        self.way.push(Junction { taken, fork });
+        self.here = 1;
+        Ok(())
     }
 
     /// Whether the position is the one at `at` behind `target`, or further on.

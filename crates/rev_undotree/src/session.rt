@@ -17,17 +17,18 @@ ghost use Rattle.rev_undotree.specs.Tree.{PlainNode};
 ghost use Rattle.rev_undotree.specs.Steps.{State, next, Undoes};
 ghost use Rattle.rev_mentions.specs.Mentions.{Within};
 
-use crate::branch::{Branch, Node};
+use crate::branch::Branch;
 use crate::index::Index;
 use crate::junction::Junction;
 use crate::naming::mention;
 use crate::position::{Position, above, is_on_way};
+use crate::run::Node;
 use arrayvec::ArrayVec;
 use rev_inverse::Store;
 use rev_items::Key;
 use rev_mentions::Mentions;
 use rev_model::Outcome;
-use rev_moves::Record;
+use rev_moves::RecordRef;
 use rev_steps::{Step, apply};
 use std::alloc::{AllocError, Allocator};
 use std::marker::Model;
@@ -238,8 +239,8 @@ impl<A: Allocator + Clone> Session<A> {
     pub fn trail<'a>(
         &'a self,
         depth: usize,
-    ) -> Option<(NodeId, &'a Step<A>, Outcome, &'a Record<A>)>
-        ensures some { IfSome result (λ x. Trailed self.now depth x.0.0 (plain_step x.1.now) x.2 x.3.now) }
+    ) -> Option<(NodeId, &'a Step<A>, Outcome, RecordRef<'a, A>)>
+        ensures some { IfSome result (λ x. Trailed self.now depth x.0.0 (plain_step x.1.now) x.2 x.3) }
         ensures none { IsNone result ↔ ((depth ≡ 0) ⊎ (length (lineage self.now.rows self.now.current) < depth)) }
     {
         if depth == 0 {
@@ -249,12 +250,11 @@ impl<A: Allocator + Clone> Session<A> {
             return None;
         }
         let (level, at) = self.position.ancestor(depth);
-        let node = self
-            .position
-            .base
-            .reach(&self.position.way[..level])
-            .node(at - 1);
-        Some((NodeId(node.number), &node.step, node.outcome, &node.undo))
+        let branch = self.position.base.reach(&self.position.way[..level]);
+        let place = at - 1;
+        let (step, outcome) = branch.step_at(place);
+        let number = branch.number(place);
+        Some((NodeId(number), step, outcome, branch.record(place)))
     }
 
     // Whether the node at `depth` of the way to the current node has a number over `number`.

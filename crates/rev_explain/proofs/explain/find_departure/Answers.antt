@@ -12,13 +12,13 @@ loop-node-init g c =
 
 pub returns-in-Some-find_left : goal.returns-in-Some-find_left
 returns-in-Some-find_left g c =
-    search_found c.args.session.now c.args.key.now c.loop-node.depth c.in-Some.node.0 (plain_step c.in-Some.field-0-1.now) c.in-Some.field-0-2 c.in-Some.trace.now c.loop-node.invariant
+    search_found c.args.session.now c.args.key.now c.loop-node.depth c.in-Some.node.0 (plain_step c.in-Some.field-0-1.now) c.in-Some.field-0-2 c.in-Some.trace c.loop-node.invariant
     (above_root c.loop-node.depth (length (lineage c.args.session.now.rows c.args.session.now.current)) c.in-Some.ensures.none.1) c.in-Some.ensures.some
     c.in-Some-find_left.cause (sym c.find_left.ensures ∙ c.in-Some-find_left.is)
 
 pub loop-node-preserved : goal.loop-node-preserved
 loop-node-preserved g c =
     search_skip c.args.session.now c.args.key.now c.last_mention-depth-in-Some.result (c.loop-node.depth - 1) c.last_mention-depth-in-Some.ensures.falls
-    (search_more c.args.session.now c.args.key.now c.loop-node.depth c.in-Some.node.0 (plain_step c.in-Some.field-0-1.now) c.in-Some.field-0-2 c.in-Some.trace.now c.loop-node.invariant
+    (search_more c.args.session.now c.args.key.now c.loop-node.depth c.in-Some.node.0 (plain_step c.in-Some.field-0-1.now) c.in-Some.field-0-2 c.in-Some.trace c.loop-node.invariant
     (above_root c.loop-node.depth (length (lineage c.args.session.now.rows c.args.session.now.current)) c.in-Some.ensures.none.1) c.in-Some.ensures.some
     (sym c.find_left.ensures ∙ c.in-None.is)) c.last_mention-depth-in-Some.ensures.within c.last_mention-depth-in-Some.ensures.still

@@ -18,9 +18,9 @@ loop-node-init g c =
 pub loop-node-preserved : goal.loop-node-preserved
 loop-node-preserved g c =
     tell_skip c.args.session.now c.args.key.now c.last_mention-depth-in-Some.result (c.loop-node.depth - 1) c.find_before-before.result c.add.new.events.items c.last_mention-depth-in-Some.ensures.falls
-    (tell_more c.args.session.now c.args.key.now c.loop-node.depth c.in-Some.node.0 (plain_step c.in-Some.step.now) c.in-Some.outcome c.in-Some.trace.now c.loop-node.place c.loop-node.events.items c.loop-node.invariant
+    (tell_more c.args.session.now c.args.key.now c.loop-node.depth c.in-Some.node.0 (plain_step c.in-Some.step.now) c.in-Some.outcome c.in-Some.trace c.loop-node.place c.loop-node.events.items c.loop-node.invariant
     (above_root c.loop-node.depth (length (lineage c.args.session.now.rows c.args.session.now.current)) c.in-Some.ensures.none.1) c.in-Some.ensures.some
-    c.find_change-change.result (c.find_change-change.ensures ∙ ap (λ h. key_change c.args.key.now h c.in-Some.trace.now.moves c.in-Some.trace.now.notes) c.home_of.ensures)
+    c.find_change-change.result (c.find_change-change.ensures ∙ ap (λ h. key_change c.args.key.now h c.in-Some.trace.moves c.in-Some.trace.notes) c.home_of.ensures)
     c.find_before-before.result c.find_before-before.ensures
     c.has_stored-stored.result c.has_stored-stored.ensures
     c.find_event-kind.result (c.find_event-kind.ensures ∙ ap (λ n. event_by c.has_stored-stored.result c.find_before-before.result c.loop-node.place n) c.note_of.ensures)

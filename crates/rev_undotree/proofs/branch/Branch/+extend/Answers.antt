@@ -23,19 +23,19 @@ pub returns-in-len1-up-clause-ok : goal.returns-in-len1-up-clause-ok
 returns-in-len1-up-clause-ok g t c =
     let k = child_is (λ b. b.value) c.self.inside.forks.items c.args.self.now c.args.way.now none c.index_mut-child.result.now c.deref_mut.result.now (sym (ap (λ z. z.forks) c.self.view_is)) c.in-len1-up.len_at_least c.requires.way c.index_mut-child.ensures.value c.deref_mut.ensures.value in
     on_ok_weaker c.extend.result (λ e n held.
-    at_end_inside (λ b. b.value) c.self.inside.from c.self.inside.run.items c.self.inside.forks.items c.args.self.now c.args.way.now none _ c.deref_mut.result.now (with_node n) c.self.view_is c.in-len1-up.len_at_least k (e n held)) c.extend.ensures.ok
+    at_end_inside (λ b. b.value) c.self.inside.from c.self.inside.run c.self.inside.forks.items c.args.self.now c.args.way.now none _ c.deref_mut.result.now (with_node n) c.self.view_is c.in-len1-up.len_at_least k (e n held)) c.extend.ensures.ok
 
 pub returns-in-len1-up-clause-err : goal.returns-in-len1-up-clause-err
 returns-in-len1-up-clause-err g t c =
     let k = child_is (λ b. b.value) c.self.inside.forks.items c.args.self.now c.args.way.now none c.index_mut-child.result.now c.deref_mut.result.now (sym (ap (λ z. z.forks) c.self.view_is)) c.in-len1-up.len_at_least c.requires.way c.index_mut-child.ensures.value c.deref_mut.ensures.value in
     on_err_weaker c.extend.result (λ e.
-    at_end_inside (λ b. b.value) c.self.inside.from c.self.inside.run.items c.self.inside.forks.items c.args.self.now c.args.way.now none _ c.deref_mut.result.now (λ z. z) c.self.view_is c.in-len1-up.len_at_least k (e ∙ sym (at_end-id c.deref_mut.result.now (behind c.args.way.now)))
+    at_end_inside (λ b. b.value) c.self.inside.from c.self.inside.run c.self.inside.forks.items c.args.self.now c.args.way.now none _ c.deref_mut.result.now (λ z. z) c.self.view_is c.in-len1-up.len_at_least k (e ∙ sym (at_end-id c.deref_mut.result.now (behind c.args.way.now)))
     ∙ at_end-id c.args.self.now c.args.way.now) c.extend.ensures.err
 
 pub returns-in-empty-clause-ok : goal.returns-in-empty-clause-ok
 returns-in-empty-clause-ok g t c =
-    on_ok_weaker c.add_to.result (λ e n held. extend_empty c.self.inside.from c.self.inside.run.items c.add_to.new.run.items (forks_of (map (λ b. b.value) c.self.inside.forks.items)) c.args.self.now c.args.way.now n c.self.view_is c.in-empty.len_below (e n held)) c.add_to.ensures.ok
+    on_ok_weaker c.push.result (λ e n held. extend_empty c.self.inside.from c.self.inside.run c.push.new.self (forks_of (map (λ b. b.value) c.self.inside.forks.items)) c.args.self.now c.args.way.now n c.self.view_is c.in-empty.len_below (e n held)) c.push.ensures.ok
 
 pub returns-in-empty-clause-err : goal.returns-in-empty-clause-err
 returns-in-empty-clause-err g t c =
-    on_err_weaker c.add_to.result (λ e. extend_refused c.self.inside.from c.self.inside.run.items c.add_to.new.run.items (forks_of (map (λ b. b.value) c.self.inside.forks.items)) c.args.self.now c.self.view_is e) c.add_to.ensures.err
+    on_err_weaker c.push.result (λ e. extend_refused c.self.inside.from c.self.inside.run c.push.new.self (forks_of (map (λ b. b.value) c.self.inside.forks.items)) c.args.self.now c.self.view_is e) c.push.ensures.err

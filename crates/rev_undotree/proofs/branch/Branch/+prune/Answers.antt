@@ -20,4 +20,4 @@ prune-requires g t c κs within =
 pub returns-in-len1-up : goal.returns-in-len1-up
 returns-in-len1-up g t c =
     let k = child_is (λ b. b.value) c.self.inside.forks.items c.args.self.now c.args.way.now none c.index_mut-child.result.now c.deref_mut.result.now (sym (ap (λ z. z.forks) c.self.view_is)) c.in-len1-up.len_at_least c.requires c.index_mut-child.ensures.value c.deref_mut.ensures.value in
-    at_end_inside (λ b. b.value) c.self.inside.from c.self.inside.run.items c.self.inside.forks.items c.args.self.now c.args.way.now none _ c.deref_mut.result.now (cropped c.args.at) c.self.view_is c.in-len1-up.len_at_least k c.prune.ensures
+    at_end_inside (λ b. b.value) c.self.inside.from c.self.inside.run c.self.inside.forks.items c.args.self.now c.args.way.now none _ c.deref_mut.result.now (cropped c.args.at) c.self.view_is c.in-len1-up.len_at_least k c.prune.ensures

@@ -29,5 +29,5 @@ pub returns-in-len1-up-clause-tree : goal.returns-in-len1-up-clause-tree
 returns-in-len1-up-clause-tree g t c =
     let k = child_is (λ b. b.value) c.self.inside.forks.items c.args.self.now c.args.way.now none c.index_mut-child.result.now c.deref_mut.result.now (sym (ap (λ z. z.forks) c.self.view_is)) c.in-len1-up.len_at_least c.requires.way c.index_mut-child.ensures.value c.deref_mut.ensures.value in
     let r = reach_down c.args.self.now c.args.way.now none c.deref_mut.result.now c.in-len1-up.len_at_least k in
-    at_end_inside (λ b. b.value) c.self.inside.from c.self.inside.run.items c.self.inside.forks.items c.args.self.now c.args.way.now none _ c.deref_mut.result.now _ c.self.view_is c.in-len1-up.len_at_least k
+    at_end_inside (λ b. b.value) c.self.inside.from c.self.inside.run c.self.inside.forks.items c.args.self.now c.args.way.now none _ c.deref_mut.result.now _ c.self.view_is c.in-len1-up.len_at_least k
     (c.turn-in-len1-up.ensures.tree ∙ ap (λ z. at_end (with_undo c.args.at (turned (undo_of z.run c.args.at) c.args.store.now).1) c.deref_mut.result.now (behind c.args.way.now)) r)

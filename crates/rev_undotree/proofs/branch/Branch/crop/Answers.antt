@@ -8,6 +8,6 @@ pub returns : goal.returns
 returns g c =
     let i = c.self.inside in
     let f = forks_of (map (λ b. b.value) c.trim_forks.new.forks.items) in
-    ap (λ z. let b : PlainBranch = record { from = i.from; run = z; forks = f } in b) c.truncate.ensures.items
-    ∙ cropped_is (λ b. b.value) c.args.at i.from i.run.items i.forks.items c.trim_forks.new.forks.items c.trim_forks.ensures.items
+    ap (λ z. let b : PlainBranch = record { from = i.from; run = z; forks = f } in b) c.truncate.ensures
+    ∙ cropped_is (λ b. b.value) c.args.at i.from i.run i.forks.items c.trim_forks.new.forks.items c.trim_forks.ensures.items
     ∙ ap (λ z. cropped c.args.at z) c.self.view_is

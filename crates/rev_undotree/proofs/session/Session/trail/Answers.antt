@@ -1,12 +1,9 @@
-use Rattle.std.proofs.Common.{◌≤◌, ◌-◌, length, take, arith, ap, sym, ◌∙◌, refl, subst, inr, ⊎_elim}
-use Rattle.rev_moves.specs.Record.{flat}
-use Rattle.rev_steps.specs.Plain.{plain_step}
-use Rattle.rev_undotree.specs.Tree.{PlainNode}
-use Rattle.rev_undotree.specs.Ways.{IsWay}
+use Rattle.std.proofs.Common.{◌≤◌, ◌-◌, length, get_or, take, arith, ap, sym, refl, subst, inr, ⊎_elim}
+use Rattle.rev_undotree.specs.Ways.{IsWay, no_node}
 use Rattle.rev_undotree.proofs.Machine.{kept_tree, kept_path}
 use Rattle.rev_undotree.proofs.Trips.{lineage_depth, depth_within}
-use Rattle.rev_undotree.proofs.Spots.{path_way, path_within}
-use Rattle.rev_undotree.proofs.Trails.{cut_inside, take_length, trailed, trailed_groups}
+use Rattle.rev_undotree.proofs.Spots.{path_way}
+use Rattle.rev_undotree.proofs.Trails.{cut_inside, take_length, trailed, trailed_parts, cut_place}
 use Rattle.rev_undotree.proofs.session.Session.trail.Goals as goal
 
 pub depth-requires : goal.depth-requires
@@ -23,8 +20,8 @@ returns-then-depth-clause-none g c =
 pub slice_bounds-reach-end : goal.slice_bounds-reach-end
 slice_bounds-reach-end g c = sym (take_length _ c.ancestor-level.result.0 (subst (λ z. c.ancestor-level.result.0 ≤ length z) (sym c.deref.ensures.0) c.ancestor-level.ensures.within))
 
-pub reach-requires : goal.reach-requires
-reach-requires g c =
+pub reach-branch-requires : goal.reach-branch-requires
+reach-branch-requires g c =
     let i = c.self.inside.position in
     let p = kept_path _ _ _ _ _ _ c.self.invariant.kept in
     let e = c.depth.ensures in
@@ -33,8 +30,8 @@ reach-requires g c =
     let n = cut_inside i.base i.way.items _ i.here c.args.depth c.ancestor-level.result.1 p (omega (arith, z)) (omega (arith, e, t)) c.ancestor-level.ensures.cut in
     subst (λ x. IsWay i.base (take c.ancestor-level.result.0 x)) (sym c.deref.ensures.0) (path_way _ _ _ n.1)
 
-pub overflow_sub-at : goal.overflow_sub-at
-overflow_sub-at g c =
+pub overflow_sub-place : goal.overflow_sub-place
+overflow_sub-place g c =
     let i = c.self.inside.position in
     let p = kept_path _ _ _ _ _ _ c.self.invariant.kept in
     let e = c.depth.ensures in
@@ -44,17 +41,29 @@ overflow_sub-at g c =
     let l = n.0 in
     omega (arith, l)
 
-pub node-node-requires : goal.node-node-requires
-node-node-requires g c =
+pub step_at-outcome-requires : goal.step_at-outcome-requires
+step_at-outcome-requires g c =
     let i = c.self.inside.position in
-    let p = kept_path _ _ _ _ _ _ c.self.invariant.kept in
     let e = c.depth.ensures in
     let t = c.if-depth.false in
     let z = c.if-depth-eq0.false in
-    let n = cut_inside i.base i.way.items _ i.here c.args.depth c.ancestor-level.result.1 p (omega (arith, z)) (omega (arith, e, t)) c.ancestor-level.ensures.cut in
-    let l = n.0 in
-    let m = path_within _ _ _ n.1 in
-    rw (c.reach.ensures, c.deref.ensures.0) (omega (arith, l, m))
+    cut_place i.base i.way.items _ _ i.here c.args.depth c.ancestor-level.result.1 _ (kept_path _ _ _ _ _ _ c.self.invariant.kept) (omega (arith, z)) (omega (arith, e, t)) c.ancestor-level.ensures.cut (ap (λ x. take c.ancestor-level.result.0 x) c.deref.ensures.0) c.reach-branch.ensures
+
+pub number-number-requires : goal.number-number-requires
+number-number-requires g c =
+    let i = c.self.inside.position in
+    let e = c.depth.ensures in
+    let t = c.if-depth.false in
+    let z = c.if-depth-eq0.false in
+    cut_place i.base i.way.items _ _ i.here c.args.depth c.ancestor-level.result.1 _ (kept_path _ _ _ _ _ _ c.self.invariant.kept) (omega (arith, z)) (omega (arith, e, t)) c.ancestor-level.ensures.cut (ap (λ x. take c.ancestor-level.result.0 x) c.deref.ensures.0) c.reach-branch.ensures
+
+pub record-requires : goal.record-requires
+record-requires g c =
+    let i = c.self.inside.position in
+    let e = c.depth.ensures in
+    let t = c.if-depth.false in
+    let z = c.if-depth-eq0.false in
+    cut_place i.base i.way.items _ _ i.here c.args.depth c.ancestor-level.result.1 _ (kept_path _ _ _ _ _ _ c.self.invariant.kept) (omega (arith, z)) (omega (arith, e, t)) c.ancestor-level.ensures.cut (ap (λ x. take c.ancestor-level.result.0 x) c.deref.ensures.0) c.reach-branch.ensures
 
 pub returns-clause-some : goal.returns-clause-some
 returns-clause-some g c =
@@ -65,9 +74,9 @@ returns-clause-some g c =
     let z = c.if-depth-eq0.false in
     let n = cut_inside i.base i.way.items _ i.here c.args.depth c.ancestor-level.result.1 p (omega (arith, z)) (omega (arith, e, t)) c.ancestor-level.ensures.cut in
     let l = n.0 in
-    let q = c.node.inside in
-    let d : PlainNode = record { number = q.number; step = plain_step q.step; outcome = q.outcome; undo = flat q.undo } in
-    rw (← c.self.view_is) (trailed_groups _ _ _ _ _ q.undo (trailed _ i.store i.base i.way.items (take c.ancestor-level.result.0 i.way.items) _ i.here c.args.depth c.ancestor-level.result.1 (c.ancestor-level.result.1 - 1) c.self.inside.issued d c.reach.result.now c.self.invariant.kept (omega (arith, z)) (omega (arith, e, t)) c.ancestor-level.ensures.cut (omega (arith, l)) (ap (λ x. take c.ancestor-level.result.0 x) c.deref.ensures.0) c.reach.ensures (c.node.view_is ∙ c.node-node.ensures)))
+    let j = c.ancestor-level.result.1 - 1 in
+    let x = get_or c.reach-branch.result.now.run j no_node in
+    rw (← c.self.view_is) (trailed_parts _ _ _ _ _ _ x c.number-number.ensures c.step_at-outcome.ensures.step c.step_at-outcome.ensures.outcome c.«record».ensures (trailed _ i.store i.base i.way.items (take c.ancestor-level.result.0 i.way.items) _ i.here c.args.depth c.ancestor-level.result.1 j c.self.inside.issued x c.reach-branch.result.now c.self.invariant.kept (omega (arith, z)) (omega (arith, e, t)) c.ancestor-level.ensures.cut (omega (arith, l)) (ap (λ x. take c.ancestor-level.result.0 x) c.deref.ensures.0) c.reach-branch.ensures refl))
 
 pub returns-clause-none : goal.returns-clause-none
 returns-clause-none g c =
