@@ -1,10 +1,9 @@
 ghost use Rattle.std.specs.Prelude.{◌≡◌, ℕ, ◌+◌, ◌<◌, ◌≤◌, IfOk, OnOk, OnErr, [], ◌∷◌, ◌++◌, length, map, false, slice_set, slice_index_or, reverse, vec_capacity, MatchOption};
 ghost use Rattle.rev_moves.specs.Seen.{plain_moves, plain_notes};
-ghost use Rattle.rev_moves.specs.Record.{group_of, in_order, place_in, moves_in, notes_in, fitted, IsWhole};
+ghost use Rattle.rev_moves.specs.Record.{group_of, in_order, place_in, moves_in, notes_in, IsWhole};
 ghost use Rattle.std.specs.Borrow.{sem};
 
 use crate::moves::Move;
-use crate::reference::RecordRef;
 use std::alloc::{AllocError, Allocator};
 use std::marker::Model;
 
@@ -69,13 +68,6 @@ impl<A: Allocator> Record<A> {
             Ok(()) => self.spare -= count,
             Err(_) => unreachable!(),
         }
-    }
-
-    /// The record, to be read.
-    pub fn as_ref(&self) -> RecordRef<'_, A>
-        ensures { result ≡ fitted self.now }
-    {
-        RecordRef::new(self.moves.as_slice(), self.is_turned)
     }
 
     /// The i-th group, where there are so many.

@@ -241,8 +241,6 @@ impl<A: Allocator> Branch<A> {
     ///
     /// Err: a growth was refused, and the node is still there.
     pub fn extend(&mut self, way: &[Junction], node: &mut Option<Node<A>>) -> Result<(), AllocError>
-    where
-        A: Clone, // clone
         requires way { IsWay self.old way.now }
         requires node { IsSome node.old }
         ensures ok { OnOk result ((n : PlainNode) → node.old ≡ Some n → self.new ≡ at_end (with_node n) self.old way.now) }

@@ -124,8 +124,6 @@ impl<A: Allocator> Run<A> {
     ///
     /// Err: a growth was refused, and the node is still there.
     pub fn push(&mut self, node: &mut Option<Node<A>>) -> Result<(), AllocError>
-    where
-        A: Clone, // clone
         requires { IsSome node.old }
         ensures ok { OnOk result ((n : PlainNode) → node.old ≡ Some n → self.new ≡ self.old ++ n ∷ []) }
         ensures err { OnErr result (self.new ≡ self.old) }
