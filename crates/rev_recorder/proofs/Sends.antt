@@ -7,9 +7,9 @@ use Rattle.rev_inverse.specs.contracts.store.Store as store
 use Rattle.rev_inverse.proofs.store.Store.TheSendSync as sent_store
 use Rattle.rev_undotree.specs.contracts.session.Session as session
 use Rattle.rev_undotree.specs.contracts.branch.Branch as branch
-use Rattle.rev_undotree.specs.contracts.branch.Node as node
+use Rattle.rev_undotree.specs.contracts.run.Run as run
 use Rattle.rev_undotree.specs.contracts.index.Index as index
-use Rattle.rev_undotree.proofs.branch.Node.TheSendSync as sent_node
+use Rattle.rev_undotree.proofs.run.Run.TheSendSync as sent_run
 use Rattle.rev_undotree.proofs.branch.Branch.TheLaws.TheKnot as sent_branch
 use Rattle.rev_undotree.proofs.index.Index.TheSendSync as sent_index
 use Rattle.rev_recorder.specs.contracts.recording.Recording as recording
@@ -19,9 +19,9 @@ use Rattle.rev_recorder.specs.contracts.recorder.Recorder as recorder
 store_send : IsSend (store.the_row Heap.the_row ghosts)
 store_send = sent_store.the_send Heap.the_row ghosts send sync frees
 
--- a node of a branch
-node_send : IsSend (node.the_row Heap.the_row ghosts)
-node_send = sent_node.the_send Heap.the_row ghosts send sync frees
+-- a run of nodes
+run_send : IsSend (run.the_row Heap.the_row ghosts)
+run_send = sent_run.the_send Heap.the_row ghosts send sync frees
 
 -- the index of a tree
 index_send : IsSend (index.the_row Heap.the_row ghosts)
@@ -29,7 +29,7 @@ index_send = sent_index.the_send Heap.the_row ghosts send frees
 
 -- a branch, which holds branches
 branch_send : IsSend (branch.the_row Heap.the_row ghosts)
-branch_send = sent_branch.send-Branch Heap.the_row ghosts (search sendable) (Vec-send (node.the_row Heap.the_row ghosts) node_send) (λ h s. Vec-send _ (Box-send h s))
+branch_send = sent_branch.send-Branch Heap.the_row ghosts (search sendable) run_send (λ h s. Vec-send _ (Box-send h s))
 
 -- a session
 session_send : IsSend (session.the_row Heap.the_row ghosts)
