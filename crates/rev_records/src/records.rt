@@ -63,18 +63,18 @@ impl<A: Allocator> Records<A> {
     /// at most 2^32.
     ///
     /// Err: a growth was refused, or there would be more groups; nothing is changed.
-    pub fn push(&mut self, record: &mut Record<A>) -> Result<(), AllocError>
-        ensures ok { OnOk result (self.new ≡ self.old ++ fitted record.old ∷ []) }
-        ensures err { OnErr result ((self.new ≡ self.old) × (record.new ≡ record.old)) }
+    pub fn push(&mut self, undo: &mut Record<A>) -> Result<(), AllocError>
+        ensures ok { OnOk result (self.new ≡ self.old ++ fitted undo.old ∷ []) }
+        ensures err { OnErr result ((self.new ≡ self.old) × (undo.new ≡ undo.old)) }
     {
         let Ok(start) = u32::try_from(self.groups.len()) else {
             return Err(AllocError);
         };
-        let Ok(count) = u16::try_from(record.len()) else {
+        let Ok(count) = u16::try_from(undo.len()) else {
             return Err(AllocError);
         };
         self.extents.reserve(1)?;
-        record.append_to(&mut self.groups)?;
+        undo.append_to(&mut self.groups)?;
         let extent = Extent {
             start,
             count,
