@@ -88,7 +88,6 @@ pub fn drop_item<A: Allocator>(
         cause,
         chunk,
         class,
-        under: None,
         behind: None,
     };
     store.make(gone, undo);

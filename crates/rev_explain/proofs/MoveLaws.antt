@@ -104,7 +104,7 @@ change_or k home rest (stored.Leave q n x c u) o = cond (keyed k home rest x) (S
 change_or k home rest (stored.Link q c x i a n) o = cond (same_key k i.key) (Some (record { leads = Some x; note = None })) o
 change_or k home rest (stored.Unlink q c x u n) o = cond (keyed k home rest x) (Some (record { leads = None; note = None })) o
 change_or k home rest (stored.Revive q n x c i a) o = cond (same_key k i.key) (Some (record { leads = Some x; note = n })) o
-change_or k home rest (stored.Free q n x c u b) o = cond (keyed k home rest x) (Some (record { leads = None; note = n })) o
+change_or k home rest (stored.Free q n x c b) o = cond (keyed k home rest x) (Some (record { leads = None; note = n })) o
 change_or k home rest (stored.Shift a b) o = cond (keyed k home rest a) (Some (record { leads = Some b; note = note_of o })) o
 change_or k home rest m o = o
 
@@ -121,7 +121,7 @@ change-through k home (stored.Link q c x i a n) rest more =
 change-through k home (stored.Unlink q c x u n) rest more = refl
 change-through k home (stored.Revive q n x c i a) rest more =
     ap (λ b. cond (cond b (same_key k i.key) (keyed k home rest x)) (Some (record { leads = Some x; note = n })) (key_change k home rest more)) (same_chunk-self x)
-change-through k home (stored.Free q n x c u b) rest more = refl
+change-through k home (stored.Free q n x c b) rest more = refl
 change-through k home (stored.Requeue c a x p q) rest more = refl
 change-through k home (stored.Take l) rest more = refl
 change-through k home (stored.Put l) rest more = refl

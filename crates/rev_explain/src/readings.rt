@@ -81,14 +81,10 @@ fn keyed_after<A: Allocator>(
             chunk: left,
             under,
             ..
-        }
-        | Move::Free {
-            chunk: left,
-            under,
-            ..
         } if is_same(chunk, *left) => ControlFlow::Break(has_key(key, under)),
         Move::Shift(from, to) if is_same(chunk, *to) => ControlFlow::Continue(*from),
-        Move::Shift(from, _) if is_same(chunk, *from) => ControlFlow::Break(false),
+        Move::Shift(from, _) | Move::Free { chunk: from, .. } if is_same(chunk, *from) =>
+            ControlFlow::Break(false),
         _ => ControlFlow::Continue(chunk),
     }
 }

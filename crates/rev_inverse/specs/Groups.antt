@@ -38,7 +38,7 @@ Revives m = ⊥
 
 -- an item leaves, and its chunk is free
 abbrev pub Frees : {A : Type 0} → Move A → Type 0
-Frees (Free q n x c o b) = Unit {0}
+Frees (Free q n x c b) = Unit {0}
 Frees m = ⊥
 
 -- a page gets a class and slots

@@ -185,10 +185,12 @@ impl<A: Allocator> Store<A> {
                     cause,
                     chunk,
                     class,
-                    under,
                     behind,
                 };
-                set(group, reverse);
+                match under {
+                    None => set(group, reverse),
+                    Some(_) => unreachable!(),
+                }
             }
             _ => unreachable!(),
         }
@@ -210,10 +212,9 @@ impl<A: Allocator> Store<A> {
                 cause,
                 chunk,
                 class,
-                under,
                 behind,
             } => {
-                let (after, item) = self.leave(class, queue, chunk, under);
+                let (after, item) = self.leave(class, queue, chunk, None);
                 self.put_to_free(class, chunk, behind);
                 let reverse = Move::Revive {
                     queue,

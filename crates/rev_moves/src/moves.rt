@@ -61,15 +61,13 @@ pub enum Move<A: Allocator> {
         item: Item<A>,
         after: Option<Entry>,
     },
-    /// An item leaves as by `Leave`, and then its chunk enters its free list, behind another or in front.
+    /// An item leaves as by `Leave`, and then its chunk, empty, enters its free list, behind another or in front.
     Free {
         queue: Queue,
         /// What removed the item, where this is no undoing.
         cause: Option<Cause>,
         chunk: ChunkRef,
         class: usize,
-        /// What the chunk holds from then on, for each step of ours nothing.
-        under: Option<Item<A>>,
         behind: Option<ChunkRef>,
     },
     /// A chunk goes to another queue of its class, or to another place of its own, behind an entry or in front.

@@ -133,12 +133,11 @@ fn mention_move<A: Allocator>(
         | Move::Revive { chunk, item, .. } => {
             mention_both(mentions, store, Some(item), *chunk, node)
         }
-        Move::Leave { chunk, under, .. }
-        | Move::Unlink { chunk, under, .. }
-        | Move::Free { chunk, under, .. } => {
+        Move::Leave { chunk, under, .. } | Move::Unlink { chunk, under, .. } => {
             mention_both(mentions, store, under.as_ref(), *chunk, node)
         }
         Move::Requeue { chunk, .. }
+        | Move::Free { chunk, .. }
         | Move::Take(Listed::InQueue(_, _, Entry::Chunk(chunk)))
         | Move::Put(Placed::ToQueue(_, _, Entry::Chunk(chunk), _)) => {
             mention_chunk(mentions, store, *chunk, node)

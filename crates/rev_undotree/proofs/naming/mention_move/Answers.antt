@@ -17,7 +17,7 @@ returns-in-Leave-clause-named g c =
     (rw c.as_ref.ensures.value at c.mention_both.ensures.named) in
     elim c.in-Leave.is [
       | inl e ↦ rw e.3 done
-      | inr o ↦ elim o [ inl e ↦ rw e.3 done | inr e ↦ rw e.4 done ]
+      | inr e ↦ rw e.3 done
     ]
 
 pub returns-in_ok-mention_chunk-in-Shift-clause-named : goal.returns-in_ok-mention_chunk-in-Shift-clause-named
