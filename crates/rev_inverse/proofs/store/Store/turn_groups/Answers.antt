@@ -1,4 +1,4 @@
-use Rattle.std.proofs.Common.{rules, ◌≡◌, ℕ, ◌-◌, ◌<◌, Bool, List, length, map, not, slice_index_or, slice_set, arith, ap, subst, sym, ◌∙◌, refl}
+use Rattle.std.proofs.Common.{◌≡◌, ◌-◌, ◌<◌, Bool, List, length, map, slice_index_or, arith, ap, subst, sym, ◌∙◌, refl}
 use Rattle.std.proofs.lemmas.List.{length-map, length-set}
 use Rattle.rev_moves.specs.declared.moves.Move.{Move}
 use Rattle.rev_moves.specs.Lists.{length-in_order, turned-over, shown, written}

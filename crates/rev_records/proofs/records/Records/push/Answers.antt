@@ -1,8 +1,8 @@
-use Rattle.std.proofs.Common.{rules, ◌≡◌, ◌+◌, ◌++◌, ◌∷◌, [], false, length, map, ap, refl, sym, subst, ◌∙◌, arith}
+use Rattle.std.proofs.Common.{rules, ◌≡◌, ◌+◌, ◌++◌, ◌∷◌, [], false, length, map, ap, refl, subst, arith}
 use Rattle.std.proofs.lemmas.List.{length-map, length-append}
 use Rattle.rev_moves.specs.Record.{group_of}
 use Rattle.rev_records.specs.declared.records.Extent.{Extent}
-use Rattle.rev_records.specs.Cuts.{cut_by, Tiles}
+use Rattle.rev_records.specs.Cuts.{Tiles}
 use Rattle.rev_records.proofs.Cuts.{tiles_more, pushed}
 use Rattle.rev_records.proofs.records.Records.push.Goals as goal
 

@@ -1,4 +1,4 @@
-use Rattle.std.proofs.Common.{rules, ◌≡◌, ◌+◌, ◌<◌, ◌≤◌, length, map, take, get_or, ap, sym, subst, ◌∙◌, arith}
+use Rattle.std.proofs.Common.{rules, ◌≡◌, ◌+◌, ◌<◌, ◌≤◌, length, map, take, get_or, sym, subst, arith}
 use Rattle.std.proofs.lemmas.List.{length-map, length-take, take-map, take_all}
 use Rattle.rev_moves.specs.Record.{group_of}
 use Rattle.rev_records.specs.declared.records.Extent.{Extent}
