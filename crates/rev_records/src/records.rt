@@ -65,6 +65,7 @@ impl<A: Allocator> Records<A> {
     /// Err: a growth was refused, or there would be more groups; nothing is changed.
     pub fn push(&mut self, undo: &mut Record<A>) -> Result<(), AllocError>
         ensures ok { OnOk result (self.new ≡ self.old ++ fitted undo.old ∷ []) }
+        ensures emptied { OnOk result (undo.new.groups ≡ []) }
         ensures err { OnErr result ((self.new ≡ self.old) × (undo.new ≡ undo.old)) }
     {
         let Ok(start) = u32::try_from(self.groups.len()) else {
