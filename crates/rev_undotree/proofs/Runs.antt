@@ -8,7 +8,7 @@ use Rattle.rev_undotree.specs.Ways.{no_node, undo_of}
 use Rattle.rev_undotree.specs.Runs.{PlainHead, node_of, nodes_of}
 use Rattle.rev_undotree.proofs.Turns.{turned_record}
 
-some_inj : {X : Type 0} (x y : X) → Some x ≡ Some y → x ≡ y
+pub some_inj : {X : Type 0} (x y : X) → Some x ≡ Some y → x ≡ y
 some_inj x y e = cc
 
 pub length_nodes : (hs : List PlainHead) (rs : List PlainRecord) → length rs ≡ length hs → length (nodes_of hs rs) ≡ length hs

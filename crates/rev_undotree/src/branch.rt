@@ -240,7 +240,7 @@ impl<A: Allocator> Branch<A> {
     /// Adds the node that is held out to the run of the branch at the end of `way`.
     ///
     /// Err: a growth was refused, and the node is still there.
-    pub fn extend(&mut self, way: &[Junction], node: &mut Option<Node<A>>) -> Result<(), AllocError>
+    pub fn extend(&mut self, way: &[Junction], node: &mut Node<A>) -> Result<(), AllocError>
         requires way { IsWay self.old way.now }
         requires node { IsSome node.old }
         ensures ok { OnOk result ((n : PlainNode) → node.old ≡ Some n → self.new ≡ at_end (with_node n) self.old way.now) }
@@ -265,7 +265,7 @@ impl<A: Allocator> Branch<A> {
         way: &[Junction],
         alloc: &A,
         from: usize,
-        node: &mut Option<Node<A>>,
+        node: &mut Node<A>,
     ) -> Result<(), AllocError>
     where
         A: Clone,
@@ -362,7 +362,7 @@ fn sprout<A: Allocator + Clone>(
     forks: &mut Vec<Box<Branch<A>, A>, A>,
     alloc: &A,
     from: usize,
-    node: &mut Option<Node<A>>,
+    node: &mut Node<A>,
 ) -> Result<(), AllocError>
     requires { IsSome node.old }
     ensures ok { OnOk result ((n : PlainNode) → node.old ≡ Some n → map (λ b. b.value) forks.new.items ≡ map (λ b. b.value) forks.old.items ++ record { from = from; run = n ∷ []; forks = bare } ∷ []) }

@@ -10,7 +10,6 @@ ghost use Rattle.rev_requests.specs.Plain.{plain_step};
 ghost use Rattle.rev_undotree.specs.Named.{hashed, named, step_keys, stored_keys, none_or};
 ghost use Rattle.rev_undotree.specs.Mentioned.{AreMentioned, Grows};
 
-use crate::run::Node;
 use rev_inverse::Store;
 use rev_items::Item;
 use rev_mentions::Mentions;
@@ -170,18 +169,22 @@ fn mention_record<A: Allocator>(
     Ok(())
 }
 
-/// Mentions the keys that a node's step names, which left `store`: under the node's number.
+/// Mentions the keys that a step names which answered `outcome`, left `store` and is undone by `undo`: under the number of
+/// its node.
 ///
 /// Err: a growth was refused; some may be mentioned.
 pub fn mention<A: Allocator>(
     mentions: &mut Mentions<A>,
     store: &Store<A>,
-    node: &Node<A>,
+    step: &Step<A>,
+    outcome: Outcome,
+    undo: &Record<A>,
+    number: u32,
 ) -> Result<(), AllocError>
-    requires { Within mentions.old node.now.number }
-    ensures named { OnOk result (AreMentioned mentions.new (stored_keys node.now.step node.now.outcome ++ named store.now node.now.undo.moves) node.now.number) }
-    ensures grows { Grows mentions.old mentions.new node.now.number }
+    requires { Within mentions.old number }
+    ensures named { OnOk result (AreMentioned mentions.new (stored_keys (plain_step step.now) outcome ++ named store.now undo.now.moves) number) }
+    ensures grows { Grows mentions.old mentions.new number }
 {
-    mention_hash(mentions, stored_hash(&node.step, node.outcome), node.number)?;
-    mention_record(mentions, store, &node.undo, node.number)
+    mention_hash(mentions, stored_hash(step, outcome), number)?;
+    mention_record(mentions, store, undo, number)
 }

@@ -227,7 +227,7 @@ impl<A: Allocator> Position<A> {
     /// Adds the node that is held out below the position and moves to it. The store stands there already.
     ///
     /// Err: a growth was refused, and the node is still there.
-    pub fn grow(&mut self, alloc: &A, node: &mut Option<Node<A>>) -> Result<(), AllocError>
+    pub fn grow(&mut self, alloc: &A, node: &mut Node<A>) -> Result<(), AllocError>
     where
         A: Clone,
         requires way { IsWay self.old.base self.old.way.items }
@@ -253,7 +253,7 @@ impl<A: Allocator> Position<A> {
 
     // Adds the node that is held out to the tree below the position and moves to it. Err: a growth was refused, and the node
     // is still there.
-    fn hang(&mut self, alloc: &A, node: &mut Option<Node<A>>) -> Result<(), AllocError>
+    fn hang(&mut self, alloc: &A, node: &mut Node<A>) -> Result<(), AllocError>
     where
         A: Clone,
         requires way { IsWay self.old.base self.old.way.items }

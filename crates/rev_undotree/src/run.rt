@@ -14,24 +14,27 @@ use rev_steps::Step;
 use std::alloc::{AllocError, Allocator};
 use std::marker::Model;
 
-/// A node that is held out, to be added to a run.
+/// A node that is held out, to be added to a run. Who adds it takes the step out, straight to its place; a node without
+/// its step is none.
 #[derive(Drop)]
 pub struct Node<A: Allocator> {
     pub number: u32,
-    pub step: Step<A>,
+    pub step: Option<Step<A>>,
     pub outcome: Outcome,
     pub undo: Record<A>,
 }
 
 impl<A: Allocator> Model for Node<A> {
+    ghost use Rattle.std.specs.Prelude.{Option};
+    ghost use Rattle.std.specs.Option.{option_map};
     ghost use Rattle.rev_moves.specs.Record.{flat};
     ghost use Rattle.rev_steps.specs.Plain.{plain_step};
     ghost use Rattle.rev_undotree.specs.Tree.{PlainNode};
 
-    ghost Value = { PlainNode };
+    ghost Value = { Option PlainNode };
 
     // In which groups the record keeps its moves is not seen.
-    ghost view = { λ a. record { number = a.number; step = plain_step a.step; outcome = a.outcome; undo = flat a.undo } };
+    ghost view = { λ a. option_map (λ step. record { number = a.number; step = plain_step step; outcome = a.outcome; undo = flat a.undo }) a.step };
 }
 
 /// What a node of a run is beside its record.
@@ -123,7 +126,7 @@ impl<A: Allocator> Run<A> {
     /// Adds the node that is held out behind the others.
     ///
     /// Err: a growth was refused, and the node is still there.
-    pub fn push(&mut self, node: &mut Option<Node<A>>) -> Result<(), AllocError>
+    pub fn push(&mut self, node: &mut Node<A>) -> Result<(), AllocError>
         requires { IsSome node.old }
         ensures ok { OnOk result ((n : PlainNode) → node.old ≡ Some n → self.new ≡ self.old ++ n ∷ []) }
         ensures err { OnErr result (self.new ≡ self.old) }
@@ -131,32 +134,17 @@ impl<A: Allocator> Run<A> {
         ensures returned { OnErr result (node.new ≡ node.old) }
     {
         self.heads.reserve(1)?;
-        let Some(mut next) = node.take() else {
+        self.records.push(&mut node.undo)?;
+        let Some(step) = node.step.take() else {
             unreachable!();
         };
-        match self.records.push(&mut next.undo) {
-            Ok(()) => {
-                let Node {
-                    number,
-                    step,
-                    outcome,
-                    undo,
-                } = next;
-                // nothing is left in it: a drop by a call is proved once
-                drop(undo);
-                match self.heads.push(Head {
-                    number,
-                    step,
-                    outcome,
-                }) {
-                    Ok(()) => Ok(()),
-                    Err(_) => unreachable!(),
-                }
-            }
-            Err(refused) => {
-                give_back(node, next);
-                Err(refused)
-            }
+        match self.heads.push(Head {
+            number: node.number,
+            step,
+            outcome: node.outcome,
+        }) {
+            Ok(()) => Ok(()),
+            Err(_) => unreachable!(),
         }
     }
 
@@ -177,11 +165,4 @@ impl<A: Allocator> Run<A> {
     {
         self.records.turn(at, store);
     }
-}
-
-// Holds a node out again.
-fn give_back<A: Allocator>(held: &mut Option<Node<A>>, node: Node<A>)
-    ensures { held.new ≡ Some node }
-{
-    *held = Some(node);
 }

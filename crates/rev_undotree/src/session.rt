@@ -167,41 +167,42 @@ impl<A: Allocator + Clone> Session<A> {
             return Err((PlayFault::Memory, step));
         };
         let number = self.issued + 1;
-        let node = Node {
+        let mut node = Node {
             number,
-            step,
+            step: Some(step),
             outcome,
             undo,
         };
-        let mut held = Some(node);
         match add(
             &mut self.position,
             &mut self.mentions,
             &self.alloc,
-            &mut held,
+            &mut node,
         ) {
             Ok(()) => {
                 // nothing is left in it: a drop by a call is proved once
-                drop(held);
+                drop(node);
                 self.issued = number;
                 Ok(Played {
                     node: NodeId(number),
                     outcome,
                 })
             }
-            Err(_) => match held {
-                Some(node) => {
-                    let Node {
-                        number: _,
-                        step,
-                        outcome: _,
-                        mut undo,
-                    } = node;
-                    self.position.store.turn(&mut undo);
-                    Err((PlayFault::Memory, step))
+            Err(_) => {
+                let Node {
+                    number: _,
+                    step,
+                    outcome: _,
+                    mut undo,
+                } = node;
+                match step {
+                    Some(step) => {
+                        self.position.store.turn(&mut undo);
+                        Err((PlayFault::Memory, step))
+                    }
+                    None => unreachable!(),
                 }
-                None => unreachable!(),
-            },
+            }
         }
     }
 
@@ -430,7 +431,7 @@ fn add<A: Allocator + Clone>(
     position: &mut Position<A>,
     mentions: &mut Mentions<A>,
     alloc: &A,
-    held: &mut Option<Node<A>>,
+    held: &mut Node<A>,
 ) -> Result<(), AllocError>
     requires way { IsWay position.old.base position.old.way.items }
     requires proper { Proper position.old.way.items position.old.here }
@@ -444,8 +445,15 @@ fn add<A: Allocator + Clone>(
     ensures named { OnOk result ((n : PlainNode) → held.old ≡ Some n → AreMentioned mentions.new (stored_keys n.step n.outcome ++ named position.old.store n.undo.moves) n.number) }
     ensures grows { (n : PlainNode) → held.old ≡ Some n → Grows mentions.old mentions.new n.number }
 {
-    match held.as_ref() {
-        Some(node) => mention(mentions, &position.store, node)?,
+    match held.step.as_ref() {
+        Some(step) => mention(
+            mentions,
+            &position.store,
+            step,
+            held.outcome,
+            &held.undo,
+            held.number,
+        )?,
         None => unreachable!(),
     }
     position.grow(alloc, held)

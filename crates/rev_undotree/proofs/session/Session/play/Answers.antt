@@ -1,5 +1,7 @@
 use Rattle.std.proofs.Common.{rules, ◌≡◌, ◌+◌, length, arith, ap, ◌∙◌, sym, refl, add-one, eqb, subst}
 use Rattle.rev_undotree.specs.Steps.{outcome_of}
+use Rattle.rev_undotree.specs.Tree.{PlainNode}
+use Rattle.rev_undotree.specs.Runs.{node_of}
 use Rattle.rev_steps.specs.Plain.{plain_step}
 use Rattle.rev_undotree.proofs.Turns.{step_next, step_outcome, undoes_applied}
 use Rattle.rev_undotree.specs.Ways.{reach}
@@ -26,22 +28,24 @@ add-requires-clause-within g c = λ n held. subst (Within c.self.inside.mentions
 pub invariant_of-self-in-Ok-add : goal.invariant_of-self-in-Ok-add
 invariant_of-self-in-Ok-add g c =
     let i = c.self.inside.position in
+    let made : PlainNode = node_of record { number = c.self.inside.issued + 1; step = plain_step c.args.step; outcome = c.in-Ok.outcome } c.in-Ok.undo in
     let n = c.add.new.position in
     let q = eqb i.here (length (reach i.base i.way.items).run) in
-    let m = c.in-Ok-add.ensures.ok _ refl _ i.store c.self.invariant.kept.stands (step_next _ _ _ _ c.in-Ok.ensures.step) (undoes_applied _ _ _ _ _ c.in-Ok.ensures.sound (kept_sound _ _ _ _ _ _ c.self.invariant.kept) c.in-Ok.ensures.step c.in-Ok.ensures.leads c.in-Ok.ensures.told) (step_outcome _ _ _ _ c.in-Ok.ensures.step) in
+    let m = c.in-Ok-add.ensures.ok made refl _ i.store c.self.invariant.kept.stands (step_next _ _ _ _ c.in-Ok.ensures.step) (undoes_applied _ _ _ _ _ c.in-Ok.ensures.sound (kept_sound _ _ _ _ _ _ c.self.invariant.kept) c.in-Ok.ensures.step c.in-Ok.ensures.leads c.in-Ok.ensures.told) (step_outcome _ _ _ _ c.in-Ok.ensures.step) in
     let f = c.self.invariant.kept.few in
     let k = play_kept _ i.store n.store i.base n.base i.way.items n.way.items i.here n.here c.self.inside.issued (c.self.inside.issued + 1) (plain_step c.args.step) c.self.invariant.kept (omega (arith, f)) (add-one c.self.inside.issued) q m in
     let v = play_state _ i.store n.store i.base n.base i.way.items n.way.items i.here n.here c.self.inside.issued (c.self.inside.issued + 1) (plain_step c.args.step) c.self.invariant.kept (add-one c.self.inside.issued) q q refl m in
     play_noted _ i.store _ n.store _ i.base n.base i.way.items n.way.items i.here n.here c.self.inside.issued (c.self.inside.issued + 1) (plain_step c.args.step) q c.in-Ok.outcome c.in-Ok.undo _ _ c.self.invariant k (add-one c.self.inside.issued)
     (ap (λ z. z.root) v) (ap (λ z. z.rows) v)
     (record { before = kept_sound _ _ _ _ _ _ c.self.invariant.kept; sound = c.in-Ok.ensures.sound; stepped = ap (λ p. p.0) c.in-Ok.ensures.step; answered = ap (λ p. p.1) c.in-Ok.ensures.step; leads = c.in-Ok.ensures.leads; told = c.in-Ok.ensures.told.told })
-    (c.in-Ok-add.ensures.named _ refl) (c.add.ensures.grows _ refl).kept (c.add.ensures.grows _ refl).within
+    (c.in-Ok-add.ensures.named made refl) (c.add.ensures.grows made refl).kept (c.add.ensures.grows made refl).within
 
 pub returns-in-Ok-add-clause-ok : goal.returns-in-Ok-add-clause-ok
 returns-in-Ok-add-clause-ok g c =
     let i = c.self.inside.position in
+    let made : PlainNode = node_of record { number = c.self.inside.issued + 1; step = plain_step c.args.step; outcome = c.in-Ok.outcome } c.in-Ok.undo in
     let n = c.add.new.position in
-    let m = c.in-Ok-add.ensures.ok _ refl _ i.store c.self.invariant.kept.stands (step_next _ _ _ _ c.in-Ok.ensures.step) (undoes_applied _ _ _ _ _ c.in-Ok.ensures.sound (kept_sound _ _ _ _ _ _ c.self.invariant.kept) c.in-Ok.ensures.step c.in-Ok.ensures.leads c.in-Ok.ensures.told) (step_outcome _ _ _ _ c.in-Ok.ensures.step) in
+    let m = c.in-Ok-add.ensures.ok made refl _ i.store c.self.invariant.kept.stands (step_next _ _ _ _ c.in-Ok.ensures.step) (undoes_applied _ _ _ _ _ c.in-Ok.ensures.sound (kept_sound _ _ _ _ _ _ c.self.invariant.kept) c.in-Ok.ensures.step c.in-Ok.ensures.leads c.in-Ok.ensures.told) (step_outcome _ _ _ _ c.in-Ok.ensures.step) in
     let k = goes_on_is c.self.inside.issued i.base i.way.items i.here (kept_tree _ _ _ _ _ _ c.self.invariant.kept) (kept_path _ _ _ _ _ _ c.self.invariant.kept) c.self.invariant.kept.proper in
     rw (← c.self.view_is) (play_state _ i.store n.store i.base n.base i.way.items n.way.items i.here n.here c.self.inside.issued (c.self.inside.issued + 1) (plain_step c.args.step) c.self.invariant.kept (add-one c.self.inside.issued) (eqb i.here (length (reach i.base i.way.items).run)) _ k m)
 
@@ -134,6 +138,7 @@ returns-in-Some-clause-deep g c =
 pub invariant_of-self-in-Some : goal.invariant_of-self-in-Some
 invariant_of-self-in-Some g c =
     let i = c.self.inside.position in
+    let made : PlainNode = node_of record { number = c.self.inside.issued + 1; step = plain_step c.args.step; outcome = c.in-Ok.outcome } c.in-Ok.undo in
     let e = c.in-Err.ensures.err in
     let s : c.turn.new.self ≡ i.store = search rules in
-    rw (s, e.1, e.2, e.3) (noted_more _ _ _ _ _ _ _ _ c.self.invariant (c.add.ensures.grows _ refl).kept (c.add.ensures.grows _ refl).within)
+    rw (s, e.1, e.2, e.3) (noted_more _ _ _ _ _ _ _ _ c.self.invariant (c.add.ensures.grows made refl).kept (c.add.ensures.grows made refl).within)
