@@ -289,6 +289,16 @@ abbrev pub begins : ℕ → List ℕ → Bool
 begins b [] = false
 begins b (x ∷ xs) = x == b
 
+-- a line that speaks of the whole memory, by its first word
+unfoldable pub memory_command : List ℕ → List (List ℕ) → Command
+memory_command w ws =
+    if bytes_eq w (codes "flush_all") then flush_command ws
+    else (if bytes_eq w (codes "lru_crawler") then crawler_command ws
+    else (if bytes_eq w (codes "slabs") then slabs_command ws
+    else (if bytes_eq w (codes "lru") then lru_command ws
+    else Bad Error)))
+
+-- a line that brings no data, by its first word
 unfoldable pub other_command : List ℕ → List (List ℕ) → Command
 other_command w ws =
     if bytes_eq w (codes "cas") then cas_command ws
@@ -298,11 +308,7 @@ other_command w ws =
     else (if bytes_eq w (codes "touch") then touch_command ws
     else (if bytes_eq w (codes "incr") then increment_command ws
     else (if bytes_eq w (codes "decr") then decrement_command ws
-    else (if bytes_eq w (codes "flush_all") then flush_command ws
-    else (if bytes_eq w (codes "lru_crawler") then crawler_command ws
-    else (if bytes_eq w (codes "slabs") then slabs_command ws
-    else (if bytes_eq w (codes "lru") then lru_command ws
-    else Bad Error))))))))))
+    else memory_command w ws))))))
 
 abbrev pub storage_or : Option StorageCommand → List (List ℕ) → Command
 storage_or None ws = other_command (word ws 0) ws

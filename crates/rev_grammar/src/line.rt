@@ -2,7 +2,7 @@
 ghost use Rattle.std.specs.Prelude.{◌≡◌, ◌≤◌, map};
 ghost use Rattle.std.specs.Io.BufRead.{strip_last};
 ghost use Rattle.rev_grammar.specs.Words.{words};
-ghost use Rattle.rev_grammar.specs.Commands.{begins, other_command, command, longest, asked};
+ghost use Rattle.rev_grammar.specs.Commands.{begins, memory_command, other_command, command, longest, asked};
 ghost use Rattle.rev_grammar.specs.Keyed.{HasKeys};
 
 use crate::actor::{actor_command, crawler_command, lru_command, slabs_command};
@@ -41,6 +41,28 @@ fn begins(b: u8, w: &[u8]) -> bool
     }
 }
 
+// What a line that speaks of the whole memory asks for, by its first word.
+#[tactic(auto, unfolding(crate::specs::Commands::memory_command))]
+fn memory_command(name: &[u8], words: &[&[u8]]) -> Command
+    ensures value { result ≡ memory_command name.now (map (λ x. x.now) words.now) }
+    ensures keyed { HasKeys result (map (λ x. x.now) words.now) }
+{
+    if name == b"flush_all".as_slice() {
+        return flush_command(words);
+    }
+    if name == b"lru_crawler".as_slice() {
+        return crawler_command(words);
+    }
+    if name == b"slabs".as_slice() {
+        return slabs_command(words);
+    }
+    if name == b"lru".as_slice() {
+        return lru_command(words);
+    }
+    Command::Bad(BadAnswer::Error)
+}
+
+// What a line that brings no data asks for, by its first word.
 #[tactic(auto, unfolding(crate::specs::Commands::other_command))]
 fn other_command(name: &[u8], words: &[&[u8]]) -> Command
     ensures value { result ≡ other_command name.now (map (λ x. x.now) words.now) }
@@ -67,19 +89,7 @@ fn other_command(name: &[u8], words: &[&[u8]]) -> Command
     if name == b"decr".as_slice() {
         return decrement_command(words);
     }
-    if name == b"flush_all".as_slice() {
-        return flush_command(words);
-    }
-    if name == b"lru_crawler".as_slice() {
-        return crawler_command(words);
-    }
-    if name == b"slabs".as_slice() {
-        return slabs_command(words);
-    }
-    if name == b"lru".as_slice() {
-        return lru_command(words);
-    }
-    Command::Bad(BadAnswer::Error)
+    memory_command(name, words)
 }
 
 #[tactic(auto, unfolding(crate::specs::Commands::command))]
