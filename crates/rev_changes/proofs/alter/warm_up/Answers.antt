@@ -1,3 +1,4 @@
+use Rattle.std.proofs.Common.{rules}
 use Rattle.rev_changes.proofs.alter.warm_up.Goals as goal
 
 pub raise-requires-clause-class : goal.raise-requires-clause-class
@@ -7,3 +8,6 @@ raise-requires-clause-class g c =
 
 pub returns-clause-leads : goal.returns-clause-leads
 returns-clause-leads g c = λ first l. c.raise.ensures.leads first (c.retouch.ensures.leads first (c.to_head.ensures.leads first l))
+
+pub returns-clause-state : goal.returns-clause-state
+returns-clause-state g c = search rules

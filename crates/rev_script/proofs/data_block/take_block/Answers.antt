@@ -1,3 +1,4 @@
+use Rattle.std.proofs.lemmas.Grind.{common_steps}
 use Rattle.std.proofs.Common.{◌≡◌, ◌∷◌, [], ◌++◌, length, arith, length-append, inl, inr, sym, ◌∙◌, ap}
 use Rattle.std.specs.Str.{bytes_eq}
 use Rattle.rev_script.proofs.Known.{Took-then}
@@ -31,3 +32,6 @@ returns-in-Ok-clause-ok g c =
       sound_is = e.sound_is ∙ ap (λ t. bytes_eq t (13 ∷ 10 ∷ [])) (sym (drop_front c.args.size d.0 e.taken n));
       kept = λ small _. d.2 small ∙ sym (take_front c.args.size d.0 e.taken n);
     }
+
+pub returns-in-Ok-false-clause-ok : goal.returns-in-Ok-false-clause-ok
+returns-in-Ok-false-clause-ok g c = grind (arith, common_steps)

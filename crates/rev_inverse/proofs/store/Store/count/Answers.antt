@@ -1,3 +1,4 @@
+use Rattle.std.proofs.lemmas.Grind.{common_steps}
 use Rattle.std.proofs.Common.{sym, subst, arith, ◌<◌, length}
 use Rattle.rev_model.specs.Move.{Possible, Counts}
 use Rattle.rev_model.specs.State.{counter_place}
@@ -14,3 +15,6 @@ overflow_add-place g c =
     let p = subst (Possible (Counts c.args.class c.args.counter c.args.value)) (sym c.self.view_is) c.requires.possible in
     let r : counter_place c.args.class c.args.counter < length c.self.inside.counters.items = p.ready in
     omega (arith, r, c.number.ensures, c.self.inside.counters.ok.0)
+
+pub returns-clause-before : goal.returns-clause-before
+returns-clause-before g c = grind (arith, common_steps)

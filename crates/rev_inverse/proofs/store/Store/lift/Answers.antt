@@ -1,4 +1,4 @@
-use Rattle.std.proofs.Common.{map, sym, subst, ◌∙◌, ap}
+use Rattle.std.proofs.Common.{map, sym, subst, ◌∙◌, ap, rules}
 use Rattle.std.specs.List.{slice_index}
 use Rattle.rev_model.specs.Chunk.{same_entry}
 use Rattle.rev_model.specs.Lists.{has}
@@ -31,3 +31,6 @@ returns-clause-state g c =
     ∙ state_lifted s c.self.inside.pages.slots c.args.page (slice_index c.self.inside.pages.owner c.args.page) (slice_index c.self.inside.pages.slots c.args.page) c.args.form
     ∙ ap (λ k. model.lifted c.args.page (slice_index c.self.inside.pages.owner c.args.page) k c.args.form s) (c.self.invariant.slots c.args.page)
     ∙ ap (moved (Lifts c.args.page c.args.form)) c.self.view_is
+
+pub returns-clause-reverse : goal.returns-clause-reverse
+returns-clause-reverse g c = search rules

@@ -1,3 +1,5 @@
+use Rattle.std.proofs.lemmas.Grind.{common_steps}
+use Rattle.std.proofs.Common.{arith}
 use Rattle.rev_model.specs.State.{queue_place}
 use Rattle.rev_queues.specs.Entries.{entries-taken}
 use Rattle.rev_inverse.proofs.Fits.{fitted_taken}
@@ -10,3 +12,6 @@ invariant_of-self-in-InQueue g c =
 pub returns-in-InQueue-clause-state : goal.returns-in-InQueue-clause-state
 returns-in-InQueue-clause-state g c =
     rw (c.take_entry-before.ensures.after, c.in-InQueue.is, ← c.self.view_is, entries-taken)
+
+pub returns-in-InQueue-clause-reverse : goal.returns-in-InQueue-clause-reverse
+returns-in-InQueue-clause-reverse g c = grind (arith, common_steps)

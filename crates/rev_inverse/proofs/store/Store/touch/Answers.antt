@@ -1,4 +1,4 @@
-use Rattle.std.proofs.Common.{sym, subst}
+use Rattle.std.proofs.Common.{sym, subst, rules}
 use Rattle.rev_model.specs.Move.{Possible, Touches}
 use Rattle.rev_model.specs.Slots.{touch_there}
 use Rattle.rev_inverse.proofs.Fits.{fitted_touched}
@@ -11,3 +11,6 @@ touch-requires g c =
 
 pub invariant_of-self : goal.invariant_of-self
 invariant_of-self g c = fitted_touched _ _ _ _ _ c.self.invariant _ c.args.chunk c.args.next c.touch.ensures.after
+
+pub returns-clause-before : goal.returns-clause-before
+returns-clause-before g c = search rules

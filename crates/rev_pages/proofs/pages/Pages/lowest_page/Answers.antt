@@ -1,4 +1,4 @@
-use Rattle.std.proofs.Common.{◌∙◌, sym, arith}
+use Rattle.std.proofs.Common.{◌∙◌, sym, arith, rules}
 use Rattle.rev_pages.proofs.Owners.{no_page, page_met, page_passed, page_end}
 use Rattle.rev_pages.proofs.pages.Pages.lowest_page.Goals as goal
 
@@ -24,3 +24,6 @@ returns g c =
 
 pub returns-then-not-owns_page : goal.returns-then-not-owns_page
 returns-then-not-owns_page g c = no_page c.args.class c.args.self.now.owner 0 (sym c.owns_page.ensures ∙ c.if-not-owns_page.true)
+
+pub loop-page-init : goal.loop-page-init
+loop-page-init g c = search rules
