@@ -1,4 +1,4 @@
-use Rattle.std.proofs.Common.{sym, ◌∙◌, subst}
+use Rattle.std.proofs.Common.{sym, ◌∙◌, subst, rules}
 use Rattle.rev_lookup.specs.Looking.{found, missed}
 use Rattle.std.specs.Prelude.{Some}
 use Rattle.rev_model.specs.declared.Cause.TheVariants.{Deleted}
@@ -25,3 +25,6 @@ pub returns-in-None-clause-told : goal.returns-in-None-clause-told
 returns-in-None-clause-told g c =
     subst (Tells c.args.undo.now c.args.store.now c.lookup.new.undo c.lookup.new.store) (sym (append_nil (look_removals c.args.store.now c.args.key.now)) ∙ missed_clear (Some Deleted) c.args.store.now c.args.key.now (missed c.args.store.now c.args.key.now (sym c.in-None.is ∙ c.lookup.ensures.found)))
     c.lookup.ensures.told
+
+pub returns-in-None-clause-done : goal.returns-in-None-clause-done
+returns-in-None-clause-done g c = search rules

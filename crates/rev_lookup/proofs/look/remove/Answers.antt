@@ -1,3 +1,4 @@
+use Rattle.std.proofs.Common.{rules}
 use Rattle.rev_model.specs.State.{owner_of}
 use Rattle.rev_model.specs.Words.{queue_with}
 use Rattle.rev_changes.specs.Seats.{item_stands}
@@ -23,3 +24,6 @@ queue_with-queue-requires-clause-there g c =
     let s = c.args.store.now in
     let at = item_stands c.requires.sound.0 s c.requires.sound.1 c.args.chunk c.requires.item.0 c.requires.item.1 in
     rw c.owner-class.ensures (queue_with s (owner_of s c.args.chunk.page) c.args.chunk, at.there)
+
+pub returns-clause-told : goal.returns-clause-told
+returns-clause-told g c = search rules

@@ -1,4 +1,5 @@
-use Rattle.std.proofs.Common.{rules, ap, ◌∙◌, sym}
+use Rattle.std.proofs.lemmas.Grind.{common_steps}
+use Rattle.std.proofs.Common.{rules, ap, ◌∙◌, sym, arith}
 use Rattle.rev_undotree.specs.Steps.{turned}
 use Rattle.rev_undotree.specs.Ways.{undo_of, at_end, with_undo}
 use Rattle.rev_undotree.specs.declared.junction.Junction.{Junction}
@@ -31,3 +32,9 @@ returns-in-len1-up-clause-tree g t c =
     let r = reach_down c.args.self.now c.args.way.now none c.deref_mut.result.now c.in-len1-up.len_at_least k in
     at_end_inside (λ b. b.value) c.self.inside.from c.self.inside.run c.self.inside.forks.items c.args.self.now c.args.way.now none _ c.deref_mut.result.now _ c.self.view_is c.in-len1-up.len_at_least k
     (c.turn-in-len1-up.ensures.tree ∙ ap (λ z. at_end (with_undo c.args.at (turned (undo_of z.run c.args.at) c.args.store.now).1) c.deref_mut.result.now (behind c.args.way.now)) r)
+
+pub returns-in-empty-clause-state : goal.returns-in-empty-clause-state
+returns-in-empty-clause-state g t c = grind (arith, common_steps)
+
+pub returns-in-empty-clause-tree : goal.returns-in-empty-clause-tree
+returns-in-empty-clause-tree g t c = grind (arith, common_steps)

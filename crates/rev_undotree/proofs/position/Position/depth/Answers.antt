@@ -1,4 +1,4 @@
-use Rattle.std.proofs.Common.{arith}
+use Rattle.std.proofs.Common.{arith, rules}
 use Rattle.rev_undotree.proofs.Trips.{depth_fits, depth_counted}
 use Rattle.rev_undotree.proofs.position.Position.depth.Goals as goal
 
@@ -13,3 +13,6 @@ returns g c =
     let i = c.args.self.now in
     let t = c.loop-junction-test.false in
     depth_counted i.way.items c.as_slice-junction-items.result.now c.loop-junction.junction-index i.here c.loop-junction.depth c.as_slice-junction-items.ensures.value (omega (arith, t)) c.loop-junction.invariant
+
+pub loop-junction-init : goal.loop-junction-init
+loop-junction-init g c = search rules

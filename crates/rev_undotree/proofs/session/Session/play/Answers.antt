@@ -142,3 +142,9 @@ invariant_of-self-in-Some g c =
     let e = c.in-Err.ensures.err in
     let s : c.turn.new.self ≡ i.store = search rules in
     rw (s, e.1, e.2, e.3) (noted_more _ _ _ _ _ _ _ _ c.self.invariant (c.add.ensures.grows made refl).kept (c.add.ensures.grows made refl).within)
+
+pub invariant_of-self : goal.invariant_of-self
+invariant_of-self g c = search rules
+
+pub returns-then-not-has_room-clause-err : goal.returns-then-not-has_room-clause-err
+returns-then-not-has_room-clause-err g c = search rules

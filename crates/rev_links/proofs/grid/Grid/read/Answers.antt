@@ -1,0 +1,5 @@
+use Rattle.std.proofs.Common.{rules}
+use Rattle.rev_links.proofs.grid.Grid.read.Goals as goal
+
+pub returns-clause-cost : goal.returns-clause-cost
+returns-clause-cost g c = search rules
