@@ -1,4 +1,4 @@
-use Rattle.std.proofs.Common.{◌+◌, ◌∙◌, Some, get_or, arith, ap}
+use Rattle.std.proofs.Common.{◌+◌, ◌∙◌, Some, get_or, arith, ap, rules}
 use Rattle.rev_rewriting.proofs.Digits.{number-bad, number-wide, number-is, digits-more, digits_all-more, digit-yes, digit-no}
 use Rattle.rev_rewriting.proofs.number.number_of.Goals as goal
 
@@ -23,3 +23,6 @@ loop-digit-preserved c =
 pub returns : goal.returns
 returns c =
     ap Some c.loop-digit.invariant.0 ∙ number-is c.args.digits.now c.loop-digit.digit-index (omega (arith, c.loop-digit-test.false)) c.loop-digit.invariant.2 c.loop-digit.invariant.3 c.loop-digit.invariant.1 (omega (arith, c.loop-digit.invariant.0, c.loop-digit.invariant.4))
+
+pub loop-digit-init : goal.loop-digit-init
+loop-digit-init c = search rules

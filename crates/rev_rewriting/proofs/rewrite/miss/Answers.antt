@@ -1,5 +1,5 @@
 use Rattle.std.specs.Prelude.{length}
-use Rattle.std.proofs.Common.{ap, arith}
+use Rattle.std.proofs.Common.{ap, arith, rules}
 use Rattle.rev_model.specs.State.{find}
 use Rattle.rev_model.specs.Undo.{leads_none}
 use Rattle.rev_moves.specs.Record.{PlainRecord}
@@ -16,3 +16,6 @@ returns-clause-leads g c = c.lookup-found.ensures.leads c.args.store.now (rw c.i
 pub returns-clause-few : goal.returns-clause-few
 returns-clause-few g c =
     omega (arith, c.lookup-found.ensures.made, look_most c.args.store.now c.args.key.now, removal_most (find c.args.store.now c.args.key.now), ap (λ (r : PlainRecord). length r.moves) c.in_ok-undo.ensures)
+
+pub returns-clause-sound : goal.returns-clause-sound
+returns-clause-sound g c = search rules
