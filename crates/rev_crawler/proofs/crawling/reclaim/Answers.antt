@@ -1,3 +1,4 @@
+use Rattle.std.proofs.Common.{rules}
 use Rattle.std.specs.Prelude.{None}
 use Rattle.rev_model.specs.Undo.{leads_none}
 use Rattle.rev_changes.specs.Rest.{sound_of, rest_of, rest-dropped}
@@ -14,3 +15,6 @@ returns-clause-sound g c =
 
 pub returns-clause-leads : goal.returns-clause-leads
 returns-clause-leads g c = c.discard.ensures.leads c.args.store.now (rw c.in_ok-undo.ensures (leads_none c.args.store.now))
+
+pub returns-clause-told : goal.returns-clause-told
+returns-clause-told g c = search rules

@@ -1,6 +1,10 @@
+use Rattle.std.proofs.Common.{rules}
 use Rattle.rev_maintainer.proofs.bumping.lift.Goals as goal
 
 pub raise-requires-clause-class : goal.raise-requires-clause-class
 raise-requires-clause-class g c =
     let h = c.requires.stands.1 in
     rw (c.retouch.ensures.state c.requires.stands.0 (rw c.to_head.ensures.state h.item), c.to_head.ensures.state) c.requires.class
+
+pub returns-clause-state : goal.returns-clause-state
+returns-clause-state g c = search rules

@@ -1,4 +1,4 @@
-use Rattle.std.proofs.Common.{◌≡◌, inl, suc, length, arith, ap}
+use Rattle.std.proofs.Common.{◌≡◌, inl, suc, length, arith, ap, rules}
 use Rattle.rev_recorder.proofs.run.play_all.Goals as goal
 
 pub loop-step-preserved : goal.loop-step-preserved
@@ -10,3 +10,6 @@ loop-step-preserved g c =
       left = omega (arith, more, c.loop-step.invariant.left);
       runs = λ result new rest. c.loop-step.invariant.runs result new (rw items (inl (c.in_default-answer.field-0, ok.0, rw ok.1 at rest)));
     }
+
+pub returns-in-Err : goal.returns-in-Err
+returns-in-Err g c = search rules

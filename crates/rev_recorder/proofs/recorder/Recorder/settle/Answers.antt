@@ -6,3 +6,6 @@ pub returns-in-Some : goal.returns-in-Some
 returns-in-Some c =
     let all = subst (HasHands c.self.inside.seal c.self.inside.actors) c.as_slice.ensures.value c.if-lacks_hand.ensures in
     (refl, (rw (← c.self.view_is) all, search rules, search rules), search rules)
+
+pub returns-in-None : goal.returns-in-None
+returns-in-None c = search rules
