@@ -298,7 +298,7 @@ memory_command w ws =
     else (if bytes_eq w (codes "lru") then lru_command ws
     else Bad Error)))
 
--- a line that brings no data, by its first word
+-- any other line of a client, by its first word
 unfoldable pub other_command : List ℕ → List (List ℕ) → Command
 other_command w ws =
     if bytes_eq w (codes "cas") then cas_command ws

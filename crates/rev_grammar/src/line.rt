@@ -62,7 +62,7 @@ fn memory_command(name: &[u8], words: &[&[u8]]) -> Command
     Command::Bad(BadAnswer::Error)
 }
 
-// What a line that brings no data asks for, by its first word.
+// What any other line of a client asks for, by its first word.
 #[tactic(auto, unfolding(crate::specs::Commands::other_command))]
 fn other_command(name: &[u8], words: &[&[u8]]) -> Command
     ensures value { result ≡ other_command name.now (map (λ x. x.now) words.now) }
