@@ -10,4 +10,4 @@ pub returns-clause-leads : goal.returns-clause-leads
 returns-clause-leads g c = λ first l. c.raise.ensures.leads first (c.retouch.ensures.leads first (c.to_head.ensures.leads first l))
 
 pub returns-clause-state : goal.returns-clause-state
-returns-clause-state g c = search rules
+returns-clause-state g c = search rules steps 1500000

@@ -14,4 +14,4 @@ returns-clause-freed g c =
     (rw (get_or-set_same c.args.store.now.free c.args.class (c.args.chunk ∷ free_of c.args.store.now c.args.class) [] at.class) (omega arith))
 
 pub returns-clause-state : goal.returns-clause-state
-returns-clause-state g c = search rules
+returns-clause-state g c = search rules steps 1500000

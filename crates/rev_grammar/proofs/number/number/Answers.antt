@@ -6,7 +6,7 @@ use Rattle.rev_grammar.proofs.number.number.Goals.{then-b-lt48-via-then-b-lt48, 
 
 pub returns-then-is_empty-clause-value : goal.returns-then-is_empty-clause-value
 unfolding number
-returns-then-is_empty-clause-value c = search rules
+returns-then-is_empty-clause-value c = search rules steps 500000
 
 pub returns-then-b-lt48-clause-value : goal.returns-then-b-lt48-clause-value
 returns-then-b-lt48-clause-value c =

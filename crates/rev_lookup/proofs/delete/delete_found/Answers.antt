@@ -27,4 +27,4 @@ returns-in-None-clause-told g c =
     c.lookup.ensures.told
 
 pub returns-in-None-clause-done : goal.returns-in-None-clause-done
-returns-in-None-clause-done g c = search rules
+returns-in-None-clause-done g c = search rules steps 1500000

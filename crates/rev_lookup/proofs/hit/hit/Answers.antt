@@ -13,4 +13,4 @@ returns-clause-sound g c =
     (subst (Rest None) (sym (c.retouch.ensures.state i.0 i.1)) (rest-touched None s c.args.chunk _ i.0 i.1 (rest_of None s c.requires.sound)))
 
 pub returns-clause-state : goal.returns-clause-state
-returns-clause-state g c = search rules
+returns-clause-state g c = search rules steps 1500000

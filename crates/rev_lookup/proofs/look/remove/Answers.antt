@@ -26,4 +26,4 @@ queue_with-queue-requires-clause-there g c =
     rw c.owner-class.ensures (queue_with s (owner_of s c.args.chunk.page) c.args.chunk, at.there)
 
 pub returns-clause-told : goal.returns-clause-told
-returns-clause-told g c = search rules
+returns-clause-told g c = search rules steps 1500000

@@ -7,4 +7,4 @@ raise-requires-clause-class g c =
     rw (c.retouch.ensures.state c.requires.stands.0 (rw c.to_head.ensures.state h.item), c.to_head.ensures.state) c.requires.class
 
 pub returns-clause-state : goal.returns-clause-state
-returns-clause-state g c = search rules
+returns-clause-state g c = search rules steps 1500000

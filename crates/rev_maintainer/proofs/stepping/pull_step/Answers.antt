@@ -6,4 +6,4 @@ pub returns-clause-leads : goal.returns-clause-leads
 returns-clause-leads g c = c.pull-outcome.ensures.leads c.args.store.now (rw c.in_ok-undo.ensures (leads_none c.args.store.now))
 
 pub returns-clause-step : goal.returns-clause-step
-returns-clause-step g c = search rules
+returns-clause-step g c = search rules steps 4000000

@@ -11,4 +11,4 @@ rescue-requires-clause-free g c =
     spare_there c.args.chunk.page (free_of s c.args.class) c.in-Rescue.to spare
 
 pub returns-in-Evict-clause-done : goal.returns-in-Evict-clause-done
-returns-in-Evict-clause-done g c = search rules
+returns-in-Evict-clause-done g c = search rules steps 4000000

@@ -6,4 +6,4 @@ pub returns-clause-leads : goal.returns-clause-leads
 returns-clause-leads g c = c.hand_over.ensures.leads c.args.store.now (rw c.in_ok-undo.ensures (leads_none c.args.store.now))
 
 pub hand_over-requires-clause-parts : goal.hand_over-requires-clause-parts
-hand_over-requires-clause-parts g c = search rules
+hand_over-requires-clause-parts g c = search rules steps 1500000

@@ -34,4 +34,4 @@ returns-in-Ok-clause-ok g c =
     }
 
 pub returns-in-Ok-false-clause-ok : goal.returns-in-Ok-false-clause-ok
-returns-in-Ok-false-clause-ok g c = grind (arith, common_steps)
+returns-in-Ok-false-clause-ok g c = grind (arith, common_steps) steps 1200000

@@ -15,7 +15,7 @@ returns-in-Some-clause-step g c =
     subst (λ (z : State × Outcome). IfOk c.store_in.result (λ p. (c.store_in.new.store, p.0) ≡ z)) same c.store_in.ensures.step
 
 pub returns-in-Skipped-clause-step : goal.returns-in-Skipped-clause-step
-returns-in-Skipped-clause-step g c = search rules
+returns-in-Skipped-clause-step g c = search rules steps 1500000
 
 pub returns-in-Skipped-clause-told : goal.returns-in-Skipped-clause-told
-returns-in-Skipped-clause-told g c = search rules
+returns-in-Skipped-clause-told g c = search rules steps 1500000

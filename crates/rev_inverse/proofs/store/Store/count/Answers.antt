@@ -17,4 +17,4 @@ overflow_add-place g c =
     omega (arith, r, c.number.ensures, c.self.inside.counters.ok.0)
 
 pub returns-clause-before : goal.returns-clause-before
-returns-clause-before g c = grind (arith, common_steps)
+returns-clause-before g c = grind (arith, common_steps) steps 1200000

@@ -3,4 +3,4 @@ use Rattle.std.proofs.Common.{arith}
 use Rattle.rev_inverse.proofs.store.Store.counter.Goals as goal
 
 pub returns : goal.returns
-returns g c = grind (arith, common_steps)
+returns g c = grind (arith, common_steps) steps 1200000

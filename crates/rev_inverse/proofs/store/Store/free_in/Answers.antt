@@ -5,4 +5,4 @@ pub put_to_free-requires-clause-possible : goal.put_to_free-requires-clause-poss
 put_to_free-requires-clause-possible g c = search rules
 
 pub returns-clause-state : goal.returns-clause-state
-returns-clause-state g c = search rules
+returns-clause-state g c = search rules steps 4000000

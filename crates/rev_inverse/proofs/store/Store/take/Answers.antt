@@ -14,4 +14,4 @@ returns-in-InQueue-clause-state g c =
     rw (c.take_entry-before.ensures.after, c.in-InQueue.is, ← c.self.view_is, entries-taken)
 
 pub returns-in-InQueue-clause-reverse : goal.returns-in-InQueue-clause-reverse
-returns-in-InQueue-clause-reverse g c = grind (arith, common_steps)
+returns-in-InQueue-clause-reverse g c = grind (arith, common_steps) steps 1200000

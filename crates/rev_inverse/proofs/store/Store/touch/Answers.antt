@@ -13,4 +13,4 @@ pub invariant_of-self : goal.invariant_of-self
 invariant_of-self g c = fitted_touched _ _ _ _ _ c.self.invariant _ c.args.chunk c.args.next c.touch.ensures.after
 
 pub returns-clause-before : goal.returns-clause-before
-returns-clause-before g c = search rules
+returns-clause-before g c = search rules steps 500000

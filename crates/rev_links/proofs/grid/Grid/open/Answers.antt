@@ -7,7 +7,7 @@ pub loop-preserved : goal.loop-preserved
 loop-preserved g c = rw (add-one, c.in_ok-push.ensures.items) (pushed _ (λ v. v.items) c.loop.counter c.loop.invariant)
 
 pub loop-init : goal.loop-init
-loop-init g c = search rules
+loop-init g c = search rules steps 1500000
 
 pub returns : goal.returns
 returns g c = grind (arith, common_steps)

@@ -26,4 +26,4 @@ pub returns-then-not-owns_page : goal.returns-then-not-owns_page
 returns-then-not-owns_page g c = no_page c.args.class c.args.self.now.owner 0 (sym c.owns_page.ensures ∙ c.if-not-owns_page.true)
 
 pub loop-page-init : goal.loop-page-init
-loop-page-init g c = search rules
+loop-page-init g c = search rules steps 500000

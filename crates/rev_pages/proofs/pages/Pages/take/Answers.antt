@@ -26,4 +26,4 @@ pub returns-clause-slots : goal.returns-clause-slots
 returns-clause-slots g c = ap (λ (w : PagesState). w.slots) (take_value c.self.inside.owners.items c.self.inside.made c.self.inside.table.ends c.self.inside.table.links c.self.invariant.linked c.args.self.now c.self.view_is c.args.class c.requires.class c.args.chunk c.requires.there _ _ c.close.ensures.shape c.close.ensures.value)
 
 pub returns-clause-cost : goal.returns-clause-cost
-returns-clause-cost g c = search rules
+returns-clause-cost g c = search rules steps 500000

@@ -1,0 +1,5 @@
+use Rattle.std.proofs.Common.{rules}
+use Rattle.rev_items.proofs.Item.bits.Goals as goal
+
+pub returns : goal.returns
+returns g c = search rules steps 500000
