@@ -3,5 +3,5 @@
 
 pub mod fault;
 pub mod play;
-pub mod rows;
-pub mod steps;
+mod rows;
+mod steps;

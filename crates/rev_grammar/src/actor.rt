@@ -5,7 +5,7 @@ ghost use Rattle.rev_grammar.specs.Keyed.{HasKeys};
 
 use crate::command::{ActorCommand, BadAnswer, Command};
 use crate::number::{factor, ids, is_factor, number_u32, signed};
-use crate::words::word;
+use crate::words::{is_word, word};
 use rev_model::{ClassSet, Queue};
 use rev_requests::Tune;
 
@@ -14,8 +14,8 @@ pub fn crawler_command(words: &[&[u8]]) -> Command
     ensures value { result ≡ crawler_command (map (λ x. x.now) words.now) }
     ensures keyed { HasKeys result (map (λ x. x.now) words.now) }
 {
-    if words.len() == 3 && word(words, 1) == b"crawl".as_slice() {
-        if word(words, 2) == b"all".as_slice() {
+    if words.len() == 3 && is_word(word(words, 1), b"crawl") {
+        if is_word(word(words, 2), b"all") {
             Command::Actor(ActorCommand::StartCrawl(ClassSet::All))
         } else {
             Command::Actor(ActorCommand::StartCrawl(ClassSet::These(ids(word(words, 2)))))
@@ -30,7 +30,7 @@ pub fn slabs_command(words: &[&[u8]]) -> Command
     ensures value { result ≡ slabs_command (map (λ x. x.now) words.now) }
     ensures keyed { HasKeys result (map (λ x. x.now) words.now) }
 {
-    if words.len() == 4 && word(words, 1) == b"reassign".as_slice() {
+    if words.len() == 4 && is_word(word(words, 1), b"reassign") {
         let Some(source) = number_u32(word(words, 2)) else {
             return Command::Bad(BadAnswer::BadFormat);
         };
@@ -78,13 +78,13 @@ pub fn lru_command(words: &[&[u8]]) -> Command
     ensures value { result ≡ lru_command (map (λ x. x.now) words.now) }
     ensures keyed { HasKeys result (map (λ x. x.now) words.now) }
 {
-    if words.len() == 3 && word(words, 1) == b"temp_ttl".as_slice() {
+    if words.len() == 3 && is_word(word(words, 1), b"temp_ttl") {
         let Some(ttl) = signed(word(words, 2)) else {
             return Command::Bad(BadAnswer::BadFormat);
         };
         return Command::Actor(ActorCommand::TempTtl(ttl));
     }
-    if words.len() == 6 && word(words, 1) == b"tune".as_slice() {
+    if words.len() == 6 && is_word(word(words, 1), b"tune") {
         tune_command(words)
     } else {
         Command::Bad(BadAnswer::Error)
@@ -96,13 +96,13 @@ pub fn lru_command(words: &[&[u8]]) -> Command
 pub fn queue_of(w: &[u8]) -> Option<Queue>
     ensures { result ≡ queue_of w.now }
 {
-    if w == b"hot".as_slice() {
+    if is_word(w, b"hot") {
         Some(Queue::Hot)
-    } else if w == b"warm".as_slice() {
+    } else if is_word(w, b"warm") {
         Some(Queue::Warm)
-    } else if w == b"cold".as_slice() {
+    } else if is_word(w, b"cold") {
         Some(Queue::Cold)
-    } else if w == b"temp".as_slice() {
+    } else if is_word(w, b"temp") {
         Some(Queue::Temp)
     } else {
         None
@@ -116,13 +116,13 @@ pub fn actor_command(words: &[&[u8]]) -> Command
     ensures keyed { HasKeys result (map (λ x. x.now) words.now) }
 {
     let name = word(words, 0);
-    if words.len() == 1 && name == b"~bump".as_slice() {
+    if words.len() == 1 && is_word(name, b"~bump") {
         return Command::Actor(ActorCommand::Bump);
     }
-    if words.len() == 1 && name == b"~move".as_slice() {
+    if words.len() == 1 && is_word(name, b"~move") {
         return Command::Actor(ActorCommand::Advance);
     }
-    if words.len() == 3 && name == b"~pull".as_slice() {
+    if words.len() == 3 && is_word(name, b"~pull") {
         let Some(class) = number_u32(word(words, 1)) else {
             return Command::Bad(BadAnswer::BadCommand);
         };
@@ -131,7 +131,7 @@ pub fn actor_command(words: &[&[u8]]) -> Command
         };
         return Command::Actor(ActorCommand::Pull { class, queue });
     }
-    if words.len() == 3 && name == b"~crawl".as_slice() {
+    if words.len() == 3 && is_word(name, b"~crawl") {
         let Some(class) = number_u32(word(words, 1)) else {
             return Command::Bad(BadAnswer::BadCommand);
         };
@@ -140,7 +140,7 @@ pub fn actor_command(words: &[&[u8]]) -> Command
         };
         return Command::Actor(ActorCommand::Crawl { class, queue });
     }
-    if words.len() == 2 && name == b"@".as_slice() {
+    if words.len() == 2 && is_word(name, b"@") {
         let Some(now) = number_u32(word(words, 1)) else {
             return Command::Bad(BadAnswer::BadCommand);
         };

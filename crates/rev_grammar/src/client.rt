@@ -5,7 +5,7 @@ ghost use Rattle.rev_grammar.specs.Keyed.{HasKeys};
 
 use crate::command::{BadAnswer, Command, StorageCommand, UpdateCommand};
 use crate::number::{number, number_u32, signed};
-use crate::words::{are_keys, are_words, word};
+use crate::words::{are_keys, are_words, is_word, word};
 use rev_items::is_key;
 
 /// The storage command of this name, but for `cas`.
@@ -13,15 +13,15 @@ use rev_items::is_key;
 pub fn storage_of(w: &[u8]) -> Option<StorageCommand>
     ensures { result ≡ storage_of w.now }
 {
-    if w == b"set".as_slice() {
+    if is_word(w, b"set") {
         Some(StorageCommand::Set)
-    } else if w == b"add".as_slice() {
+    } else if is_word(w, b"add") {
         Some(StorageCommand::Add)
-    } else if w == b"replace".as_slice() {
+    } else if is_word(w, b"replace") {
         Some(StorageCommand::Replace)
-    } else if w == b"append".as_slice() {
+    } else if is_word(w, b"append") {
         Some(StorageCommand::Append)
-    } else if w == b"prepend".as_slice() {
+    } else if is_word(w, b"prepend") {
         Some(StorageCommand::Prepend)
     } else {
         None
@@ -108,11 +108,11 @@ pub fn delete_command(words: &[&[u8]]) -> Command
     if n < 2 || 4 < n {
         return Command::Bad(BadAnswer::Error);
     }
-    let zero = word(words, 2) == b"0".as_slice();
-    let quiet = word(words, 2) == b"noreply".as_slice();
+    let zero = is_word(word(words, 2), b"0");
+    let quiet = is_word(word(words, 2), b"noreply");
     let right = n == 2
         || (n == 3 && (zero || quiet))
-        || (n == 4 && zero && word(words, 3) == b"noreply".as_slice());
+        || (n == 4 && zero && is_word(word(words, 3), b"noreply"));
     if !right {
         return Command::Bad(BadAnswer::DeleteUsage);
     }
@@ -196,7 +196,7 @@ pub fn flush_command(words: &[&[u8]]) -> Command
             noreply: false,
         };
     }
-    if word(words, 1) == b"noreply".as_slice() {
+    if is_word(word(words, 1), b"noreply") {
         if words.len() == 2 {
             return Command::FlushAll {
                 delay: 0,

@@ -6,7 +6,7 @@ ghost use Rattle.rev_grammar.specs.Keyed.{IsKeyed, HasKeys};
 use crate::actor::queue_of;
 use crate::command::{BadAnswer, BookmarkCommand, Command, DebugCommand, KeyQuery};
 use crate::number::number_u32;
-use crate::words::{is_name, word};
+use crate::words::{is_name, is_word, word};
 use rev_items::is_key;
 
 // A command that stands alone.
@@ -14,19 +14,19 @@ use rev_items::is_key;
 fn bare_debug(w: &[u8]) -> Option<DebugCommand>
     ensures { result ≡ bare_debug w.now }
 {
-    if w == b":at".as_slice() {
+    if is_word(w, b":at") {
         Some(DebugCommand::At)
-    } else if w == b":back".as_slice() {
+    } else if is_word(w, b":back") {
         Some(DebugCommand::Back)
-    } else if w == b":forward".as_slice() {
+    } else if is_word(w, b":forward") {
         Some(DebugCommand::Forward(0))
-    } else if w == b":pages".as_slice() {
+    } else if is_word(w, b":pages") {
         Some(DebugCommand::Pages)
-    } else if w == b":globals".as_slice() {
+    } else if is_word(w, b":globals") {
         Some(DebugCommand::Globals)
-    } else if w == b":tree".as_slice() {
+    } else if is_word(w, b":tree") {
         Some(DebugCommand::Tree)
-    } else if w == b":marks".as_slice() {
+    } else if is_word(w, b":marks") {
         Some(DebugCommand::Marks)
     } else {
         None
@@ -38,13 +38,13 @@ fn bare_debug(w: &[u8]) -> Option<DebugCommand>
 fn query_of(w: &[u8]) -> Option<KeyQuery>
     ensures { result ≡ query_of w.now }
 {
-    if w == b":item".as_slice() {
+    if is_word(w, b":item") {
         Some(KeyQuery::Item)
-    } else if w == b":chunk".as_slice() {
+    } else if is_word(w, b":chunk") {
         Some(KeyQuery::Chunk)
-    } else if w == b":why".as_slice() {
+    } else if is_word(w, b":why") {
         Some(KeyQuery::Why)
-    } else if w == b":story".as_slice() {
+    } else if is_word(w, b":story") {
         Some(KeyQuery::Story)
     } else {
         None
@@ -56,9 +56,9 @@ fn query_of(w: &[u8]) -> Option<KeyQuery>
 fn bookmark_of(w: &[u8]) -> Option<BookmarkCommand>
     ensures { result ≡ bookmark_of w.now }
 {
-    if w == b":mark".as_slice() {
+    if is_word(w, b":mark") {
         Some(BookmarkCommand::Mark)
-    } else if w == b":goto".as_slice() {
+    } else if is_word(w, b":goto") {
         Some(BookmarkCommand::Goto)
     } else {
         None
@@ -70,15 +70,15 @@ fn bookmark_of(w: &[u8]) -> Option<BookmarkCommand>
 fn number_debug(w: &[u8], n: u32) -> Option<DebugCommand>
     ensures { result ≡ number_debug w.now n }
 {
-    if w == b":forward".as_slice() {
+    if is_word(w, b":forward") {
         Some(DebugCommand::Forward(n))
-    } else if w == b":go".as_slice() {
+    } else if is_word(w, b":go") {
         Some(DebugCommand::Go(n))
-    } else if w == b":free".as_slice() {
+    } else if is_word(w, b":free") {
         Some(DebugCommand::Free(n))
-    } else if w == b":counters".as_slice() {
+    } else if is_word(w, b":counters") {
         Some(DebugCommand::Counters(n))
-    } else if w == b":prune".as_slice() {
+    } else if is_word(w, b":prune") {
         Some(DebugCommand::Prune(n))
     } else {
         None
@@ -128,7 +128,7 @@ pub fn debug_command(words: &[&[u8]]) -> Command
     if words.len() == 2 {
         return word_debug(name, word(words, 1));
     }
-    if words.len() == 3 && name == b":queue".as_slice() {
+    if words.len() == 3 && is_word(name, b":queue") {
         let Some(class) = number_u32(word(words, 1)) else {
             return Command::Bad(BadAnswer::BadCommand);
         };

@@ -12,7 +12,7 @@ use crate::client::{
 };
 use crate::command::{BadAnswer, Command};
 use crate::debug::debug_command;
-use crate::words::word;
+use crate::words::{is_word, word};
 
 /// The most bytes of a line that asks for items (this project's own limit).
 const LONGEST_RETRIEVAL: usize = 65536;
@@ -47,16 +47,16 @@ fn memory_command(name: &[u8], words: &[&[u8]]) -> Command
     ensures value { result ≡ memory_command name.now (map (λ x. x.now) words.now) }
     ensures keyed { HasKeys result (map (λ x. x.now) words.now) }
 {
-    if name == b"flush_all".as_slice() {
+    if is_word(name, b"flush_all") {
         return flush_command(words);
     }
-    if name == b"lru_crawler".as_slice() {
+    if is_word(name, b"lru_crawler") {
         return crawler_command(words);
     }
-    if name == b"slabs".as_slice() {
+    if is_word(name, b"slabs") {
         return slabs_command(words);
     }
-    if name == b"lru".as_slice() {
+    if is_word(name, b"lru") {
         return lru_command(words);
     }
     Command::Bad(BadAnswer::Error)
@@ -68,25 +68,25 @@ fn other_command(name: &[u8], words: &[&[u8]]) -> Command
     ensures value { result ≡ other_command name.now (map (λ x. x.now) words.now) }
     ensures keyed { HasKeys result (map (λ x. x.now) words.now) }
 {
-    if name == b"cas".as_slice() {
+    if is_word(name, b"cas") {
         return cas_command(words);
     }
-    if name == b"get".as_slice() {
+    if is_word(name, b"get") {
         return retrieval_command(false, words);
     }
-    if name == b"gets".as_slice() {
+    if is_word(name, b"gets") {
         return retrieval_command(true, words);
     }
-    if name == b"delete".as_slice() {
+    if is_word(name, b"delete") {
         return delete_command(words);
     }
-    if name == b"touch".as_slice() {
+    if is_word(name, b"touch") {
         return touch_command(words);
     }
-    if name == b"incr".as_slice() {
+    if is_word(name, b"incr") {
         return increment_command(words);
     }
-    if name == b"decr".as_slice() {
+    if is_word(name, b"decr") {
         return decrement_command(words);
     }
     memory_command(name, words)
@@ -116,7 +116,7 @@ fn longest(words: &[&[u8]]) -> usize
     ensures least { 2048 ≤ result }
 {
     let name = word(words, 0);
-    if name == b"get".as_slice() || name == b"gets".as_slice() {
+    if is_word(name, b"get") || is_word(name, b"gets") {
         LONGEST_RETRIEVAL
     } else {
         LONGEST_LINE

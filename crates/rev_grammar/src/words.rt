@@ -1,6 +1,7 @@
 //! The words of a line.
 ghost use Rattle.std.specs.Prelude.{◌≡◌, map, length, true, [], IsTrue, ◌≤◌, ◌<◌, ◌+◌, IfOk};
 ghost use Rattle.std.specs.List.{list_all};
+ghost use Rattle.std.specs.Str.{bytes_eq};
 ghost use Rattle.rev_grammar.specs.Words.{words, word, is_name, are_words};
 ghost use Rattle.rev_items.specs.Keys.{is_key};
 
@@ -42,6 +43,17 @@ pub fn word<'a>(words: &[&'a [u8]], i: usize) -> &'a [u8]
     }
 }
 
+/// Whether a word is this one. Two words differ in their first bytes as a rule, and no other is read then (speed, and not promised).
+#[inline(always)]
+pub fn is_word(w: &[u8], name: &[u8]) -> bool
+    ensures { result ≡ bytes_eq w.now name.now }
+{
+    match (w.first(), name.first()) {
+        (Some(first), Some(wanted)) if *first != *wanted => false,
+        _ => w == name,
+    }
+}
+
 /// Whether the word is a bookmark's name: a key of at most 64 bytes.
 pub fn is_name(w: &[u8]) -> bool
     ensures { result ≡ is_name w.now }
@@ -66,5 +78,5 @@ pub fn are_words(n: usize, words: &[&[u8]]) -> bool
     requires { n < 16 }
     ensures { result ≡ are_words n (map (λ x. x.now) words.now) }
 {
-    words.len() == n || (words.len() == n + 1 && word(words, n) == b"noreply".as_slice())
+    words.len() == n || (words.len() == n + 1 && is_word(word(words, n), b"noreply"))
 }

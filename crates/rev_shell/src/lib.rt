@@ -1,9 +1,9 @@
 //! Scripts run against a session: what is written is a function of what is read.
 #![tactic(auto)]
 
-pub mod answer;
+mod answer;
 pub mod asked;
-pub mod bookmarks;
+mod bookmarks;
 mod play;
 mod reasons;
 pub mod run;

@@ -2,12 +2,12 @@
 //! The store stands at the current node; going to another node turns the records in between, and no node holds a copy.
 #![tactic(auto)]
 
-pub mod branch;
-pub mod index;
-pub mod junction;
+mod branch;
+mod index;
+mod junction;
 mod naming;
-pub mod position;
-pub mod run;
+mod position;
+mod run;
 pub mod session;
 
 pub use session::{

@@ -12,4 +12,4 @@ loop-step-preserved g c =
     }
 
 pub returns-in-Err : goal.returns-in-Err
-returns-in-Err g c = search rules
+returns-in-Err g c = search rules steps 4000000

@@ -2,4 +2,4 @@ use Rattle.std.proofs.Common.{rules}
 use Rattle.rev_shell.proofs.reasons.put_why.Goals as goal
 
 pub returns-in-Never : goal.returns-in-Never
-returns-in-Never g c = search rules
+returns-in-Never g c = search rules steps 500000

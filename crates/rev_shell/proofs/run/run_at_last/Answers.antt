@@ -6,4 +6,4 @@ pub returns-in-None-clause-err : goal.returns-in-None-clause-err
 returns-in-None-clause-err g c = nothing_read _ _ _ _ _
 
 pub returns-in-Err-clause-err : goal.returns-in-Err-clause-err
-returns-in-Err-clause-err g c = search rules
+returns-in-Err-clause-err g c = search rules steps 4000000

@@ -8,4 +8,4 @@ returns-in-Some c =
     (refl, (rw (← c.self.view_is) all, search rules, search rules), search rules)
 
 pub returns-in-None : goal.returns-in-None
-returns-in-None c = search rules
+returns-in-None c = search rules steps 4000000

@@ -15,4 +15,4 @@ returns g c =
     depth_counted i.way.items c.as_slice-junction-items.result.now c.loop-junction.junction-index i.here c.loop-junction.depth c.as_slice-junction-items.ensures.value (omega (arith, t)) c.loop-junction.invariant
 
 pub loop-junction-init : goal.loop-junction-init
-loop-junction-init g c = search rules
+loop-junction-init g c = search rules steps 1500000

@@ -144,7 +144,7 @@ invariant_of-self-in-Some g c =
     rw (s, e.1, e.2, e.3) (noted_more _ _ _ _ _ _ _ _ c.self.invariant (c.add.ensures.grows made refl).kept (c.add.ensures.grows made refl).within)
 
 pub invariant_of-self : goal.invariant_of-self
-invariant_of-self g c = search rules
+invariant_of-self g c = search rules steps 4000000
 
 pub returns-then-not-has_room-clause-err : goal.returns-then-not-has_room-clause-err
-returns-then-not-has_room-clause-err g c = search rules
+returns-then-not-has_room-clause-err g c = search rules steps 4000000
