@@ -1,1 +1,9 @@
+pub mod Looking
+pub mod Hitting
+pub mod Finding
+pub mod Placing
+pub mod Numbers
+pub mod Living
+pub mod Rewriting
+pub mod Drafts
 pub mod Flushing

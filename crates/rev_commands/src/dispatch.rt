@@ -7,17 +7,17 @@ ghost use Rattle.rev_model.specs.Causes.{client_removals};
 ghost use Rattle.rev_changes.specs.Telling.{TellsAll};
 ghost use Rattle.rev_requests.specs.Plain.{plain_client, plain_keyed};
 
+use crate::delete::delete;
 use crate::flush::flush_all;
+use crate::get::get;
+use crate::steps::{count, join};
+use crate::store::store_item;
+use crate::touch::touch;
 use rev_inverse::Store;
 use rev_items::Key;
-use rev_lookup::delete::delete;
-use rev_lookup::get::get;
-use rev_lookup::touch::touch;
 use rev_model::Outcome;
 use rev_moves::Record;
 use rev_requests::{ClientStep, KeyCommand};
-use rev_rewriting::{count, join};
-use rev_storage::store::store_item;
 use std::alloc::{AllocError, Allocator};
 
 /// A command on one key that brings no data.

@@ -1,8 +1,23 @@
-//! The commands of clients (protocol.txt).
+//! The commands of clients (protocol.txt): lookups and hits, the storage commands, new data for an item that is there,
+//! and the end of all items.
 #![tactic(auto)]
 
+mod delete;
 mod dispatch;
 mod flush;
+mod fresh;
+mod get;
+mod hit;
+mod look;
+mod number;
+mod place;
+mod plan;
+mod renew;
+mod rewrite;
+mod steps;
+mod store;
+mod touch;
+mod verbs;
 
 pub use dispatch::client;
 pub use flush::flush_all;

@@ -2,6 +2,8 @@
 //! a text whole.
 #![tactic(auto)]
 
+pub mod exchange;
+
 ghost use Rattle.std.specs.Prelude.{◌≡◌, ◌≤◌, ℕ, List, length, IfOk, IfErr, OnErr, OnOk, true, false, Option};
 ghost use Rattle.std.specs.Io.KnownBytes.{Keeps, Appends, WriteAppends};
 ghost use Rattle.rev_output.specs.Sink.{WroteFront};

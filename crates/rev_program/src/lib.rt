@@ -1,5 +1,13 @@
-//! The whole program but for its streams: words, a reader, a writer and a place for messages in, an exit status out.
+//! The whole program but for its streams: words, a reader, a writer and a place for messages in, an exit status out; and
+//! scripts played at once by several actors on one session, with the rows that tell how it went.
 #![tactic(auto)]
 
+mod fault;
+pub mod play;
 pub mod program;
-pub mod stop;
+mod rows;
+mod steps;
+mod stop;
+
+pub use fault::RecordingFault;
+pub use stop::Stop;

@@ -5,14 +5,14 @@ ghost use Rattle.rev_classes.specs.Limits.{IsWithinLimits, fault_of};
 ghost use Rattle.rev_program.specs.Program.{IsStatus};
 ghost use Rattle.rev_program.specs.Stop.{status, stop_of_config};
 
+use crate::play::play_files;
 use crate::stop::Stop;
-use rev_actors::play::play_files;
 use rev_classes::{Config, fault_of};
 use rev_options::{Request, parse_words};
 use rev_output::ToWrite;
+use rev_output::exchange::{Exchange, Incoming, Outgoing};
 use rev_script::source::FromRead;
 use rev_shell::run::{RunFault, run_at_last};
-use rev_streams::{Exchange, Incoming, Outgoing};
 use std::alloc::{Allocator, Global};
 use std::convert::AsStr;
 use std::io::{Read, Write};

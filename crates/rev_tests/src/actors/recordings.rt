@@ -1,7 +1,7 @@
 //! Files in memory, played at once.
 use crate::actors::streams::{File, Full, Lines};
-use rev_actors::play::play_files;
 use rev_classes::{Config, fault_of};
+use rev_program::play::play_files;
 use std::io::{Read, Write};
 use std::process::Abort;
 use std::sync::Wait;

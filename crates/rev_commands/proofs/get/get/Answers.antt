@@ -1,0 +1,12 @@
+use Rattle.std.specs.Prelude.{length}
+use Rattle.std.proofs.Common.{ap, arith}
+use Rattle.rev_model.specs.Undo.{leads_none}
+use Rattle.rev_moves.specs.Record.{PlainRecord}
+use Rattle.rev_commands.proofs.Hitting.{access_most}
+use Rattle.rev_commands.proofs.get.get.Goals as goal
+
+pub returns-clause-leads : goal.returns-clause-leads
+returns-clause-leads g c = c.get_in-outcome.ensures.leads c.args.store.now (rw c.in_ok-undo.ensures (leads_none c.args.store.now))
+
+pub returns-clause-few : goal.returns-clause-few
+returns-clause-few g c = omega (arith, c.get_in-outcome.ensures.made, access_most 0 c.args.store.now c.args.key.now, ap (λ (r : PlainRecord). length r.moves) c.in_ok-undo.ensures)

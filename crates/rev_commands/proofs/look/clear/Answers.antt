@@ -1,0 +1,30 @@
+use Rattle.std.proofs.Common.{sym, ◌∙◌, subst}
+use Rattle.rev_commands.specs.Looking.{found, missed}
+use Rattle.rev_changes.specs.Telling.{Tells, tells_then, append_nil}
+use Rattle.rev_model.specs.Causes.{look_removals}
+use Rattle.rev_commands.proofs.Leaving.{cleared_by, there, found_clear, missed_clear}
+use Rattle.rev_commands.proofs.look.clear.Goals as goal
+
+pub remove-requires-clause-item : goal.remove-requires-clause-item
+remove-requires-clause-item g c =
+    let l = found c.args.store.now c.args.key.now c.in-Some.chunk (sym c.lookup.ensures.found ∙ c.in-Some.is) in
+    (l.item, there c.args.store.now c.lookup.new.store c.args.store.now c.args.key.now c.in-Some.chunk l c.lookup.ensures.state)
+
+pub returns-in-Some-clause-state : goal.returns-in-Some-clause-state
+returns-in-Some-clause-state g c =
+    let l = found c.args.store.now c.args.key.now c.in-Some.chunk (sym c.lookup.ensures.found ∙ c.in-Some.is) in
+    cleared_by c.args.store.now c.lookup.new.store c.remove.new.store c.args.key.now c.in-Some.chunk l c.lookup.ensures.state c.remove.ensures.state
+
+pub returns-in-Some-clause-leads : goal.returns-in-Some-clause-leads
+returns-in-Some-clause-leads g c = λ first l. c.remove.ensures.leads first (c.lookup.ensures.leads first l)
+
+pub returns-in-Some-clause-told : goal.returns-in-Some-clause-told
+returns-in-Some-clause-told g c =
+    let l = found c.args.store.now c.args.key.now c.in-Some.chunk (sym c.lookup.ensures.found ∙ c.in-Some.is) in
+    subst (Tells c.args.undo.now c.args.store.now c.remove.new.undo c.remove.new.store) (found_clear c.args.cause c.args.store.now c.lookup.new.store c.args.key.now c.in-Some.chunk l c.lookup.ensures.state)
+    (tells_then _ _ _ _ _ _ _ _ c.lookup.ensures.told c.remove.ensures.told)
+
+pub returns-in-None-clause-told : goal.returns-in-None-clause-told
+returns-in-None-clause-told g c =
+    subst (Tells c.args.undo.now c.args.store.now c.lookup.new.undo c.lookup.new.store) (sym (append_nil (look_removals c.args.store.now c.args.key.now)) ∙ missed_clear c.args.cause c.args.store.now c.args.key.now (missed c.args.store.now c.args.key.now (sym c.in-None.is ∙ c.lookup.ensures.found)))
+    c.lookup.ensures.told

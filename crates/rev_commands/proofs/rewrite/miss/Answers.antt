@@ -1,0 +1,21 @@
+use Rattle.std.specs.Prelude.{length}
+use Rattle.std.proofs.Common.{ap, arith, rules}
+use Rattle.rev_model.specs.State.{find}
+use Rattle.rev_model.specs.Undo.{leads_none}
+use Rattle.rev_moves.specs.Record.{PlainRecord}
+use Rattle.rev_commands.specs.Looking.{look_most, removal_most}
+use Rattle.rev_commands.proofs.rewrite.miss.Goals as goal
+
+pub lookup-found-requires-clause-room : goal.lookup-found-requires-clause-room
+lookup-found-requires-clause-room g c =
+    omega (arith, look_most c.args.store.now c.args.key.now, c.removal_moves.ensures, ap (λ (r : PlainRecord). length r.moves) c.in_ok-undo.ensures, ap (λ (r : PlainRecord). r.room) c.in_ok-undo.ensures)
+
+pub returns-clause-leads : goal.returns-clause-leads
+returns-clause-leads g c = c.lookup-found.ensures.leads c.args.store.now (rw c.in_ok-undo.ensures (leads_none c.args.store.now))
+
+pub returns-clause-few : goal.returns-clause-few
+returns-clause-few g c =
+    omega (arith, c.lookup-found.ensures.made, look_most c.args.store.now c.args.key.now, removal_most (find c.args.store.now c.args.key.now), ap (λ (r : PlainRecord). length r.moves) c.in_ok-undo.ensures)
+
+pub returns-clause-sound : goal.returns-clause-sound
+returns-clause-sound g c = search rules

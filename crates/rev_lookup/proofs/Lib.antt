@@ -1,2 +1,0 @@
-mod Hitting
-mod Leaving

@@ -1,0 +1,94 @@
+//! Why a recording ends without rows, in the words and statuses that its user sees.
+ghost use Rattle.std.specs.Prelude.{◌≡◌, ◌≢◌, OnOk, IsErr, Some, MatchResult};
+ghost use Rattle.std.specs.Io.KnownBytes.{Appends, Keeps};
+ghost use Rattle.rev_program.specs.Fault.{status, text, IsStatus, fault_of};
+
+use crate::steps::ScriptFault;
+use std::io::Write;
+use std::{fmt, io};
+
+/// Why a recording ends without rows.
+#[derive(Debug, Drop)]
+pub enum RecordingFault {
+    /// The file's first line that makes no step, counted from 1.
+    NotAStep { file: String, line: u64 },
+    CannotRead { file: String },
+    /// A file has more bytes than a script may have.
+    TooLong,
+    Memory,
+    CannotWrite,
+    /// What the actors were answered is not what the log says.
+    LogDiffers,
+}
+
+impl RecordingFault {
+    /// What a script's fault is for a file of this name.
+    pub fn of(fault: ScriptFault, file: String) -> RecordingFault
+        ensures { result ≡ fault_of fault file }
+    {
+        match fault {
+            ScriptFault::NotAStep { line } => RecordingFault::NotAStep { file, line },
+            ScriptFault::Memory => RecordingFault::Memory,
+            ScriptFault::Read => RecordingFault::CannotRead { file },
+            ScriptFault::TooLong => RecordingFault::TooLong,
+        }
+    }
+
+    /// The status that the program ends with: 3 for memory, 4 for input or output, 5 for a line that is not a step, 6 where
+    /// the log differs (this project's own numbers).
+    pub fn status(&self) -> u8
+        ensures status { result ≡ status self.now }
+        ensures some { result ≢ 0 }
+    {
+        match self {
+            RecordingFault::NotAStep { .. } => 5,
+            RecordingFault::CannotRead { .. } => 4,
+            RecordingFault::TooLong => 4,
+            RecordingFault::Memory => 3,
+            RecordingFault::CannotWrite => 4,
+            RecordingFault::LogDiffers => 6,
+        }
+    }
+
+    /// Writes what the user is told.
+    pub fn tell<E: Write>(&self, errors: &mut E) -> io::Result<()>
+        ensures { OnOk result (Appends (E.contents errors.old) (E.contents errors.new) (text self.now)) }
+    {
+        write!(errors, "{self}")
+    }
+}
+
+impl fmt::Display for RecordingFault {
+    ghost output = { λ s. Some (text s) };
+
+    fn fmt<W: fmt::Write>(&self, f: &mut fmt::Formatter<W>) -> fmt::Result {
+        match self {
+            RecordingFault::NotAStep { file, line } => {
+                write!(f, "lrudb: {file}: line ")?;
+                write!(f, "{line}: not a step\n")
+            }
+            RecordingFault::CannotRead { file } => write!(f, "lrudb: {file}: cannot read\n"),
+            RecordingFault::TooLong => f.write_str("lrudb: input too long\n"),
+            RecordingFault::Memory => f.write_str("lrudb: out of memory\n"),
+            RecordingFault::CannotWrite => f.write_str("lrudb: cannot write\n"),
+            RecordingFault::LogDiffers => f.write_str("lrudb: log differs\n"),
+        }
+    }
+}
+
+/// The status of a recording that ended so. Where it has no rows its user is told why, and else nothing is told.
+pub fn ended<E: Write>(done: Result<(), RecordingFault>, errors: &mut E) -> u8
+    ensures status { MatchResult done (λ _. result ≡ 0) (λ fault. result ≡ status fault) }
+    ensures zero { IsErr done → result ≢ 0 }
+    ensures range { IsStatus result }
+    ensures quiet { result ≡ 0 → Keeps (E.contents errors.old) (E.contents errors.new) }
+{
+    match done {
+        Ok(()) => 0,
+        Err(fault) => {
+            // There is nobody left to tell that this cannot be written.
+            let _ = fault.tell(errors);
+            fault.status()
+        }
+    }
+}

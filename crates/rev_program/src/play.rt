@@ -1,0 +1,270 @@
+//! The files' steps, played at once.
+ghost use Rattle.std.specs.Prelude.{[], ◌≡◌, ◌≢◌, ◌≤◌, ◌++◌, length, map, All, IfOk, IfErr, OnOk};
+ghost use Rattle.std.specs.List.{zip};
+ghost use Rattle.std.specs.Io.KnownBytes.{Appends, Keeps};
+ghost use Rattle.rev_classes.specs.Limits.{IsWithinLimits};
+ghost use Rattle.rev_requests.specs.Plain.{plain_step};
+ghost use Rattle.rev_recorder.specs.Hands.{Settles};
+ghost use Rattle.rev_recorder.specs.Settling.{AreNew, IsLegalLog};
+ghost use Rattle.rev_program.specs.Fault.{IsStatus, status};
+ghost use Rattle.rev_program.specs.Rows.{ends_text, IsEnd};
+ghost use Rattle.rev_program.specs.Recordings.{IsScript, AreScripts, Spoils, IsSpoilt, EndedBy, IsOfPlay, IsOfPrint, HaveRun, IsPlayed, IsRecorded, recording_text};
+ghost use Rattle.rev_program.specs.declared.fault.RecordingFault.{RecordingFault};
+
+use crate::fault::{RecordingFault, ended};
+use crate::rows::{put_end, text_of};
+use crate::steps::read_steps;
+use rev_classes::Config;
+use rev_recorder::{Gate, Hand, RecordFault, Recorder, Settled, run_actors};
+use rev_requests::Step;
+use rev_script::source::FromRead;
+use rev_shell::run::open_session;
+use std::alloc::{AllocError, Global};
+use std::collections::VecDeque;
+use std::io::{Read, Write};
+use std::mem::ManuallyDrop;
+use std::sync::Wait;
+use std::thread::Threads;
+
+// The one recorder of the program needs no seal of its own.
+const SEAL: u64 = 1;
+
+/// A gate that lets every actor pass at once.
+#[derive(Clone, Copy)]
+struct Open;
+
+impl Gate for Open {
+    fn before(&self, _actor: usize, _index: usize) {}
+
+    fn after(&self, _actor: usize, _index: usize) {}
+}
+
+// A recording that is over, with the lines of the actors that a limit stopped.
+#[derive(Drop)]
+struct Played {
+    settled: Settled,
+    stopped: Vec<u8>,
+}
+
+// The steps of one file.
+fn read_file<F: Read + Drop>(
+    alloc: Global,
+    name: String,
+    reader: F,
+) -> Result<Vec<Step<Global>>, RecordingFault>
+    ensures ok { IfOk result (λ steps. IsScript (F.remaining reader) (map plain_step steps.items)) }
+    ensures err { IfErr result (λ e. Spoils (F.remaining reader) name e) }
+{
+    let mut source = FromRead::new(reader);
+    match read_steps(alloc, &mut source) {
+        Ok(steps) => Ok(steps),
+        Err(fault) => Err(RecordingFault::of(fault, name)),
+    }
+}
+
+// The steps of each file, in the order of the files. The first fault ends it.
+fn read_files<F: Read + Drop>(
+    alloc: Global,
+    files: Vec<(String, F)>,
+) -> Result<Vec<Vec<Step<Global>>>, RecordingFault>
+    ensures count { IfOk result (λ scripts. length scripts.items ≡ length files.items) }
+    ensures steps { IfOk result (λ scripts. AreScripts F.remaining files.items scripts.items) }
+    ensures err { IfErr result (λ e. IsSpoilt F.remaining files.items e) }
+{
+    let mut scripts = Vec::new(alloc);
+    let mut rest = VecDeque::from_vec(files);
+    while let Some((name, reader)) = rest.pop_front() {
+        let steps = read_file(alloc, name, reader)?;
+        if scripts.push(steps).is_err() {
+            return Err(RecordingFault::Memory);
+        }
+    }
+    Ok(scripts)
+}
+
+// A recorder of an empty store, with a hand for each actor.
+fn open_recorder(
+    alloc: Global,
+    config: &Config,
+    actors: usize,
+) -> Result<(Recorder, Vec<Hand>), RecordingFault>
+    requires actors { (1 ≤ actors) × (actors ≤ 8) }
+    requires limits { IsWithinLimits config.now }
+    ensures ok { IfOk result (λ r. (r.0.seal ≡ 1) × AreNew 1 actors r.1.items) }
+    ensures err { IfErr result (λ e. IsOfPlay e) }
+{
+    let Some(session) = open_session(&alloc, config) else {
+        return Err(RecordingFault::Memory);
+    };
+    match Recorder::open(alloc, session, actors, SEAL) {
+        Ok(opened) => Ok(opened),
+        Err(refused) => {
+            drop(refused);
+            Err(RecordingFault::Memory)
+        }
+    }
+}
+
+// Each hand with its steps.
+fn paired(
+    alloc: Global,
+    hands: Vec<Hand>,
+    scripts: Vec<Vec<Step<Global>>>,
+) -> Result<Vec<(Hand, Vec<Step<Global>>)>, AllocError>
+    ensures { IfOk result (λ work. work.items ≡ zip hands.items scripts.items) }
+{
+    let mut work = Vec::new(alloc);
+    let mut scripts = VecDeque::from_vec(scripts);
+    for hand in hands {
+        let Some(steps) = scripts.pop_front() else {
+            break;
+        };
+        work.push((hand, steps))?;
+    }
+    Ok(work)
+}
+
+// The hands again, with a line for each actor that a limit stopped.
+fn parted(
+    alloc: Global,
+    done: Vec<(Hand, Result<(), RecordFault>)>,
+    stopped: &mut Vec<u8>,
+) -> Result<Vec<Hand>, RecordingFault>
+    ensures lines { OnOk result (stopped.new.items ≡ stopped.old.items ++ ends_text done.items) }
+    ensures ends { OnOk result (All (λ d. IsEnd d.1) done.items) }
+    ensures hands { IfOk result (λ hands. hands.items ≡ map (λ d. d.0) done.items) }
+    ensures err { IfErr result (λ e. IsOfPlay e) }
+{
+    let mut hands = Vec::new(alloc);
+    let mut rest = VecDeque::from_vec(done);
+    while let Some((hand, end)) = rest.pop_front() {
+        put_end(stopped, hand.actor() as u64, end)?;
+        if hands.push(hand).is_err() {
+            return Err(RecordingFault::Memory);
+        }
+    }
+    Ok(hands)
+}
+
+// Plays each hand's steps, on as many threads as there are hands.
+fn run_hands<R: Threads + Wait + Sync>(
+    rt: &R,
+    recorder: &Recorder,
+    hands: Vec<Hand>,
+    scripts: Vec<Vec<Step<Global>>>,
+    stopped: &mut Vec<u8>,
+) -> Result<Vec<Hand>, RecordingFault>
+    requires { stopped.old.items ≡ [] }
+    ensures ok { IfOk result (λ back. HaveRun recorder.now.seal hands.items scripts.items back.items stopped.new.items) }
+    ensures err { IfErr result (λ e. IsOfPlay e) }
+{
+    let alloc = *stopped.allocator();
+    let Ok(work) = paired(alloc, hands, scripts) else {
+        return Err(RecordingFault::Memory);
+    };
+    match run_actors(rt, recorder, work, &Open) {
+        Ok(done) => parted(alloc, done, stopped),
+        Err(_) => Err(RecordingFault::Memory),
+    }
+}
+
+// The log and the session, where the hands agree with them.
+fn settled(recorder: Recorder, hands: Vec<Hand>, stopped: Vec<u8>) -> Result<Played, RecordingFault>
+    ensures ok { IfOk result (λ played. (played.stopped ≡ stopped) × IsLegalLog played.settled.log.items played.settled.session × Settles hands.items played.settled.log.items played.settled.session) }
+    ensures err { IfErr result (λ e. IsOfPlay e) }
+{
+    match recorder.settle(hands) {
+        Ok(settled) => Ok(Played { settled, stopped }),
+        Err(fault) => {
+            drop(fault);
+            Err(RecordingFault::LogDiffers)
+        }
+    }
+}
+
+// Plays the scripts, each an actor's, on an empty store.
+fn play_scripts<R: Threads + Wait + Sync>(
+    rt: &R,
+    alloc: Global,
+    config: &Config,
+    scripts: Vec<Vec<Step<Global>>>,
+) -> Result<Played, RecordingFault>
+    requires actors { (1 ≤ length scripts.items) × (length scripts.items ≤ 8) }
+    requires limits { IsWithinLimits config.now }
+    ensures ok { IfOk result (λ played. IsPlayed scripts.items played.settled.log.items played.settled.session played.stopped.items) }
+    ensures err { IfErr result (λ e. IsOfPlay e) }
+{
+    let (recorder, hands) = match open_recorder(alloc, config, scripts.len()) {
+        Ok(opened) => opened,
+        Err(fault) => return Err(fault),
+    };
+    let mut stopped = Vec::new(alloc);
+    match run_hands(rt, &recorder, hands, scripts, &mut stopped) {
+        Ok(hands) => settled(recorder, hands, stopped),
+        Err(fault) => Err(fault),
+    }
+}
+
+// Writes all that a recording prints, in one piece.
+fn print<W: Write>(played: Played, writer: &mut W) -> Result<(), RecordingFault>
+    ensures ok { OnOk result (Appends (W.contents writer.old) (W.contents writer.new) (recording_text played.settled.log.items played.settled.session played.stopped.items)) }
+    ensures err { IfErr result (λ e. IsOfPrint e × (status e ≢ 4 → Keeps (W.contents writer.old) (W.contents writer.new))) }
+{
+    let Played { settled, stopped } = played;
+    let text = text_of(settled.log.as_slice(), &settled.session, stopped);
+    // The program ends with the recording, and all memory goes back at once: nothing is gained by taking the tree apart.
+    let _settled = ManuallyDrop::new(settled);
+    let Ok(text) = text else {
+        return Err(RecordingFault::Memory);
+    };
+    if writer.write_all(text.as_slice()).is_err() {
+        return Err(RecordingFault::CannotWrite);
+    }
+    match writer.flush() {
+        Ok(()) => Ok(()),
+        Err(_) => Err(RecordingFault::CannotWrite),
+    }
+}
+
+// Reads all files, plays their steps, and prints how it went.
+fn record<R: Threads + Wait + Sync + AllocGlobal, F: Read + Drop, W: Write>(
+    rt: &R,
+    config: &Config,
+    files: Vec<(String, F)>,
+    writer: &mut W,
+) -> Result<(), RecordingFault>
+    requires count { (1 ≤ length files.items) × (length files.items ≤ 8) }
+    requires limits { IsWithinLimits config.now }
+    ensures ok { OnOk result (IsRecorded F.remaining files.items (W.contents writer.old) (W.contents writer.new)) }
+    ensures err { IfErr result (λ e. status e ≢ 4 → Keeps (W.contents writer.old) (W.contents writer.new)) }
+    ensures why { IfErr result (λ e. EndedBy F.remaining files.items e) }
+{
+    let scripts = read_files(rt.alloc(), files)?;
+    let played = play_scripts(rt, rt.alloc(), config, scripts)?;
+    match print(played, writer) {
+        Ok(()) => Ok(()),
+        Err(fault) => Err(fault),
+    }
+}
+
+/// `lrudb record` once its files are open, each a name and a reader: reads them in order and line by line, plays them at
+/// once, the i-th file from 0 as actor i, and writes the rows to `writer`. A file that is not steps from its first line to
+/// its last ends it before anything is played. Answers the exit status, 0, 3, 4, 5 or 6; what the user is told goes to
+/// `errors`, and nothing is told at status 0. Threads may wait for one another.
+pub fn play_files<R: Threads + Wait + Sync + AllocGlobal, F: Read + Drop, W: Write, E: Write>(
+    rt: &R,
+    config: &Config,
+    files: Vec<(String, F)>,
+    writer: &mut W,
+    errors: &mut E,
+) -> u8
+    requires count { (1 ≤ length files.items) × (length files.items ≤ 8) }
+    requires limits { IsWithinLimits config.now }
+    ensures status { IsStatus result }
+    ensures rows { result ≡ 0 → IsRecorded F.remaining files.items (W.contents writer.old) (W.contents writer.new) }
+    ensures why { result ≢ 0 → (e : RecordingFault) × (result ≡ status e) × EndedBy F.remaining files.items e }
+    ensures none { result ≢ 0 → result ≢ 4 → Keeps (W.contents writer.old) (W.contents writer.new) }
+    ensures quiet { result ≡ 0 → Keeps (E.contents errors.old) (E.contents errors.new) }
+{
+    ended(record(rt, config, files, writer), errors)
+}

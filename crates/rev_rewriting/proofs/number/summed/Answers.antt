@@ -1,5 +1,0 @@
-use Rattle.std.proofs.Common.{rules}
-use Rattle.rev_rewriting.proofs.number.summed.Goals as goal
-
-pub returns-in-Decrement : goal.returns-in-Decrement
-returns-in-Decrement c = search rules

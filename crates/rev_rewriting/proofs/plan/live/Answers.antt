@@ -1,5 +1,0 @@
-use Rattle.std.proofs.Common.{rules}
-use Rattle.rev_rewriting.proofs.plan.live.Goals as goal
-
-pub returns : goal.returns
-returns g c = search rules

@@ -1,4 +1,0 @@
-pub mod Numbers
-pub mod Living
-pub mod Rewriting
-pub mod Drafts

@@ -1,3 +1,0 @@
-mod Holding
-mod Settling
-mod Sizes

@@ -1,5 +1,0 @@
-use Rattle.std.proofs.Common.{rules}
-use Rattle.rev_storage.proofs.verbs.refusal.Goals as goal
-
-pub returns-in-Add : goal.returns-in-Add
-returns-in-Add g c = search rules steps 1500000
