@@ -1,13 +1,13 @@
 -- The lines of bytes, one after another.
 use Rattle.std.proofs.Common.{◌≡◌, ℕ, zero, suc, ◌<◌, ◌≤◌, true, false, ◌&&◌, nat_le, List, [], ◌∷◌, ◌++◌, length, drop, refl, sym, ◌∙◌, ap, append_assoc, append-nil, arith, length-append, length-drop, count_by}
 use Rattle.std.specs.Io.BufRead.{strip_last}
-use Rattle.rev_grammar.specs.Words.{words}
-use Rattle.rev_grammar.specs.Commands.{asked}
+use Rattle.rev_script.specs.Words.{words}
+use Rattle.rev_script.specs.Commands.{asked}
 use Rattle.rev_script.specs.Script.{before_lf, after_lf, has_lf, ScriptLine, cut_of, line_of, block_size, first, behind, cuts_up_to, cuts, whole_lines, IsWhole, IsLast}
 use Rattle.std.proofs.Common.{take_all}
 use Rattle.std.proofs.lemmas.List.{nil_from_length}
 use Rattle.std.proofs.lemmas.Bool.{le-leb, lt-leb}
-use Rattle.rev_grammar.specs.declared.command.Command.{Command}
+use Rattle.rev_script.specs.declared.command.Command.{Command}
 use Rattle.rev_script.proofs.Front.{take_front, drop_front}
 use Rattle.rev_script.proofs.Text.{has_lf-append, before_lf-append, after_lf-append, length-after_lf-cons}
 

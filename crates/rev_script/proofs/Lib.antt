@@ -1,3 +1,6 @@
+pub mod Numbers
+pub mod Places
+mod Extending
 pub mod Known
 pub mod Front
 pub mod Text

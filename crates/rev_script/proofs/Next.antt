@@ -9,9 +9,9 @@ use Rattle.rev_script.specs.DataBlock.{IsBroken}
 use Rattle.std.specs.Str.{bytes_eq}
 use Rattle.std.proofs.Common.{length-drop, length-take, lit≤, codes}
 use Rattle.std.specs.Io.BufRead.{ends_with_byte}
-use Rattle.rev_grammar.specs.Commands.{command, asked, longest}
-use Rattle.rev_grammar.specs.Words.{words, word}
-use Rattle.rev_grammar.specs.declared.command.StorageCommand.{StorageCommand}
+use Rattle.rev_script.specs.Commands.{command, asked, longest}
+use Rattle.rev_script.specs.Words.{words, word}
+use Rattle.rev_script.specs.declared.command.StorageCommand.{StorageCommand}
 use Rattle.std.proofs.Common.{ℤ, ◌||◌}
 use Rattle.rev_script.specs.Script.{StorageLine, payload_of, has_lf, ScriptLine, BadLine, line_of, storage_line_of, block_size, IsWhole, IsLast}
 use Rattle.rev_script.specs.Line.{IsNext, IsFault, IsStorageLine}
@@ -20,8 +20,8 @@ use Rattle.rev_script.specs.declared.byte_reader.ByteReader.{ByteReader}
 use Rattle.rev_script.specs.declared.byte_reader.LineFault.{LineFault}
 use Rattle.rev_script.specs.declared.byte_reader.LineFault.TheVariants as faults
 use Rattle.rev_script.specs.declared.raw_line.RawLine.{RawLine}
-use Rattle.rev_grammar.specs.declared.command.Command.TheVariants.{Storage, Bad}
-use Rattle.rev_grammar.specs.declared.command.BadAnswer.TheVariants.{LineTooLong, BadChunk}
+use Rattle.rev_script.specs.declared.command.Command.TheVariants.{Storage, Bad}
+use Rattle.rev_script.specs.declared.command.BadAnswer.TheVariants.{LineTooLong, BadChunk}
 use Rattle.rev_script.proofs.Known.{Took-then}
 use Rattle.rev_script.proofs.Cuts.{whole_block, last_block, last_text, none_whole, none_whole-text}
 

@@ -1,3 +1,7 @@
+pub mod Number
+pub mod Words
+pub mod Commands
+pub mod Keyed
 pub mod Source
 pub mod ByteReader
 pub mod Script

@@ -1,10 +1,10 @@
 -- What a contract sees of a line of the code.
 use Rattle.std.specs.Prelude.{ℤ, ◌≡◌, ◌≢◌, ◌⊎◌, ◌<◌, ◌+◌, ℕ, Bool, length, List, [], Option, None, Some}
 use Rattle.rev_requests.specs.Plain.{plain_payload}
-use Rattle.rev_grammar.specs.Words.{word}
-use Rattle.rev_grammar.specs.declared.command.StorageCommand.{StorageCommand}
-use Rattle.rev_grammar.specs.declared.command.Command.{Command}
-use Rattle.rev_grammar.specs.declared.command.Command.TheVariants as commands
+use Rattle.rev_script.specs.Words.{word}
+use Rattle.rev_script.specs.declared.command.StorageCommand.{StorageCommand}
+use Rattle.rev_script.specs.declared.command.Command.{Command}
+use Rattle.rev_script.specs.declared.command.Command.TheVariants as commands
 use Rattle.rev_script.specs.ByteReader.{Took, AtEnd, StoppedBy}
 use Rattle.rev_script.specs.Script.{ScriptLine, StorageLine, RetrievalLine, UpdateLine, FlushLine, ActorLine, ClockLine, DebugLine, QueryLine, BookmarkLine, BadLine, line_of, storage_line_of, block_size, whole_lines, IsWhole, IsLast}
 use Rattle.rev_script.specs.Source.{Told}

@@ -3,18 +3,18 @@ use Rattle.std.specs.Prelude.{◌≡◌, ℕ, ℤ, zero, suc, ◌+◌, ◌==◌,
 use Rattle.std.specs.Str.{bytes_eq}
 use Rattle.std.specs.Io.BufRead.{strip_last}
 use Rattle.rev_model.specs.Client.{Payload, Bytes, Skipped}
-use Rattle.rev_grammar.specs.Words.{words, word}
-use Rattle.rev_grammar.specs.Commands.{asked}
-use Rattle.rev_grammar.specs.declared.command.BadAnswer.{BadAnswer}
-use Rattle.rev_grammar.specs.declared.command.BadAnswer.TheVariants.{BadChunk}
-use Rattle.rev_grammar.specs.declared.command.StorageCommand.{StorageCommand}
-use Rattle.rev_grammar.specs.declared.command.UpdateCommand.{UpdateCommand}
-use Rattle.rev_grammar.specs.declared.command.ActorCommand.{ActorCommand}
-use Rattle.rev_grammar.specs.declared.command.DebugCommand.{DebugCommand}
-use Rattle.rev_grammar.specs.declared.command.KeyQuery.{KeyQuery}
-use Rattle.rev_grammar.specs.declared.command.BookmarkCommand.{BookmarkCommand}
-use Rattle.rev_grammar.specs.declared.command.Command.{Command}
-use Rattle.rev_grammar.specs.declared.command.Command.TheVariants.{Storage, Retrieval, Update, FlushAll, Actor, Clock, Debug, Query, Bookmark, Bad}
+use Rattle.rev_script.specs.Words.{words, word}
+use Rattle.rev_script.specs.Commands.{asked}
+use Rattle.rev_script.specs.declared.command.BadAnswer.{BadAnswer}
+use Rattle.rev_script.specs.declared.command.BadAnswer.TheVariants.{BadChunk}
+use Rattle.rev_script.specs.declared.command.StorageCommand.{StorageCommand}
+use Rattle.rev_script.specs.declared.command.UpdateCommand.{UpdateCommand}
+use Rattle.rev_script.specs.declared.command.ActorCommand.{ActorCommand}
+use Rattle.rev_script.specs.declared.command.DebugCommand.{DebugCommand}
+use Rattle.rev_script.specs.declared.command.KeyQuery.{KeyQuery}
+use Rattle.rev_script.specs.declared.command.BookmarkCommand.{BookmarkCommand}
+use Rattle.rev_script.specs.declared.command.Command.{Command}
+use Rattle.rev_script.specs.declared.command.Command.TheVariants.{Storage, Retrieval, Update, FlushAll, Actor, Clock, Debug, Query, Bookmark, Bad}
 
 -- ---- lines of bytes
 

@@ -1,6 +1,6 @@
 //! A line of a script, with all that belongs to it.
 
-use rev_grammar::command::{
+use crate::command::{
     ActorCommand, BadAnswer, BookmarkCommand, DebugCommand, KeyQuery, StorageCommand, UpdateCommand,
 };
 use rev_items::Key;

@@ -10,12 +10,12 @@ use Rattle.rev_undotree.specs.Steps.{outcome_of}
 use Rattle.rev_undotree.specs.Rows.{at, row, parent_of}
 use Rattle.rev_undotree.specs.Machine.{is_continued, nesting_below}
 use Rattle.rev_undotree.specs.Positions.{SessionState}
-use Rattle.rev_grammar.specs.declared.command.DebugCommand.{DebugCommand}
-use Rattle.rev_grammar.specs.declared.command.DebugCommand.TheVariants as debugs
-use Rattle.rev_grammar.specs.declared.command.KeyQuery.{KeyQuery}
-use Rattle.rev_grammar.specs.declared.command.KeyQuery.TheVariants as queries
-use Rattle.rev_grammar.specs.declared.command.BookmarkCommand.{BookmarkCommand}
-use Rattle.rev_grammar.specs.declared.command.BookmarkCommand.TheVariants as bookmarks
+use Rattle.rev_script.specs.declared.command.DebugCommand.{DebugCommand}
+use Rattle.rev_script.specs.declared.command.DebugCommand.TheVariants as debugs
+use Rattle.rev_script.specs.declared.command.KeyQuery.{KeyQuery}
+use Rattle.rev_script.specs.declared.command.KeyQuery.TheVariants as queries
+use Rattle.rev_script.specs.declared.command.BookmarkCommand.{BookmarkCommand}
+use Rattle.rev_script.specs.declared.command.BookmarkCommand.TheVariants as bookmarks
 use Rattle.rev_script.specs.Script.{ScriptLine, StorageLine, RetrievalLine, UpdateLine, FlushLine, ActorLine, ClockLine, DebugLine, QueryLine, BookmarkLine, BadLine}
 use Rattle.rev_shell.specs.Texts.{output, bad_text, outcome_text, found_value, item_of, found_text, place_text, entries_text, chunks_text, pages_text, counters_text, globals_text, node_text, parent_text}
 use Rattle.rev_shell.specs.Trees.{gone_to, child_at, child_text, go_text, gone, prune_text, after_prune, tree_text}

@@ -2,12 +2,12 @@
 use Rattle.std.specs.Prelude.{ℕ, ℤ, List, Some}
 use Rattle.rev_model.specs.Client.{ClientStep, Payload, Stores, Joins, Deletes, Touches, Flushes, Counts, Sets, Adds, Replaces, Cases, Appends, Prepends, Increases, Decreases}
 use Rattle.rev_model.specs.Actor.{Step, Client, Pull, Bump, CrawlStart, Crawl, Schedule, Advance, Tune, TempTtl}
-use Rattle.rev_grammar.specs.declared.command.StorageCommand.{StorageCommand}
-use Rattle.rev_grammar.specs.declared.command.StorageCommand.TheVariants as storages
-use Rattle.rev_grammar.specs.declared.command.UpdateCommand.{UpdateCommand}
-use Rattle.rev_grammar.specs.declared.command.UpdateCommand.TheVariants as updates
-use Rattle.rev_grammar.specs.declared.command.ActorCommand.{ActorCommand}
-use Rattle.rev_grammar.specs.declared.command.ActorCommand.TheVariants as actors
+use Rattle.rev_script.specs.declared.command.StorageCommand.{StorageCommand}
+use Rattle.rev_script.specs.declared.command.StorageCommand.TheVariants as storages
+use Rattle.rev_script.specs.declared.command.UpdateCommand.{UpdateCommand}
+use Rattle.rev_script.specs.declared.command.UpdateCommand.TheVariants as updates
+use Rattle.rev_script.specs.declared.command.ActorCommand.{ActorCommand}
+use Rattle.rev_script.specs.declared.command.ActorCommand.TheVariants as actors
 
 -- `append` and `prepend` keep the item's flags and moment, whatever their line says
 abbrev pub stored : StorageCommand → List ℕ → ℕ → ℤ → Payload → ClientStep

@@ -15,8 +15,8 @@ use Rattle.rev_model.specs.declared.Mover.{Mover}
 use Rattle.rev_model.specs.declared.Globals.{Globals}
 use Rattle.rev_model.specs.declared.Outcome.{Outcome}
 use Rattle.rev_model.specs.declared.Outcome.TheVariants as outcomes
-use Rattle.rev_grammar.specs.declared.command.BadAnswer.{BadAnswer}
-use Rattle.rev_grammar.specs.declared.command.BadAnswer.TheVariants as bad
+use Rattle.rev_script.specs.declared.command.BadAnswer.{BadAnswer}
+use Rattle.rev_script.specs.declared.command.BadAnswer.TheVariants as bad
 
 -- each line of output ends with CR LF
 abbrev pub output : List ℕ → List ℕ

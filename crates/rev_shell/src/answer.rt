@@ -13,8 +13,8 @@ use crate::show::{
 };
 use crate::text::{bad_text, put_node, put_output};
 use crate::tree::{put_back, put_forward, put_go, put_prune, put_tree};
-use rev_grammar::command::{BookmarkCommand, DebugCommand, KeyQuery};
 use rev_items::Key;
+use rev_script::command::{BookmarkCommand, DebugCommand, KeyQuery};
 use rev_script::line::{ClientLine, DebugLine, Line};
 use rev_undotree::{NodeId, Session};
 use std::alloc::{AllocError, Allocator};

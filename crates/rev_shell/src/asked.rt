@@ -6,11 +6,11 @@ ghost use Rattle.rev_requests.specs.Plain.{plain_payload, plain_side, plain_step
 ghost use Rattle.rev_shell.specs.Asked.{storage_step, update_step, flush_step, actor_step};
 ghost use Rattle.rev_shell.specs.Answers.{get};
 
-use rev_grammar::command::{ActorCommand, StorageCommand, UpdateCommand};
 use rev_items::Key;
 use rev_requests::{
     ActorStep, Arithmetic, ClientStep, JoinSide, KeyCommand, Payload, Step, StoreVerb,
 };
+use rev_script::command::{ActorCommand, StorageCommand, UpdateCommand};
 use std::alloc::Allocator;
 
 /// The step of a storage command and its data block. `append` and `prepend` keep the item's flags and moment.

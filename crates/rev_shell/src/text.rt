@@ -3,9 +3,9 @@ ghost use Rattle.std.specs.Prelude.{◌≡◌, ◌++◌, decimal, OnOk};
 ghost use Rattle.rev_shell.specs.Texts.{output, bad_text, outcome_text, cas_text, value_text, queue_text, bits_text, chunk_text, page_text, flush_text, free_text, mover_text, clock_text, pending_text, node_text};
 
 use itoa::Buffer;
-use rev_grammar::command::BadAnswer;
 use rev_items::{Bits, Item};
 use rev_model::{ChunkRef, Globals, Mover, Outcome, Queue};
+use rev_script::command::BadAnswer;
 use std::alloc::{AllocError, Allocator};
 
 /// Writes a number in decimal digits.

@@ -1,3 +1,7 @@
+pub mod Linking
+pub mod Walks
+pub mod Logs
+pub mod Cuts
 pub mod Turns
 pub mod Runs
 pub mod Walk

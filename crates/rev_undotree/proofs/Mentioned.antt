@@ -4,8 +4,8 @@ use Rattle.std.specs.Prelude.{nat_eq}
 use Rattle.std.proofs.lemmas.List.{length_push}
 use Rattle.std.proofs.lemmas.Bool.{true≢false}
 use Rattle.rev_items.specs.Hash.{hash_of}
-use Rattle.rev_mentions.specs.declared.mention.Mention.{Mention}
-use Rattle.rev_mentions.specs.Mentions.{Holds, Within}
+use Rattle.rev_undotree.specs.declared.mention.Mention.{Mention}
+use Rattle.rev_undotree.specs.Mentions.{Holds, Within}
 use Rattle.rev_model.specs.Events.{event}
 use Rattle.rev_model.specs.Track.{key_place_of}
 use Rattle.rev_undotree.specs.Steps.{State, Step, Outcome, PlainRecord, next}

@@ -4,8 +4,8 @@ use Rattle.std.specs.Prelude.{nat_eq, slice_index_or}
 use Rattle.std.proofs.lemmas.Bool.{false≢true}
 use Rattle.std.proofs.lemmas.Bool.Decides.{nat_tests}
 use Rattle.std.proofs.lemmas.List.{drop_all, at_drop_more, append_assoc}
-use Rattle.rev_mentions.specs.declared.mention.Mention.{Mention}
-use Rattle.rev_mentions.specs.Mentions.{Holds, Within}
+use Rattle.rev_undotree.specs.declared.mention.Mention.{Mention}
+use Rattle.rev_undotree.specs.Mentions.{Holds, Within}
 use Rattle.rev_model.specs.Lists.{has}
 use Rattle.rev_model.specs.Move.{Move}
 use Rattle.rev_moves.specs.Record.{Group, PlainRecord, IsWhole, moves_in}

@@ -1,3 +1,6 @@
+pub mod Mentions
+pub mod Links
+pub mod Cuts
 pub mod Steps
 pub mod Tree
 pub mod Runs

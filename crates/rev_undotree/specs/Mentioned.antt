@@ -1,8 +1,8 @@
 -- Which nodes mention a key: all at which something befell it.
 use Rattle.std.specs.Prelude.{◌≡◌, ℕ, ◌-◌, ◌+◌, ◌<◌, ◌≤◌, ◌⊎◌, List, Option, None, Some, slice_get, nat_eq, true}
 use Rattle.rev_items.specs.Hash.{hash_of}
-use Rattle.rev_mentions.specs.declared.mention.Mention.{Mention}
-use Rattle.rev_mentions.specs.Mentions.{Holds, Within}
+use Rattle.rev_undotree.specs.declared.mention.Mention.{Mention}
+use Rattle.rev_undotree.specs.Mentions.{Holds, Within}
 use Rattle.rev_model.specs.Lists.{has}
 use Rattle.rev_model.specs.Events.{event}
 use Rattle.rev_model.specs.Track.{key_place_of}

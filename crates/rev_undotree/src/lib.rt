@@ -5,8 +5,12 @@
 mod branch;
 mod index;
 mod junction;
+mod links;
+mod mention;
+mod mentions;
 mod naming;
 mod position;
+mod records;
 mod run;
 pub mod session;
 

@@ -2,7 +2,7 @@
 ghost use Rattle.std.specs.Prelude.{◌≡◌, ◌++◌, ℕ, cond, OnOk, drop};
 ghost use Rattle.std.specs.Option.{option_map};
 ghost use Rattle.rev_items.specs.Hash.{hash_of};
-ghost use Rattle.rev_mentions.specs.Mentions.{Within};
+ghost use Rattle.rev_undotree.specs.Mentions.{Within};
 ghost use Rattle.rev_model.specs.Events.{is_stored};
 ghost use Rattle.rev_model.specs.State.{item_at};
 ghost use Rattle.rev_moves.specs.Seen.{plain_moves};
@@ -10,9 +10,9 @@ ghost use Rattle.rev_requests.specs.Plain.{plain_step};
 ghost use Rattle.rev_undotree.specs.Named.{hashed, named, step_keys, stored_keys, none_or};
 ghost use Rattle.rev_undotree.specs.Mentioned.{AreMentioned, Grows};
 
+use crate::mentions::Mentions;
 use rev_inverse::Store;
 use rev_items::Item;
-use rev_mentions::Mentions;
 use rev_model::{ChunkRef, Entry, Listed, Outcome, Placed};
 use rev_moves::{Move, Record};
 use rev_requests::{ClientStep, KeyCommand, Step};

@@ -6,10 +6,10 @@ ghost use Rattle.rev_undotree.specs.Steps.{Fits, turned};
 ghost use Rattle.rev_undotree.specs.Tree.{PlainNode};
 ghost use Rattle.rev_undotree.specs.Ways.{undo_of, no_node};
 
+use crate::records::Records;
 use rev_inverse::Store;
 use rev_model::Outcome;
 use rev_moves::{Record, RecordRef};
-use rev_records::Records;
 use rev_steps::Step;
 use std::alloc::{AllocError, Allocator};
 use std::marker::Model;

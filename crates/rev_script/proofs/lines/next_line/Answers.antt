@@ -2,8 +2,8 @@ use Rattle.std.proofs.Common.{rules, w32, SFits}
 use Rattle.std.proofs.lemmas.Int.{to_z-of_z}
 use Rattle.std.proofs.Common.{◌≡◌, refl, not, Bool, [], true, false, arith, sym, ◌∙◌, ap}
 use Rattle.std.specs.Io.BufRead.{strip_last}
-use Rattle.rev_grammar.specs.Words.{words, word}
-use Rattle.rev_grammar.specs.Commands.{asked}
+use Rattle.rev_script.specs.Words.{words, word}
+use Rattle.rev_script.specs.Commands.{asked}
 use Rattle.rev_script.specs.Script.{block_size, line_of}
 use Rattle.rev_script.proofs.Next.{next_plain, next_done, next_block, next_cut_storage, fault_text, fault_block, asked-long, kept_text}
 use Rattle.rev_script.proofs.lines.next_line.Goals as goal

@@ -9,7 +9,7 @@ use Rattle.rev_undotree.proofs.Mentioned.{play_noted, noted_more}
 use Rattle.rev_undotree.proofs.Positions.{stands_way, stands_at}
 use Rattle.rev_undotree.proofs.Growth.{kept_sound, length_rows, play_kept, play_state}
 use Rattle.rev_undotree.proofs.Machine.{kept_tree, kept_path, goes_on_is, deep_is, deep_not}
-use Rattle.rev_mentions.specs.Mentions.{Within}
+use Rattle.rev_undotree.specs.Mentions.{Within}
 use Rattle.rev_undotree.proofs.Walk.{held_number}
 use Rattle.rev_undotree.proofs.session.Session.play.Goals as goal
 

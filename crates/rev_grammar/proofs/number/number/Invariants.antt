@@ -1,7 +1,0 @@
-use Rattle.std.proofs.Common.{◌≡◌, ◌<◌, ◌≤◌, take, length, true}
-use Rattle.std.specs.List.{list_all}
-use Rattle.rev_grammar.specs.Number.{value, is_digit}
-use Rattle.rev_grammar.proofs.number.number.Given as goal
-
-abbrev pub invariant-loop-b : goal.invariant-loop-b
-invariant-loop-b l = (l.sum ≡ value (take l.b-index l.word)) × (list_all is_digit (take l.b-index l.word) ≡ true) × (l.sum ≤ l.limit) × (0 < length l.word)

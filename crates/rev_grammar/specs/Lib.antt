@@ -1,4 +1,0 @@
-pub mod Number
-pub mod Words
-pub mod Commands
-pub mod Keyed

@@ -1,0 +1,20 @@
+use Rattle.std.proofs.Common.{length}
+use Rattle.rev_undotree.specs.Links.{mentions_of}
+use Rattle.rev_undotree.proofs.Walks.{goes_on, finds, holds_found, seek_end}
+use Rattle.rev_undotree.proofs.links.seek.Goals as goal
+
+pub walk-preserved : goal.walk-preserved
+walk-preserved c =
+    goes_on c.args.heads.now c.args.entries.now c.requires c.args.hash c.args.bound c.walk.cursor c.walk.invariant c.walk-test.true c.else-entry-hash.either
+
+pub returns-then-entry-bound-clause-latest : goal.returns-then-entry-bound-clause-latest
+returns-then-entry-bound-clause-latest c =
+    finds c.args.heads.now c.args.entries.now c.requires c.args.hash c.args.bound c.walk.cursor c.walk.invariant c.walk-test.true
+
+pub returns-clause-latest : goal.returns-clause-latest
+returns-clause-latest c =
+    seek_end (mentions_of c.args.entries.now) (length c.args.heads.now) c.args.hash c.args.bound c.walk.cursor c.walk.invariant c.walk-test.false
+
+pub returns-then-entry-bound-clause-held : goal.returns-then-entry-bound-clause-held
+returns-then-entry-bound-clause-held c = λ _.
+    holds_found c.args.heads.now c.args.entries.now c.requires c.args.hash c.args.bound c.walk.cursor c.walk.invariant c.walk-test.true c.if-entry-hash.true

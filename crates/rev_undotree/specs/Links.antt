@@ -1,0 +1,54 @@
+-- How the entries of a log are linked. A link is the number of an entry and one more, or 0 for none.
+use Rattle.std.specs.Prelude.{◌≡◌, ℕ, ◌-◌, ◌^◌, ◌%◌, ◌<◌, ◌≤◌, List, length, map, get_or}
+use Rattle.rev_undotree.specs.declared.mention.Mention.{Mention}
+use Rattle.rev_undotree.specs.declared.links.Entry.{Entry}
+
+-- what an entry notes
+abbrev pub mention_of : Entry → Mention
+mention_of e = record { hash = e.hash; node = e.node }
+
+-- what a list of entries notes
+abbrev pub mentions_of : List Entry → List Mention
+mentions_of es = map mention_of es
+
+-- the links of a list of entries
+abbrev pub links_of : List Entry → List ℕ
+links_of es = map (λ e. e.earlier) es
+
+-- stands in where there is no mention
+abbrev pub no_mention : Mention
+no_mention = record { hash = 0; node = 0 }
+
+-- the bucket of mention i, where there are m
+abbrev pub bucket_at : List Mention → ℕ → ℕ → ℕ
+bucket_at ms m i = (get_or ms i no_mention).hash % m
+
+-- the node of mention i
+abbrev pub node_at : List Mention → ℕ → ℕ
+node_at ms i = (get_or ms i no_mention).node
+
+-- of the first k mentions, the link c leads to the last one in bucket b
+pub record Leads (ms : List Mention) (m k b c : ℕ) : Type 0 where
+  pub below : c ≤ k
+  pub home : 0 < c → bucket_at ms m (c - 1) ≡ b
+  pub last : (i : ℕ) → i < k → bucket_at ms m i ≡ b → i < c
+
+-- heads lead to the last of the first k mentions in each bucket, and the link of each of these to the one before it
+pub record Linked (heads : List ℕ) (ms : List Mention) (links : List ℕ) (k : ℕ) : Type 0 where
+  pub some : 0 < length heads
+  pub at_head : (b : ℕ) → b < length heads → Leads ms (length heads) k b (get_or heads b 0)
+  pub at_link : (j : ℕ) → j < k → Leads ms (length heads) j (bucket_at ms (length heads) j) (get_or links j 0)
+
+-- the first k entries are linked
+abbrev pub IsLinked : List ℕ → List Entry → ℕ → Type 0
+IsLinked heads es k = Linked heads (mentions_of es) (links_of es) k
+
+-- the nodes of mentions do not fall
+abbrev pub Rises : List Mention → Type 0
+Rises ms = (i j : ℕ) → i ≤ j → j < length ms → node_at ms i ≤ node_at ms j
+
+-- all entries are linked, their nodes do not fall, and links can tell them apart
+pub record IsSound (heads : List ℕ) (es : List Entry) : Type 0 where
+  pub linked : IsLinked heads es (length es)
+  pub rises : Rises (mentions_of es)
+  pub few : length es < 2 ^ 32

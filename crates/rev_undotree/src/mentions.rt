@@ -1,0 +1,134 @@
+//! The log of mentions.
+ghost use Rattle.std.specs.Prelude.{◌≡◌, ◌⊎◌, ℕ, ◌<◌, ◌≤◌, [], IsTrue, IfOk, OnOk, OnErr};
+ghost use Rattle.rev_undotree.specs.Mentions.{Holds, Within};
+
+use crate::links::{Entry, link, relink, seek};
+use crate::mention::Mention;
+use std::alloc::{AllocError, Allocator};
+use std::marker::Model;
+
+// How many buckets a new log has.
+const FIRST_BUCKETS: usize = 16;
+
+// How many entries a bucket has at most, on average: a play waits for memory at a bucket that is not near, and a look-up
+// at each entry, so that the buckets are few and the chains short.
+const ENTRIES_PER_BUCKET: usize = 4;
+
+/// Which hash was mentioned at which node, in the order of the nodes. A look-up goes back along the entries of one bucket
+/// and takes no memory; a bucket has four entries at most, on average.
+#[derive(Drop)]
+pub struct Mentions<A: Allocator> {
+    heads: Vec<u32, A>,
+    entries: Vec<Entry, A>,
+}
+
+impl<A: Allocator> Model for Mentions<A> {
+    ghost use Rattle.std.specs.Prelude.{List};
+    ghost use Rattle.rev_undotree.specs.declared.mention.Mention.{Mention};
+    ghost use Rattle.rev_undotree.specs.Links.{mentions_of, IsSound};
+
+    ghost Value = { List Mention };
+
+    ghost view = { λ m. mentions_of m.entries.items };
+
+    ghost invariant = { λ m. IsSound m.heads.items m.entries.items };
+}
+
+impl<A: Allocator> Mentions<A> {
+    /// A log of no mention.
+    ///
+    /// Err: a handle on the allocator or the first buckets were refused.
+    pub fn new(alloc: &A) -> Result<Mentions<A>, AllocError>
+    where
+        A: Clone,
+        ensures { IfOk result (λ m. m ≡ []) }
+    {
+        let mut heads = Vec::new(alloc.clone()?);
+        heads.resize(FIRST_BUCKETS, 0)?;
+        Ok(Mentions {
+            heads,
+            entries: Vec::new(alloc.clone()?),
+        })
+    }
+
+    /// Notes that the hash is mentioned at `node`. What one of the last two entries says already is left out.
+    ///
+    /// Err: a growth was refused, or the log has 2³² - 1 entries, and nothing is changed.
+    pub fn note(&mut self, hash: u32, node: u32) -> Result<(), AllocError>
+        requires { Within self.old node }
+        ensures ok { OnOk result (Holds self.new hash node) }
+        ensures kept { (h n : ℕ) → Holds self.old h n → Holds self.new h n }
+        ensures only { (h n : ℕ) → Holds self.new h n → Holds self.old h n ⊎ ((h ≡ hash) × (n ≡ node)) }
+        ensures within { Within self.new node }
+        ensures err { OnErr result (self.new ≡ self.old) }
+    {
+        if self.ends_with(hash, node) {
+            return Ok(());
+        }
+        self.make_room()?;
+        self.add(hash, node)
+    }
+
+    /// The latest node up to `bound` that mentions the hash, or 0: so 0 may also say that none does.
+    pub fn latest(&self, hash: u32, bound: u32) -> u32
+        ensures bound { result ≤ bound }
+        ensures latest { (n : ℕ) → Holds self.now hash n → n ≤ bound → n ≤ result }
+        ensures held { 0 < result → Holds self.now hash result }
+    {
+        seek(&self.heads, &self.entries, hash, bound)
+    }
+
+    // Whether the entry `at` is there, and says that the hash is mentioned at the node.
+    fn says(&self, at: usize, hash: u32, node: u32) -> bool
+        ensures { IsTrue result → Holds self.now hash node }
+    {
+        match self.entries.get(at) {
+            Some(entry) => entry.mention() == Mention { hash, node },
+            None => false,
+        }
+    }
+
+    // Whether one of the last two entries says that the hash is mentioned at the node.
+    fn ends_with(&self, hash: u32, node: u32) -> bool
+        ensures { IsTrue result → Holds self.now hash node }
+    {
+        let count = self.entries.len();
+        self.says(count.saturating_sub(1), hash, node)
+            || self.says(count.saturating_sub(2), hash, node)
+    }
+
+    // Makes four times as many buckets where they have as many entries as they may. Err: the growth was refused.
+    fn make_room(&mut self) -> Result<(), AllocError>
+        ensures { self.new ≡ self.old }
+    {
+        if self.entries.len() / ENTRIES_PER_BUCKET < self.heads.len() {
+            return Ok(());
+        }
+        let count = 4 * self.heads.len();
+        self.heads.resize(count, 0)?;
+        relink(&mut self.heads, &mut self.entries);
+        Ok(())
+    }
+
+    // Puts a mention behind the others. Err: the growth was refused, or there are as many as links can tell apart.
+    fn add(&mut self, hash: u32, node: u32) -> Result<(), AllocError>
+        requires { Within self.old node }
+        ensures ok { OnOk result (Holds self.new hash node) }
+        ensures kept { (h n : ℕ) → Holds self.old h n → Holds self.new h n }
+        ensures only { (h n : ℕ) → Holds self.new h n → Holds self.old h n ⊎ ((h ≡ hash) × (n ≡ node)) }
+        ensures within { Within self.new node }
+        ensures err { OnErr result (self.new ≡ self.old) }
+    {
+        let at = self.entries.len();
+        if at >= u32::MAX as usize {
+            return Err(AllocError);
+        }
+        self.entries.push(Entry {
+            hash,
+            node,
+            earlier: 0,
+        })?;
+        link(&mut self.heads, &mut self.entries, at);
+        Ok(())
+    }
+}
