@@ -1,6 +1,6 @@
 -- What a flush leaves.
 use Rattle.std.specs.Prelude.{ℕ, ◌≡◌, cond, None, Some, nat_le, refl}
-use Rattle.std.proofs.Common.{sym, ap, inl, inr}
+use Rattle.std.proofs.Common.{inl, inr}
 use Rattle.std.proofs.lemmas.Bool.{cases_Bool}
 use Rattle.rev_model.specs.State.{State}
 use Rattle.rev_model.specs.Client.{flush_at}

@@ -105,6 +105,7 @@ impl Recorder {
             return Err((RecordFault::Memory, step));
         };
         if hand.entries.reserve(1).is_err() {
+            drop(copy);
             return Err((RecordFault::Memory, step));
         }
         let answer = self.shared.lock(rt).play(hand.actor, step);
@@ -116,16 +117,19 @@ impl Recorder {
                 });
                 Ok(receipt)
             }
-            Err((refusal, step)) => match refusal.receipt {
-                Some(receipt) => {
-                    hand.entries.push_reserved(Entry {
-                        receipt,
-                        step: None,
-                    });
-                    Err((refusal.fault, step))
+            Err((refusal, step)) => {
+                drop(copy);
+                match refusal.receipt {
+                    Some(receipt) => {
+                        hand.entries.push_reserved(Entry {
+                            receipt,
+                            step: None,
+                        });
+                        Err((refusal.fault, step))
+                    }
+                    None => Err((refusal.fault, step)),
                 }
-                None => Err((refusal.fault, step)),
-            },
+            }
         }
     }
 

@@ -129,10 +129,13 @@ pub fn open_session<A: Allocator + Clone>(alloc: &A, config: &Config) -> Option<
     let Ok(store) = Store::open(alloc, *config) else {
         return None;
     };
-    let Ok(session) = Session::open(other, store) else {
-        return None;
-    };
-    Some(session)
+    match Session::open(other, store) {
+        Ok(session) => Some(session),
+        Err(refused) => {
+            drop(refused);
+            None
+        }
+    }
 }
 
 /// Runs the script that the reader gives on a session, with no bookmark at first, and writes its answers. The answer of
@@ -205,7 +208,11 @@ pub fn run<S: Source, K: Sink, A: Allocator + Clone>(
 {
     let ended = match open_session(alloc, config) {
         None => return Err(RunFault::Memory { line: 0 }),
-        Some(mut session) => run_session(alloc, &mut session, reader, sink),
+        Some(mut session) => {
+            let done = run_session(alloc, &mut session, reader, sink);
+            drop(session);
+            done
+        }
     };
     match ended {
         Err(e) => Err(e),

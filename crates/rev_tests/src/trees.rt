@@ -70,7 +70,10 @@ fn come_and_go(session: &mut Session<Global>) -> Result<(), Fail> {
             session.prune(played.node)?;
             Ok(())
         }
-        Err((fault, _step)) => Err(Fail::from(fault)),
+        Err((fault, step)) => {
+            drop(step);
+            Err(Fail::from(fault))
+        }
     }
 }
 
@@ -78,7 +81,10 @@ fn come_and_go(session: &mut Session<Global>) -> Result<(), Fail> {
 fn refusal(session: &mut Session<Global>) -> Option<PlayFault> {
     match session.play(Step::Actor(ActorStep::Clock(1))) {
         Ok(_) => None,
-        Err((fault, _step)) => Some(fault),
+        Err((fault, step)) => {
+            drop(step);
+            Some(fault)
+        }
     }
 }
 

@@ -1,12 +1,15 @@
-//! A heap of which only so many bytes are left.
+//! A heap of which only so many bytes are left, and what is tried on it.
 use linked_list_allocator::LocalHeap;
 use std::alloc::{AllocError, Global};
+use std::fmt::Debug;
+use std::process::Abort;
+use std::test::Fail;
 
-/// The heap hands out multiples of so many bytes.
-pub const UNIT: usize = 16;
+// The heap hands out multiples of so many bytes.
+const UNIT: usize = 16;
 
-/// Bytes of a heap in which each call of these tests succeeds.
-pub const BYTES: usize = 65536;
+// Bytes of a heap in which each call of these tests succeeds.
+const BYTES: usize = 65536;
 
 /// Blocks that a heap was filled with.
 pub type Ballast<'a> = Vec<Vec<u8, &'a LocalHeap>>;
@@ -34,4 +37,39 @@ pub fn fill<'a>(
     }
     drop(hole);
     Ok(ballast)
+}
+
+/// What is tried on a heap of which fewer bytes are left than it may want.
+pub trait Trial: Debug {
+    /// Tries it on a heap of its own with so many bytes left, looks at what it leaves, and tells whether there was memory
+    /// for it.
+    fn attempt<R: Abort>(
+        &self,
+        rt: &R,
+        alloc: Global,
+        heap: &LocalHeap,
+        left: usize,
+    ) -> Result<bool, Fail>;
+}
+
+fn attempt_anew<R: Abort, T: Trial>(
+    rt: &R,
+    alloc: Global,
+    trial: &T,
+    left: usize,
+) -> Result<bool, Fail> {
+    let heap = LocalHeap::new(alloc, BYTES)?;
+    trial.attempt(rt, alloc, &heap, left)
+}
+
+/// Tries it with no byte left, and then with more and more, up to where there is memory for it. Some attempt must have been
+/// refused.
+pub fn refuse_in_turn<R: Abort, T: Trial>(rt: &R, alloc: Global, trial: &T) -> Result<(), Fail> {
+    for units in 0..BYTES / UNIT {
+        if attempt_anew(rt, alloc, trial, units * UNIT)? {
+            assert!(rt; units > 0, "{trial:?}");
+            return Ok(());
+        }
+    }
+    Err(Fail::new("there was never enough memory"))
 }

@@ -1,5 +1,5 @@
 //! Keys, lines, and the parts of a store.
-use crate::memory::heap::{BYTES, UNIT, fill};
+use crate::memory::heap::{Trial, fill, refuse_in_turn};
 use crate::owned::is_made;
 use linked_list_allocator::LocalHeap;
 use rev_classes::{ClassTable, Config};
@@ -80,33 +80,36 @@ fn makes_or_refuses<R: Abort>(
     Ok(is_made)
 }
 
-// The same on a heap of its own.
-fn try_part<R: Abort>(rt: &R, alloc: Global, part: Part, left: usize) -> Result<bool, Fail> {
-    let heap = LocalHeap::new(alloc, BYTES)?;
-    makes_or_refuses(rt, alloc, &heap, part, left)
+impl Trial for Part {
+    fn attempt<R: Abort>(
+        &self,
+        rt: &R,
+        alloc: Global,
+        heap: &LocalHeap,
+        left: usize,
+    ) -> Result<bool, Fail> {
+        makes_or_refuses(rt, alloc, heap, *self, left)
+    }
 }
 
 #[test]
 fn parts(rt: HostRuntime) -> Result<(), Fail> {
-    for part in PARTS {
-        let mut refused = None;
-        for units in 0..BYTES / UNIT {
-            if try_part(&rt, rt.alloc(), part, units * UNIT)? {
-                refused = Some(units);
-                break;
-            }
-        }
-        assert!(rt; refused.unwrap_or(0) > 0, "{part:?}");
+    for part in &PARTS {
+        refuse_in_turn(&rt, rt.alloc(), part)?;
     }
     Ok(())
 }
 
+// A script of one line.
+#[derive(Clone, Copy, Debug)]
+struct Text(&'static str);
+
 // Lines whose reading takes memory: for the line, for its words, for its key and its data.
-static LINES: [&[u8]; 4] = [
-    b"set a 0 0 5\r\nabcde\r\n",
-    b"get a b c d e f g h\r\n",
-    b":item a\r\n",
-    b":mark a\r\n",
+static LINES: [Text; 4] = [
+    Text("set a 0 0 5\r\nabcde\r\n"),
+    Text("get a b c d e f g h\r\n"),
+    Text(":item a\r\n"),
+    Text(":mark a\r\n"),
 ];
 
 // Whether there was a next line.
@@ -152,29 +155,23 @@ fn reads_or_refuses<'a, R: Abort>(
     }
 }
 
-// The same on a heap of its own.
-fn try_line<R: Abort>(
-    rt: &R,
-    alloc: Global,
-    text: &'static [u8],
-    left: usize,
-) -> Result<bool, Fail> {
-    let heap = LocalHeap::new(alloc, BYTES)?;
-    let mut lines = Lines::over(&heap, FromRead::new(text));
-    reads_or_refuses(rt, alloc, &heap, &mut lines, left)
+impl Trial for Text {
+    fn attempt<R: Abort>(
+        &self,
+        rt: &R,
+        alloc: Global,
+        heap: &LocalHeap,
+        left: usize,
+    ) -> Result<bool, Fail> {
+        let mut lines = Lines::over(heap, FromRead::new(self.0.as_bytes()));
+        reads_or_refuses(rt, alloc, heap, &mut lines, left)
+    }
 }
 
 #[test]
 fn lines(rt: HostRuntime) -> Result<(), Fail> {
-    for text in &LINES {
-        let mut refused = None;
-        for units in 0..BYTES / UNIT {
-            if try_line(&rt, rt.alloc(), *text, units * UNIT)? {
-                refused = Some(units);
-                break;
-            }
-        }
-        assert!(rt; refused.unwrap_or(0) > 0);
+    for line in &LINES {
+        refuse_in_turn(&rt, rt.alloc(), line)?;
     }
     Ok(())
 }

@@ -2,7 +2,7 @@
 ghost use Rattle.std.specs.Prelude.{IfOk, IfSome};
 ghost use Rattle.rev_model.specs.Sound.{Sound};
 
-use crate::memory::heap::{BYTES, UNIT, fill};
+use crate::memory::heap::{Trial, fill, refuse_in_turn};
 use crate::memory::parts::SMALL;
 use crate::memory::pictures::{Picture, picture_of, session_picture};
 use crate::memory::steps::{Command, step_of};
@@ -92,37 +92,32 @@ fn opens_or_hands_back<'a, R: Abort>(
     }
 }
 
-// Opens one over a store of its own.
-fn open_over_store<'a, R: Abort>(
-    rt: &R,
-    alloc: Global,
-    heap: &'a LocalHeap,
-    left: usize,
-) -> Result<bool, Fail> {
-    let store = Store::open(heap, SMALL)?;
-    match picture_of(alloc, &store) {
-        Ok(before) => opens_or_hands_back(rt, alloc, heap, store, &before, left),
-        Err(fail) => {
-            drop(store);
-            Err(fail)
+// A session that is opened.
+#[derive(Clone, Copy, Debug)]
+struct Opening;
+
+impl Trial for Opening {
+    fn attempt<R: Abort>(
+        &self,
+        rt: &R,
+        alloc: Global,
+        heap: &LocalHeap,
+        left: usize,
+    ) -> Result<bool, Fail> {
+        let store = Store::open(heap, SMALL)?;
+        match picture_of(alloc, &store) {
+            Ok(before) => opens_or_hands_back(rt, alloc, heap, store, &before, left),
+            Err(fail) => {
+                drop(store);
+                Err(fail)
+            }
         }
     }
-}
-
-// The same on a heap of its own.
-fn try_open<R: Abort>(rt: &R, alloc: Global, left: usize) -> Result<bool, Fail> {
-    let heap = LocalHeap::new(alloc, BYTES)?;
-    open_over_store(rt, alloc, &heap, left)
 }
 
 #[test]
 fn opens(rt: HostRuntime) -> Result<(), Fail> {
-    for units in 0..BYTES / UNIT {
-        if try_open(&rt, rt.alloc(), units * UNIT)? {
-            return Ok(());
-        }
-    }
-    Err(Fail::new("there was never enough"))
+    refuse_in_turn(&rt, rt.alloc(), &Opening)
 }
 
 // What a case does before its play.
@@ -132,6 +127,7 @@ enum Turn {
     Back,
 }
 
+#[derive(Clone, Copy, Debug)]
 struct Case {
     name: &'static str,
     before: &'static [Turn],
@@ -186,7 +182,10 @@ fn take_turn<'a>(
     match turn {
         Turn::Play(command) => match session.play(step_of(heap, command)?) {
             Ok(_) => Ok(()),
-            Err((fault, _step)) => Err(Fail::from(fault)),
+            Err((fault, step)) => {
+                drop(step);
+                Err(Fail::from(fault))
+            }
         },
         Turn::Back => {
             session.back()?;
@@ -226,7 +225,11 @@ fn refusal<'a>(
 ) -> Option<(PlayFault, bool)> {
     match session.play(step) {
         Ok(_) => None,
-        Err((fault, step)) => Some((fault, step.is_same(like))),
+        Err((fault, step)) => {
+            let is_same = step.is_same(like);
+            drop(step);
+            Some((fault, is_same))
+        }
     }
 }
 
@@ -273,38 +276,25 @@ fn plays_or_keeps<'a, R: Abort>(
     }
 }
 
-// Plays the case's command on a session of its own.
-fn try_session<'a, R: Abort>(
-    rt: &R,
-    alloc: Global,
-    heap: &'a LocalHeap,
-    case: &Case,
-    left: usize,
-) -> Result<bool, Fail> {
-    let mut session = session_after(heap, case.before)?;
-    let is_done = plays_or_keeps(rt, alloc, heap, &mut session, case, left);
-    drop(session);
-    is_done
-}
-
-// The same on a heap of its own.
-fn try_case<R: Abort>(rt: &R, alloc: Global, case: &Case, left: usize) -> Result<bool, Fail> {
-    let heap = LocalHeap::new(alloc, BYTES)?;
-    try_session(rt, alloc, &heap, case, left)
+impl Trial for Case {
+    fn attempt<R: Abort>(
+        &self,
+        rt: &R,
+        alloc: Global,
+        heap: &LocalHeap,
+        left: usize,
+    ) -> Result<bool, Fail> {
+        let mut session = session_after(heap, self.before)?;
+        let is_done = plays_or_keeps(rt, alloc, heap, &mut session, self, left);
+        drop(session);
+        is_done
+    }
 }
 
 #[test]
 fn plays(rt: HostRuntime) -> Result<(), Fail> {
     for case in &CASES {
-        let mut refused = None;
-        for units in 0..BYTES / UNIT {
-            if try_case(&rt, rt.alloc(), case, units * UNIT)? {
-                refused = Some(units);
-                break;
-            }
-        }
-        let name = case.name;
-        assert!(rt; refused.unwrap_or(0) > 0, "{name}");
+        refuse_in_turn(&rt, rt.alloc(), case)?;
     }
     Ok(())
 }
@@ -325,10 +315,13 @@ fn story_length<'a>(
 ) -> Result<Option<usize>, Fail> {
     let key = Key::new(heap, b"a")?;
     let _ballast = fill(alloc, heap, left)?;
-    match story(session, &key) {
-        Ok(events) => Ok(Some(events.len())),
-        Err(_) => Ok(None),
-    }
+    let told = story(session, &key);
+    let length = match &told {
+        Ok(events) => Some(events.len()),
+        Err(_) => None,
+    };
+    drop(told);
+    Ok(length)
 }
 
 // Asks for the story with so many bytes left. Whatever comes of it, no memory is kept.
@@ -346,36 +339,28 @@ fn tells_or_refuses<'a, R: Abort>(
     Ok(length.is_some())
 }
 
-// Asks a session of its own.
-fn ask_session<'a, R: Abort>(
-    rt: &R,
-    alloc: Global,
-    heap: &'a LocalHeap,
-    left: usize,
-) -> Result<bool, Fail> {
-    let session = session_after(heap, &LIFE)?;
-    let is_told = tells_or_refuses(rt, alloc, heap, &session, left);
-    drop(session);
-    is_told
-}
+// A story that is asked for.
+#[derive(Clone, Copy, Debug)]
+struct Life;
 
-// The same on a heap of its own.
-fn try_story<R: Abort>(rt: &R, alloc: Global, left: usize) -> Result<bool, Fail> {
-    let heap = LocalHeap::new(alloc, BYTES)?;
-    ask_session(rt, alloc, &heap, left)
+impl Trial for Life {
+    fn attempt<R: Abort>(
+        &self,
+        rt: &R,
+        alloc: Global,
+        heap: &LocalHeap,
+        left: usize,
+    ) -> Result<bool, Fail> {
+        let session = session_after(heap, &LIFE)?;
+        let is_told = tells_or_refuses(rt, alloc, heap, &session, left);
+        drop(session);
+        is_told
+    }
 }
 
 #[test]
 fn stories(rt: HostRuntime) -> Result<(), Fail> {
-    let mut refused = None;
-    for units in 0..BYTES / UNIT {
-        if try_story(&rt, rt.alloc(), units * UNIT)? {
-            refused = Some(units);
-            break;
-        }
-    }
-    assert!(rt; refused.unwrap_or(0) > 0);
-    Ok(())
+    refuse_in_turn(&rt, rt.alloc(), &Life)
 }
 
 // The lines of a script, with their data, and what each is answered.
@@ -418,34 +403,34 @@ fn run_script(
     }
 }
 
-// Runs the lines with so many bytes left. Where memory is refused at a line, the answers before it are written.
-fn runs_or_refuses<R: Abort>(
-    rt: &R,
-    alloc: Global,
-    heap: &LocalHeap,
-    script: &[u8],
-    left: usize,
-) -> Result<bool, Fail> {
-    let _ballast = fill(alloc, heap, left)?;
-    let mut written: Vec<u8> = Vec::new(alloc);
-    let (line, is_done) = match run_script(heap, script, &mut written)? {
-        Ok(_) => (u64::MAX, true),
-        Err(RunFault::Memory { line }) => (line, false),
-        Err(fault) => return Err(Fail::from(fault)),
-    };
-    let answers = answers_before(alloc, line)?;
-    assert!(rt;
-        written.as_slice() == answers.as_slice(),
-        "{left} bytes left: line {line}"
-    );
-    assert_eq!(rt; heap.free(), left);
-    Ok(is_done)
-}
+// A script that is run.
+#[derive(Clone, Copy, Debug)]
+struct Script<'a>(&'a [u8]);
 
-// The same on a heap of its own.
-fn try_run<R: Abort>(rt: &R, alloc: Global, script: &[u8], left: usize) -> Result<bool, Fail> {
-    let heap = LocalHeap::new(alloc, BYTES)?;
-    runs_or_refuses(rt, alloc, &heap, script, left)
+impl<'a> Trial for Script<'a> {
+    // Where memory is refused at a line, the answers before it are written.
+    fn attempt<R: Abort>(
+        &self,
+        rt: &R,
+        alloc: Global,
+        heap: &LocalHeap,
+        left: usize,
+    ) -> Result<bool, Fail> {
+        let _ballast = fill(alloc, heap, left)?;
+        let mut written: Vec<u8> = Vec::new(alloc);
+        let (line, is_done) = match run_script(heap, self.0, &mut written)? {
+            Ok(_) => (u64::MAX, true),
+            Err(RunFault::Memory { line }) => (line, false),
+            Err(fault) => return Err(Fail::from(fault)),
+        };
+        let answers = answers_before(alloc, line)?;
+        assert!(rt;
+            written.as_slice() == answers.as_slice(),
+            "{left} bytes left: line {line}"
+        );
+        assert_eq!(rt; heap.free(), left);
+        Ok(is_done)
+    }
 }
 
 #[test]
@@ -454,13 +439,5 @@ fn runs(rt: HostRuntime) -> Result<(), Fail> {
     for (line, _) in &LINES {
         script.extend_from_slice(line.as_bytes())?;
     }
-    let mut refused = None;
-    for units in 0..BYTES / UNIT {
-        if try_run(&rt, rt.alloc(), script.as_slice(), units * UNIT)? {
-            refused = Some(units);
-            break;
-        }
-    }
-    assert!(rt; refused.unwrap_or(0) > 0);
-    Ok(())
+    refuse_in_turn(&rt, rt.alloc(), &Script(script.as_slice()))
 }

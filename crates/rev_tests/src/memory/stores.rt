@@ -2,7 +2,7 @@
 ghost use Rattle.std.specs.Prelude.{OnOk, IfOk};
 ghost use Rattle.rev_model.specs.Sound.{Sound};
 
-use crate::memory::heap::{BYTES, UNIT, fill};
+use crate::memory::heap::{Trial, fill, refuse_in_turn};
 use crate::memory::parts::SMALL;
 use crate::memory::pictures::picture_of;
 use crate::memory::steps::{Command, step_of};
@@ -17,97 +17,87 @@ use std::alloc::{Allocator, Global};
 use std::process::Abort;
 use std::test::Fail;
 
-// Opens a store with so many bytes left.
-fn opens_or_refuses<R: Abort>(
-    rt: &R,
-    alloc: Global,
-    heap: &LocalHeap,
-    left: usize,
-) -> Result<bool, Fail> {
-    let _ballast = fill(alloc, heap, left)?;
-    match Store::open(heap, SMALL) {
-        Ok(store) => {
-            drop(store);
-            Ok(true)
-        }
-        Err(fault) => {
-            assert_eq!(rt; fault, ConfigFault::Memory, "{left} bytes left");
-            assert_eq!(rt; heap.free(), left);
-            Ok(false)
+// A store that is opened.
+#[derive(Clone, Copy, Debug)]
+struct Opening;
+
+impl Trial for Opening {
+    fn attempt<R: Abort>(
+        &self,
+        rt: &R,
+        alloc: Global,
+        heap: &LocalHeap,
+        left: usize,
+    ) -> Result<bool, Fail> {
+        let _ballast = fill(alloc, heap, left)?;
+        match Store::open(heap, SMALL) {
+            Ok(store) => {
+                drop(store);
+                Ok(true)
+            }
+            Err(fault) => {
+                assert_eq!(rt; fault, ConfigFault::Memory, "{left} bytes left");
+                assert_eq!(rt; heap.free(), left);
+                Ok(false)
+            }
         }
     }
-}
-
-// The same on a heap of its own.
-fn try_open<R: Abort>(rt: &R, alloc: Global, left: usize) -> Result<bool, Fail> {
-    let heap = LocalHeap::new(alloc, BYTES)?;
-    opens_or_refuses(rt, alloc, &heap, left)
 }
 
 #[test]
 fn opens(rt: HostRuntime) -> Result<(), Fail> {
-    let mut refused = None;
-    for units in 0..BYTES / UNIT {
-        if try_open(&rt, rt.alloc(), units * UNIT)? {
-            refused = Some(units);
-            break;
-        }
-    }
-    assert!(rt; refused.unwrap_or(0) > 0);
-    Ok(())
+    refuse_in_turn(&rt, rt.alloc(), &Opening)
 }
 
-// Makes a record, or the slots of a page of the store, with so many bytes left.
+// Room that is made for a step: in a record, or for a page of the store.
+#[derive(Clone, Copy, Debug)]
+enum Room {
+    Record,
+    Page,
+}
+
+// Whether there was memory for the room.
+fn has_room<'a>(heap: &'a LocalHeap, store: &Store<&'a LocalHeap>, room: Room) -> bool {
+    match room {
+        Room::Record => is_made(Record::with_room(heap, 64)),
+        Room::Page => store.table().last() >= 1 && is_made(store.parts(1)),
+    }
+}
+
+// Makes the room with so many bytes left.
 fn makes_room<'a, R: Abort>(
     rt: &R,
     alloc: Global,
     heap: &'a LocalHeap,
     store: &Store<&'a LocalHeap>,
-    of_page: bool,
+    room: Room,
     left: usize,
 ) -> Result<bool, Fail> {
     let _ballast = fill(alloc, heap, left)?;
-    let has_room = if of_page {
-        assert!(rt; store.table().last() >= 1);
-        is_made(store.parts(1))
-    } else {
-        is_made(Record::with_room(heap, 64))
-    };
+    let has_room = has_room(heap, store, room);
     assert_eq!(rt; heap.free(), left);
     Ok(has_room)
 }
 
-// The same with a store of its own.
-fn make_for_store<'a, R: Abort>(
-    rt: &R,
-    alloc: Global,
-    heap: &'a LocalHeap,
-    of_page: bool,
-    left: usize,
-) -> Result<bool, Fail> {
-    let store = Store::open(heap, SMALL)?;
-    let has_room = makes_room(rt, alloc, heap, &store, of_page, left);
-    drop(store);
-    has_room
-}
-
-// The same on a heap of its own.
-fn try_room<R: Abort>(rt: &R, alloc: Global, of_page: bool, left: usize) -> Result<bool, Fail> {
-    let heap = LocalHeap::new(alloc, BYTES)?;
-    make_for_store(rt, alloc, &heap, of_page, left)
+impl Trial for Room {
+    fn attempt<R: Abort>(
+        &self,
+        rt: &R,
+        alloc: Global,
+        heap: &LocalHeap,
+        left: usize,
+    ) -> Result<bool, Fail> {
+        let store = Store::open(heap, SMALL)?;
+        let has_room = makes_room(rt, alloc, heap, &store, *self, left);
+        drop(store);
+        has_room
+    }
 }
 
 #[test]
 fn rooms(rt: HostRuntime) -> Result<(), Fail> {
-    for of_page in [true, false] {
-        let mut refused = None;
-        for units in 0..BYTES / UNIT {
-            if try_room(&rt, rt.alloc(), of_page, units * UNIT)? {
-                refused = Some(units);
-                break;
-            }
-        }
-        assert!(rt; refused.unwrap_or(0) > 0);
+    for room in &[Room::Page, Room::Record] {
+        refuse_in_turn(&rt, rt.alloc(), room)?;
     }
     Ok(())
 }
@@ -115,6 +105,7 @@ fn rooms(rt: HostRuntime) -> Result<(), Fail> {
 // A key that takes memory of its own.
 const LONG_KEY: &str = "a-key-that-takes-memory-of-its-own";
 
+#[derive(Clone, Copy, Debug)]
 struct Case {
     name: &'static str,
     pages: u32,
@@ -366,7 +357,11 @@ fn prepare<A: Allocator + Clone>(store: &mut Store<A>, commands: &[Command]) -> 
 {
     for command in commands {
         let step = step_of(store.alloc()?, *command)?;
-        apply(store, &step)?;
+        let is_applied = has_applied(store, &step);
+        drop(step);
+        if !is_applied {
+            return Err(Fail::new("no memory"));
+        }
     }
     Ok(())
 }
@@ -376,13 +371,27 @@ fn has_applied<A: Allocator + Clone>(store: &mut Store<A>, step: &Step<A>) -> bo
     requires { Sound store.old }
     ensures { Sound store.new }
 {
-    match apply(store, step) {
-        Ok(_) => true,
-        Err(_) => false,
-    }
+    is_made(apply(store, step))
 }
 
-// Applies the command with so many bytes left, and tells whether there was memory for it.
+// Applies a step with so many bytes left, and tells whether there was memory for it.
+fn apply_with<'a>(
+    alloc: Global,
+    heap: &'a LocalHeap,
+    store: &mut Store<&'a LocalHeap>,
+    step: &Step<&'a LocalHeap>,
+    left: usize,
+) -> Result<bool, Fail>
+    requires { Sound store.old }
+    ensures { OnOk result (Sound store.new) }
+{
+    let ballast = fill(alloc, heap, left)?;
+    let is_applied = has_applied(store, step);
+    drop(ballast);
+    Ok(is_applied)
+}
+
+// The same with the step of a command.
 fn try_apply<'a>(
     alloc: Global,
     heap: &'a LocalHeap,
@@ -394,8 +403,9 @@ fn try_apply<'a>(
     ensures { OnOk result (Sound store.new) }
 {
     let step = step_of(heap, command)?;
-    let _ballast = fill(alloc, heap, left)?;
-    Ok(has_applied(store, &step))
+    let applied = apply_with(alloc, heap, store, &step, left);
+    drop(step);
+    applied
 }
 
 // A store to which these commands were applied.
@@ -435,38 +445,25 @@ fn applies_or_keeps<'a, R: Abort>(
     Ok(is_done)
 }
 
-// Applies it to a store of its own.
-fn try_store<'a, R: Abort>(
-    rt: &R,
-    alloc: Global,
-    heap: &'a LocalHeap,
-    case: &Case,
-    left: usize,
-) -> Result<bool, Fail> {
-    let mut store = store_after(heap, case.pages, case.before)?;
-    let is_done = applies_or_keeps(rt, alloc, heap, &mut store, case, left);
-    drop(store);
-    is_done
-}
-
-// The same on a heap of its own.
-fn try_case<R: Abort>(rt: &R, alloc: Global, case: &Case, left: usize) -> Result<bool, Fail> {
-    let heap = LocalHeap::new(alloc, BYTES)?;
-    try_store(rt, alloc, &heap, case, left)
+impl Trial for Case {
+    fn attempt<R: Abort>(
+        &self,
+        rt: &R,
+        alloc: Global,
+        heap: &LocalHeap,
+        left: usize,
+    ) -> Result<bool, Fail> {
+        let mut store = store_after(heap, self.pages, self.before)?;
+        let is_done = applies_or_keeps(rt, alloc, heap, &mut store, self, left);
+        drop(store);
+        is_done
+    }
 }
 
 #[test]
 fn applies(rt: HostRuntime) -> Result<(), Fail> {
     for case in &CASES {
-        let mut refused = None;
-        for units in 0..BYTES / UNIT {
-            if try_case(&rt, rt.alloc(), case, units * UNIT)? {
-                refused = Some(units);
-                break;
-            }
-        }
-        let name = case.name;
-        assert!(rt; refused.unwrap_or(0) > 0, "{name}");
+        refuse_in_turn(&rt, rt.alloc(), case)?;
     }
     Ok(())
 }
@@ -474,7 +471,11 @@ fn applies(rt: HostRuntime) -> Result<(), Fail> {
 // Whether a copy of the step is the same, none where there was no memory for it.
 fn is_copy_same<'a>(heap: &'a LocalHeap, step: &Step<&'a LocalHeap>) -> Option<bool> {
     match step.copy(heap) {
-        Ok(copy) => Some(step.is_same(&copy)),
+        Ok(copy) => {
+            let is_same = step.is_same(&copy);
+            drop(copy);
+            Some(is_same)
+        }
         Err(_) => None,
     }
 }
@@ -501,41 +502,33 @@ fn copies_or_refuses<'a, R: Abort>(
     }
 }
 
-// Copies the step of a command.
-fn copy_of_command<'a, R: Abort>(
-    rt: &R,
-    alloc: Global,
-    heap: &'a LocalHeap,
-    command: Command,
-    left: usize,
-) -> Result<bool, Fail> {
-    let step = step_of(heap, command)?;
-    let is_copied = copies_or_refuses(rt, alloc, heap, &step, command, left);
-    drop(step);
-    is_copied
-}
+// A copy of a command's step.
+#[derive(Clone, Copy, Debug)]
+struct Copied(Command);
 
-// The same on a heap of its own.
-fn try_copy<R: Abort>(rt: &R, alloc: Global, command: Command, left: usize) -> Result<bool, Fail> {
-    let heap = LocalHeap::new(alloc, BYTES)?;
-    copy_of_command(rt, alloc, &heap, command, left)
+impl Trial for Copied {
+    fn attempt<R: Abort>(
+        &self,
+        rt: &R,
+        alloc: Global,
+        heap: &LocalHeap,
+        left: usize,
+    ) -> Result<bool, Fail> {
+        let step = step_of(heap, self.0)?;
+        let is_copied = copies_or_refuses(rt, alloc, heap, &step, self.0, left);
+        drop(step);
+        is_copied
+    }
 }
 
 #[test]
 fn copies(rt: HostRuntime) -> Result<(), Fail> {
-    for command in [
-        Command::Store(StoreVerb::Set, LONG_KEY, 100),
-        Command::Join(JoinSide::Append, LONG_KEY, 100),
-        Command::Keyed(KeyCommand::Get, LONG_KEY),
+    for copied in &[
+        Copied(Command::Store(StoreVerb::Set, LONG_KEY, 100)),
+        Copied(Command::Join(JoinSide::Append, LONG_KEY, 100)),
+        Copied(Command::Keyed(KeyCommand::Get, LONG_KEY)),
     ] {
-        let mut refused = None;
-        for units in 0..BYTES / UNIT {
-            if try_copy(&rt, rt.alloc(), command, units * UNIT)? {
-                refused = Some(units);
-                break;
-            }
-        }
-        assert!(rt; refused.unwrap_or(0) > 0, "{command:?}");
+        refuse_in_turn(&rt, rt.alloc(), copied)?;
     }
     Ok(())
 }

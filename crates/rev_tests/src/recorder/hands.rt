@@ -41,7 +41,10 @@ pub fn play<R: Wait>(
 ) -> Result<Receipt, RecordFault> {
     match recorder.play(rt, hand, step) {
         Ok(receipt) => Ok(receipt),
-        Err((fault, _step)) => Err(fault),
+        Err((fault, step)) => {
+            drop(step);
+            Err(fault)
+        }
     }
 }
 

@@ -2,7 +2,7 @@
 ghost use Rattle.std.specs.Prelude.{IfOk};
 ghost use Rattle.rev_model.specs.Sound.{Sound};
 
-use crate::owned::{after, or_fail};
+use crate::owned::{after, is_made, or_fail};
 use crate::recorder::hands::{ROOT, clock, keyed, play_set, set};
 use crate::recorder::openings::{SEAL, SMALL, record};
 use rev_inverse::Store;
@@ -46,9 +46,12 @@ fn hold_root(alloc: Global, store: &mut Store<Global>) -> Result<(), Fail>
     ensures { Sound store.new }
 {
     let step = set(alloc, "r")?;
-    match apply(store, &step) {
-        Ok(_) => Ok(()),
-        Err(_) => Err(Fail::new("no memory")),
+    let is_held = is_made(apply(store, &step));
+    drop(step);
+    if is_held {
+        Ok(())
+    } else {
+        Err(Fail::new("no memory"))
     }
 }
 
@@ -69,7 +72,10 @@ fn root_session(alloc: Global) -> Result<Session<Global>, Fail> {
 fn play_before(alloc: Global, session: &mut Session<Global>, node: u32) -> Result<(), Fail> {
     match session.play(step_before(alloc, node)?) {
         Ok(_) => Ok(()),
-        Err((fault, _step)) => Err(Fail::from(fault)),
+        Err((fault, step)) => {
+            drop(step);
+            Err(Fail::from(fault))
+        }
     }
 }
 

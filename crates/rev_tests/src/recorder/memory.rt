@@ -46,10 +46,16 @@ fn play_again<R: Wait>(
             }
             match recorder.play(rt, hand, step) {
                 Ok(_) => Ok(()),
-                Err((fault, _step)) => Err(Fail::from(fault)),
+                Err((fault, step)) => {
+                    drop(step);
+                    Err(Fail::from(fault))
+                }
             }
         }
-        Err((fault, _step)) => Err(Fail::from(fault)),
+        Err((fault, step)) => {
+            drop(step);
+            Err(Fail::from(fault))
+        }
     }
 }
 

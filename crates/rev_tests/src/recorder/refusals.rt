@@ -49,7 +49,10 @@ fn no_node(rt: HostRuntime) -> Result<(), Fail> {
 fn tick(session: &mut Session<Global>) -> Result<(), PlayFault> {
     match session.play(clock(1)) {
         Ok(_) => Ok(()),
-        Err((fault, _step)) => Err(fault),
+        Err((fault, step)) => {
+            drop(step);
+            Err(fault)
+        }
     }
 }
 
