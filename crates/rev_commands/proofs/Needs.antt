@@ -1,16 +1,12 @@
--- How many moves room needs at most.
-use Rattle.std.specs.Prelude.{ℕ, ◌≤◌, ◌+◌, ◌*◌, List, [], ◌∷◌, Option, None, Some}
-use Rattle.std.proofs.Common.{arith}
-use Rattle.rev_model.specs.State.{State, free_of}
-use Rattle.rev_model.specs.Pull.{page_of}
+-- How many moves it takes at most that what a lookup found leaves.
+use Rattle.std.specs.Prelude.{ℕ, ◌≡◌, ◌≤◌, ◌+◌, List, Option, None, Some}
+use Rattle.std.proofs.Common.{sym, arith}
+use Rattle.rev_model.specs.State.{State}
+use Rattle.rev_model.specs.Client.{lookup}
 use Rattle.rev_model.specs.declared.ChunkRef.{ChunkRef}
-use Rattle.rev_model.specs.declared.Form.{Form}
-use Rattle.rev_maintainer.specs.Rooming.{need_by, room_need}
+use Rattle.rev_commands.specs.Looking.{chunk_of, found, found_look, found_need, found_removal, look_most, look_need, removal_need}
 
-need_most : (k : ℕ) (l : List ChunkRef) (p : Option (ℕ × Form)) → need_by k l p ≤ 4 * k + 2
-need_most k (x ∷ xs) p = omega arith
-need_most k [] (Some p) = omega arith
-need_most k [] None = omega arith
-
-pub room_most : (s : State) (c : ℕ) → room_need 10 s c ≤ 42
-room_most s c = need_most 10 (free_of s c) (page_of s c)
+-- a lookup, and the way out of what it found
+pub look_found : (s : State) (k : List ℕ) (o : Option ChunkRef) → o ≡ chunk_of (lookup s k).1 → look_need s k + found_need o ≤ removal_need s k
+look_found s k None e = omega (arith, look_most s k)
+look_found s k (Some x) e = let l = found s k x (sym e) in omega (arith, found_look s k x l, found_removal s k x l)

@@ -1,5 +1,26 @@
 use Rattle.rev_model.specs.Undo.{leads_none}
+use Rattle.std.proofs.Common.{ap, arith}
+use Rattle.rev_moves.specs.Record.{PlainRecord}
+use Rattle.rev_changes.specs.Telling.{tells_all}
+use Rattle.std.specs.Prelude.{length}
+use Rattle.rev_model.specs.State.{find}
+use Rattle.rev_commands.specs.Looking.{removal_most}
 use Rattle.rev_commands.proofs.delete.delete.Goals as goal
 
 pub returns-clause-leads : goal.returns-clause-leads
 returns-clause-leads g c = c.delete_found-outcome.ensures.leads c.args.store.now (rw c.in_ok-undo.ensures (leads_none c.args.store.now))
+
+pub returns-clause-sound : goal.returns-clause-sound
+returns-clause-sound g c = c.delete_found-outcome.ensures.sound
+
+pub returns-clause-told : goal.returns-clause-told
+returns-clause-told g c = tells_all _ _ _ _ _ (ap (λ (r : PlainRecord). r.moves) c.in_ok-undo.ensures) (ap (λ (r : PlainRecord). r.notes) c.in_ok-undo.ensures) c.delete_found-outcome.ensures.told
+
+pub delete_found-outcome-requires-clause-room : goal.delete_found-outcome-requires-clause-room
+delete_found-outcome-requires-clause-room g c = omega (arith, c.removal_moves.ensures, ap (λ (r : PlainRecord). length r.moves) c.in_ok-undo.ensures, ap (λ (r : PlainRecord). r.room) c.in_ok-undo.ensures)
+
+pub returns-clause-step : goal.returns-clause-step
+returns-clause-step g c = c.delete_found-outcome.ensures.done
+
+pub returns-clause-few : goal.returns-clause-few
+returns-clause-few g c = omega (arith, c.delete_found-outcome.ensures.made, removal_most (find c.args.store.now c.args.key.now), ap (λ (r : PlainRecord). length r.moves) c.in_ok-undo.ensures)

@@ -1,10 +1,10 @@
-use Rattle.std.proofs.Common.{sym, ◌∙◌, subst, rules}
-use Rattle.rev_commands.specs.Looking.{found, missed}
-use Rattle.std.specs.Prelude.{Some}
+use Rattle.std.proofs.Common.{sym, ◌∙◌, subst, rules, arith}
+use Rattle.rev_commands.specs.Looking.{found, missed, look_most, found_look, found_removal}
+use Rattle.std.specs.Prelude.{Some, None}
 use Rattle.rev_model.specs.declared.Cause.TheVariants.{Deleted}
 use Rattle.rev_changes.specs.Telling.{Tells, tells_then, append_nil}
 use Rattle.rev_model.specs.Causes.{look_removals}
-use Rattle.rev_commands.proofs.Leaving.{deleted_by, found_clear, missed_clear}
+use Rattle.rev_commands.proofs.Leaving.{deleted_by, found_clear, missed_clear, there}
 use Rattle.rev_commands.proofs.delete.delete_found.Goals as goal
 
 pub returns-in-Some-clause-done : goal.returns-in-Some-clause-done
@@ -28,3 +28,39 @@ returns-in-None-clause-told g c =
 
 pub returns-in-None-clause-done : goal.returns-in-None-clause-done
 returns-in-None-clause-done g c = search rules steps 1500000
+
+pub lookup-requires-clause-sound : goal.lookup-requires-clause-sound
+lookup-requires-clause-sound g c = (None, c.requires.sound)
+
+pub lookup-requires-clause-room : goal.lookup-requires-clause-room
+lookup-requires-clause-room g c = omega (arith, look_most c.args.store.now c.args.key.now, c.requires.room)
+
+pub remove-requires-clause-sound : goal.remove-requires-clause-sound
+remove-requires-clause-sound g c = (None, c.lookup.ensures.sound None c.requires.sound)
+
+pub remove-requires-clause-item : goal.remove-requires-clause-item
+remove-requires-clause-item g c =
+    let l = found c.args.store.now c.args.key.now c.in-Some.chunk (sym c.lookup.ensures.found ∙ c.in-Some.is) in
+    (l.item, there c.args.store.now c.lookup.new.store c.args.store.now c.args.key.now c.in-Some.chunk l c.lookup.ensures.state)
+
+pub remove-requires-clause-room : goal.remove-requires-clause-room
+remove-requires-clause-room g c =
+    let l = found c.args.store.now c.args.key.now c.in-Some.chunk (sym c.lookup.ensures.found ∙ c.in-Some.is) in
+    omega (arith, found_look c.args.store.now c.args.key.now c.in-Some.chunk l, found_removal c.args.store.now c.args.key.now c.in-Some.chunk l, c.lookup.ensures.made, c.lookup.ensures.room, c.requires.room)
+
+pub returns-in-Some-clause-sound : goal.returns-in-Some-clause-sound
+returns-in-Some-clause-sound g c = c.remove.ensures.sound None (c.lookup.ensures.sound None c.requires.sound)
+
+pub returns-in-None-clause-sound : goal.returns-in-None-clause-sound
+returns-in-None-clause-sound g c = c.lookup.ensures.sound None c.requires.sound
+
+pub returns-in-Some-clause-room : goal.returns-in-Some-clause-room
+returns-in-Some-clause-room g c = c.remove.ensures.room ∙ c.lookup.ensures.room
+
+pub returns-in-Some-clause-made : goal.returns-in-Some-clause-made
+returns-in-Some-clause-made g c =
+    let l = found c.args.store.now c.args.key.now c.in-Some.chunk (sym c.lookup.ensures.found ∙ c.in-Some.is) in
+    omega (arith, found_look c.args.store.now c.args.key.now c.in-Some.chunk l, found_removal c.args.store.now c.args.key.now c.in-Some.chunk l, c.lookup.ensures.made, c.remove.ensures.made)
+
+pub returns-in-None-clause-made : goal.returns-in-None-clause-made
+returns-in-None-clause-made g c = omega (arith, look_most c.args.store.now c.args.key.now, c.lookup.ensures.made)

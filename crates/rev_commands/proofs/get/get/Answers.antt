@@ -3,6 +3,7 @@ use Rattle.std.proofs.Common.{ap, arith}
 use Rattle.rev_model.specs.Undo.{leads_none}
 use Rattle.rev_moves.specs.Record.{PlainRecord}
 use Rattle.rev_commands.proofs.Hitting.{access_most}
+use Rattle.rev_changes.specs.Telling.{tells_all}
 use Rattle.rev_commands.proofs.get.get.Goals as goal
 
 pub returns-clause-leads : goal.returns-clause-leads
@@ -10,3 +11,9 @@ returns-clause-leads g c = c.get_in-outcome.ensures.leads c.args.store.now (rw c
 
 pub returns-clause-few : goal.returns-clause-few
 returns-clause-few g c = omega (arith, c.get_in-outcome.ensures.made, access_most 0 c.args.store.now c.args.key.now, ap (λ (r : PlainRecord). length r.moves) c.in_ok-undo.ensures)
+
+pub returns-clause-sound : goal.returns-clause-sound
+returns-clause-sound g c = c.get_in-outcome.ensures.sound
+
+pub returns-clause-told : goal.returns-clause-told
+returns-clause-told g c = tells_all _ _ _ _ _ (ap (λ (r : PlainRecord). r.moves) c.in_ok-undo.ensures) (ap (λ (r : PlainRecord). r.notes) c.in_ok-undo.ensures) c.get_in-outcome.ensures.told

@@ -1,5 +1,5 @@
-use Rattle.std.proofs.Common.{sym, ◌∙◌, subst}
-use Rattle.rev_commands.specs.Looking.{found, missed}
+use Rattle.std.proofs.Common.{sym, ◌∙◌, subst, arith}
+use Rattle.rev_commands.specs.Looking.{found, missed, look_most, found_look, found_removal}
 use Rattle.rev_changes.specs.Telling.{Tells, tells_then, append_nil}
 use Rattle.rev_model.specs.Causes.{look_removals}
 use Rattle.rev_commands.proofs.Leaving.{cleared_by, there, found_clear, missed_clear}
@@ -28,3 +28,28 @@ pub returns-in-None-clause-told : goal.returns-in-None-clause-told
 returns-in-None-clause-told g c =
     subst (Tells c.args.undo.now c.args.store.now c.lookup.new.undo c.lookup.new.store) (sym (append_nil (look_removals c.args.store.now c.args.key.now)) ∙ missed_clear c.args.cause c.args.store.now c.args.key.now (missed c.args.store.now c.args.key.now (sym c.in-None.is ∙ c.lookup.ensures.found)))
     c.lookup.ensures.told
+
+pub lookup-requires-clause-room : goal.lookup-requires-clause-room
+lookup-requires-clause-room g c = omega (arith, look_most c.args.store.now c.args.key.now, c.requires.room)
+
+pub remove-requires-clause-room : goal.remove-requires-clause-room
+remove-requires-clause-room g c =
+    let l = found c.args.store.now c.args.key.now c.in-Some.chunk (sym c.lookup.ensures.found ∙ c.in-Some.is) in
+    omega (arith, found_look c.args.store.now c.args.key.now c.in-Some.chunk l, found_removal c.args.store.now c.args.key.now c.in-Some.chunk l, c.lookup.ensures.made, c.lookup.ensures.room, c.requires.room)
+
+pub remove-requires-clause-sound : goal.remove-requires-clause-sound
+remove-requires-clause-sound g c = (c.requires.sound.0, c.lookup.ensures.sound c.requires.sound.0 c.requires.sound.1)
+
+pub returns-in-Some-clause-sound : goal.returns-in-Some-clause-sound
+returns-in-Some-clause-sound g c = λ h sound. c.remove.ensures.sound h (c.lookup.ensures.sound h sound)
+
+pub returns-in-Some-clause-room : goal.returns-in-Some-clause-room
+returns-in-Some-clause-room g c = c.remove.ensures.room ∙ c.lookup.ensures.room
+
+pub returns-in-Some-clause-made : goal.returns-in-Some-clause-made
+returns-in-Some-clause-made g c =
+    let l = found c.args.store.now c.args.key.now c.in-Some.chunk (sym c.lookup.ensures.found ∙ c.in-Some.is) in
+    omega (arith, found_look c.args.store.now c.args.key.now c.in-Some.chunk l, found_removal c.args.store.now c.args.key.now c.in-Some.chunk l, c.lookup.ensures.made, c.remove.ensures.made)
+
+pub returns-in-None-clause-made : goal.returns-in-None-clause-made
+returns-in-None-clause-made g c = omega (arith, look_most c.args.store.now c.args.key.now, c.lookup.ensures.made)

@@ -1,7 +1,8 @@
 use Rattle.std.specs.Prelude.{◌≤◌}
-use Rattle.std.proofs.Common.{sym, subst, arith}
+use Rattle.std.proofs.Common.{sym, subst, arith, ◌∙◌}
 use Rattle.rev_model.specs.State.{Fixed}
 use Rattle.rev_model.specs.Places.{IsClass}
+use Rattle.rev_model.specs.Sound.{SoundBut}
 use Rattle.rev_model.specs.declared.Outcome.TheVariants.{NoChunk}
 use Rattle.rev_maintainer.specs.Rooming.{same_globals_after}
 use Rattle.rev_changes.specs.Telling.{Tells, tells_then}
@@ -61,3 +62,21 @@ returns-in-None-clause-done g c =
 pub returns-in-Some-clause-done : goal.returns-in-Some-clause-done
 returns-in-Some-clause-done g c =
     placed_some c.args.store.now c.room.new.store (plain_verb c.args.verb) c.args.class c.args.item c.room.result c.in-Some.chunk (c.settle.new.store, c.settle.result) c.room.ensures.done c.in-Some.is c.settle.ensures.done
+
+pub settle-requires-clause-sound : goal.settle-requires-clause-sound
+settle-requires-clause-sound g c = subst (λ o. SoundBut o c.room.new.store) c.in-Some.is c.room.ensures.sound
+
+pub returns-in-Some-clause-sound : goal.returns-in-Some-clause-sound
+returns-in-Some-clause-sound g c = c.settle.ensures.sound
+
+pub returns-in-Some-clause-room : goal.returns-in-Some-clause-room
+returns-in-Some-clause-room g c = c.settle.ensures.room ∙ c.room.ensures.room
+
+pub returns-in-None-clause-sound : goal.returns-in-None-clause-sound
+returns-in-None-clause-sound g c = c.give_up.ensures.sound
+
+pub returns-in-None-clause-room : goal.returns-in-None-clause-room
+returns-in-None-clause-room g c = c.give_up.ensures.room ∙ c.room.ensures.room
+
+pub returns-in-None-clause-leads : goal.returns-in-None-clause-leads
+returns-in-None-clause-leads g c = λ first l. c.give_up.ensures.leads first (c.room.ensures.leads first l)

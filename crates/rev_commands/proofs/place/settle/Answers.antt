@@ -1,5 +1,5 @@
-use Rattle.std.specs.Prelude.{◌≡◌, ◌++◌, ◌≤◌}
-use Rattle.std.proofs.Common.{arith, subst}
+use Rattle.std.specs.Prelude.{◌≡◌, ◌+◌, ◌++◌, ◌≤◌, Some}
+use Rattle.std.proofs.Common.{arith, subst, ◌∙◌}
 use Rattle.rev_model.specs.State.{find}
 use Rattle.rev_model.specs.Client.{lookup, refusal}
 use Rattle.rev_model.specs.Causes.{look_removals, settled_removals}
@@ -7,9 +7,10 @@ use Rattle.rev_model.specs.declared.Outcome.TheVariants.{Stored}
 use Rattle.rev_changes.specs.Telling.{Tells, tells_then}
 use Rattle.rev_requests.specs.Plain.{plain_verb}
 use Rattle.rev_commands.specs.Finding.{found_key}
-use Rattle.rev_commands.specs.Looking.{look_most, look_need, removal_need}
+use Rattle.rev_commands.specs.Looking.{found_need, look_most, look_need, removal_need}
 use Rattle.rev_commands.specs.Placing.{settled_item, same_frame}
 use Rattle.rev_commands.proofs.Settling.{settled_stored, settled_refused, told_stored, told_refused}
+use Rattle.rev_commands.proofs.Needs.{look_found}
 use Rattle.rev_commands.proofs.place.settle.Goals as goal
 
 pub refusal-requires-clause-old : goal.refusal-requires-clause-old
@@ -66,3 +67,62 @@ pub returns-in-Some-clause-made : goal.returns-in-Some-clause-made
 returns-in-Some-clause-made g c =
     let most = subst (λ k. look_need c.args.store.now c.key.result.now ≤ removal_need c.args.store.now k) c.key.ensures (look_most c.args.store.now c.key.result.now) in
     omega (arith, most, c.lookup-old.ensures.made, c.give_back.ensures.made)
+
+pub lookup-old-requires-clause-sound : goal.lookup-old-requires-clause-sound
+lookup-old-requires-clause-sound g c = (Some c.args.chunk, c.requires.sound)
+
+pub lookup-old-requires-clause-room : goal.lookup-old-requires-clause-room
+lookup-old-requires-clause-room g c =
+    let most = subst (λ k. look_need c.args.store.now c.key.result.now ≤ removal_need c.args.store.now k) c.key.ensures (look_most c.args.store.now c.key.result.now) in
+    omega (arith, most, c.requires.room)
+
+pub refusal-requires-clause-well : goal.refusal-requires-clause-well
+refusal-requires-clause-well g c = (c.lookup-old.ensures.sound (Some c.args.chunk) c.requires.sound).well
+
+pub give_back-requires-clause-sound : goal.give_back-requires-clause-sound
+give_back-requires-clause-sound g c = c.lookup-old.ensures.sound (Some c.args.chunk) c.requires.sound
+
+pub give_back-requires-clause-class : goal.give_back-requires-clause-class
+give_back-requires-clause-class g c =
+    let frame = same_frame c.args.store.now c.lookup-old.new.store c.key.result.now c.lookup-old.ensures.state in
+    rw frame.fixed c.requires.class
+
+pub give_back-requires-clause-room : goal.give_back-requires-clause-room
+give_back-requires-clause-room g c =
+    let most = subst (λ k. look_need c.args.store.now c.key.result.now ≤ removal_need c.args.store.now k) c.key.ensures (look_most c.args.store.now c.key.result.now) in
+    omega (arith, most, c.lookup-old.ensures.made, c.lookup-old.ensures.room, c.requires.room)
+
+pub renew-requires-clause-sound : goal.renew-requires-clause-sound
+renew-requires-clause-sound g c = c.lookup-old.ensures.sound (Some c.args.chunk) c.requires.sound
+
+pub renew-requires-clause-class : goal.renew-requires-clause-class
+renew-requires-clause-class g c =
+    let frame = same_frame c.args.store.now c.lookup-old.new.store c.key.result.now c.lookup-old.ensures.state in
+    rw frame.fixed c.requires.class
+
+pub renew-requires-clause-fits : goal.renew-requires-clause-fits
+renew-requires-clause-fits g c =
+    let frame = same_frame c.args.store.now c.lookup-old.new.store c.key.result.now c.lookup-old.ensures.state in
+    rw frame.fixed c.requires.fits
+
+pub returns-in-Some-clause-sound : goal.returns-in-Some-clause-sound
+returns-in-Some-clause-sound g c = c.give_back.ensures.sound
+
+pub returns-in-None-clause-sound : goal.returns-in-None-clause-sound
+returns-in-None-clause-sound g c = c.renew.ensures.sound
+
+pub returns-in-Some-clause-room : goal.returns-in-Some-clause-room
+returns-in-Some-clause-room g c = c.give_back.ensures.room ∙ c.lookup-old.ensures.room
+
+pub returns-in-None-clause-room : goal.returns-in-None-clause-room
+returns-in-None-clause-room g c = c.renew.ensures.room ∙ c.lookup-old.ensures.room
+
+pub renew-requires-clause-room : goal.renew-requires-clause-room
+renew-requires-clause-room g c =
+    let most = subst (λ k. look_need c.args.store.now c.key.result.now + found_need c.lookup-old.result ≤ removal_need c.args.store.now k) c.key.ensures (look_found c.args.store.now c.key.result.now c.lookup-old.result c.lookup-old.ensures.found) in
+    omega (arith, most, c.lookup-old.ensures.made, c.lookup-old.ensures.room, c.requires.room)
+
+pub returns-in-None-clause-made : goal.returns-in-None-clause-made
+returns-in-None-clause-made g c =
+    let most = subst (λ k. look_need c.args.store.now c.key.result.now + found_need c.lookup-old.result ≤ removal_need c.args.store.now k) c.key.ensures (look_found c.args.store.now c.key.result.now c.lookup-old.result c.lookup-old.ensures.found) in
+    omega (arith, most, c.lookup-old.ensures.made, c.renew.ensures.made)

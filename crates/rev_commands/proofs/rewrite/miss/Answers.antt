@@ -1,9 +1,10 @@
-use Rattle.std.specs.Prelude.{length}
-use Rattle.std.proofs.Common.{ap, arith, rules}
+use Rattle.std.specs.Prelude.{length, None}
+use Rattle.std.proofs.Common.{ap, arith}
 use Rattle.rev_model.specs.State.{find}
 use Rattle.rev_model.specs.Undo.{leads_none}
 use Rattle.rev_moves.specs.Record.{PlainRecord}
 use Rattle.rev_commands.specs.Looking.{look_most, removal_most}
+use Rattle.rev_changes.specs.Telling.{tells_all}
 use Rattle.rev_commands.proofs.rewrite.miss.Goals as goal
 
 pub lookup-found-requires-clause-room : goal.lookup-found-requires-clause-room
@@ -18,4 +19,7 @@ returns-clause-few g c =
     omega (arith, c.lookup-found.ensures.made, look_most c.args.store.now c.args.key.now, removal_most (find c.args.store.now c.args.key.now), ap (λ (r : PlainRecord). length r.moves) c.in_ok-undo.ensures)
 
 pub returns-clause-sound : goal.returns-clause-sound
-returns-clause-sound g c = search rules
+returns-clause-sound g c = c.lookup-found.ensures.sound None c.requires
+
+pub returns-clause-told : goal.returns-clause-told
+returns-clause-told g c = tells_all _ _ _ _ _ (ap (λ (r : PlainRecord). r.moves) c.in_ok-undo.ensures) (ap (λ (r : PlainRecord). r.notes) c.in_ok-undo.ensures) c.lookup-found.ensures.told

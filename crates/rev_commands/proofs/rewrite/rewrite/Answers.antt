@@ -10,7 +10,7 @@ use Rattle.rev_moves.specs.Record.{PlainRecord}
 use Rattle.rev_changes.specs.Telling.{TellsAll, tells_all}
 use Rattle.rev_commands.specs.Looking.{removal_most}
 use Rattle.rev_commands.specs.Rewriting.{rewritten_as, told_as}
-use Rattle.rev_commands.proofs.Needs.{room_most}
+use Rattle.rev_commands.specs.Placing.{room_most}
 use Rattle.rev_commands.proofs.rewrite.rewrite.Goals as goal
 
 pub place-outcome-requires-clause-room : goal.place-outcome-requires-clause-room
@@ -41,3 +41,6 @@ returns-clause-told g c =
     let key : d.item.key ≡ c.args.key.now = ap (λ (i : PlainItem). i.key) c.requires.drafted.item in
     subst (TellsAll c.place-outcome.new.undo c.place-outcome.new.store) (ap (store_in_removals s Replaces d.class) key ∙ told_as s d.class c.args.key.now)
     (tells_all c.in_ok-undo.undo c.place-outcome.new.undo s c.place-outcome.new.store (store_in_removals s Replaces d.class d.item.key) (ap (λ (r : PlainRecord). r.moves) c.in_ok-undo.ensures) (ap (λ (r : PlainRecord). r.notes) c.in_ok-undo.ensures) c.place-outcome.ensures.told)
+
+pub returns-clause-sound : goal.returns-clause-sound
+returns-clause-sound g c = c.place-outcome.ensures.sound

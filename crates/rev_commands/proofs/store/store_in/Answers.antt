@@ -36,3 +36,18 @@ returns-clause-told g c =
 pub returns-clause-few : goal.returns-clause-few
 returns-clause-few g c =
     omega (arith, c.place-outcome.ensures.made, room_most c.args.store.now c.args.class, removal_most (find c.args.store.now c.in_ok-item.item.key), ap (λ (r : PlainRecord). length r.moves) c.in_ok-undo.ensures)
+
+pub returns-clause-sound : goal.returns-clause-sound
+returns-clause-sound g c = c.place-outcome.ensures.sound
+
+pub place-outcome-requires-clause-sound : goal.place-outcome-requires-clause-sound
+place-outcome-requires-clause-sound g c = c.requires.sound
+
+pub place-outcome-requires-clause-class : goal.place-outcome-requires-clause-class
+place-outcome-requires-clause-class g c = c.requires.class
+
+pub place-outcome-requires-clause-fits : goal.place-outcome-requires-clause-fits
+place-outcome-requires-clause-fits g c = rw c.in_ok-item.ensures c.requires.fits
+
+pub returns-clause-err : goal.returns-clause-err
+returns-clause-err g c = tt

@@ -5,6 +5,7 @@ use Rattle.rev_model.specs.Undo.{leads_none}
 use Rattle.rev_model.specs.Client.{touch}
 use Rattle.rev_moves.specs.Record.{PlainRecord}
 use Rattle.rev_commands.proofs.Hitting.{access_most}
+use Rattle.rev_changes.specs.Telling.{tells_all}
 use Rattle.rev_commands.proofs.touch.touch.Goals as goal
 
 pub returns-clause-step : goal.returns-clause-step
@@ -15,3 +16,9 @@ returns-clause-leads g c = c.touch_in-outcome.ensures.leads c.args.store.now (rw
 
 pub returns-clause-few : goal.returns-clause-few
 returns-clause-few g c = omega (arith, c.touch_in-outcome.ensures.made, access_most 1 c.args.store.now c.args.key.now, ap (λ (r : PlainRecord). length r.moves) c.in_ok-undo.ensures)
+
+pub returns-clause-sound : goal.returns-clause-sound
+returns-clause-sound g c = c.touch_in-outcome.ensures.sound
+
+pub returns-clause-told : goal.returns-clause-told
+returns-clause-told g c = tells_all _ _ _ _ _ (ap (λ (r : PlainRecord). r.moves) c.in_ok-undo.ensures) (ap (λ (r : PlainRecord). r.notes) c.in_ok-undo.ensures) c.touch_in-outcome.ensures.told
