@@ -8,8 +8,8 @@ use Rattle.std.proofs.lemmas.List.Sums.{sum_by-cons}
 use Rattle.rev_model.specs.Chunk.{same_entry}
 use Rattle.rev_model.specs.Lists.{has, count}
 use Rattle.rev_model.specs.State.{State, WellFormed, queue_of, queue_place}
-use Rattle.rev_model.specs.Move.{MarksIn, Possible, Ready, NoMarks, is_class, names, names_other, marked}
-use Rattle.rev_model.specs.Actor.{has_mark, is_busy}
+use Rattle.rev_model.specs.Move.{moved, MarksIn, Possible, Ready, NoMarks, is_class, names, names_other, marked}
+use Rattle.rev_model.specs.Actor.{has_mark, is_busy, crawl_start}
 use Rattle.rev_model.specs.Places.{IsClass}
 use Rattle.rev_model.specs.Sound.{Sound}
 use Rattle.rev_model.specs.Undo.{count_none}
@@ -17,10 +17,12 @@ use Rattle.rev_model.specs.declared.ChunkRef.{ChunkRef}
 use Rattle.rev_model.specs.declared.ClassSet.{ClassSet}
 use Rattle.rev_model.specs.declared.Entry.{Entry}
 use Rattle.rev_model.specs.declared.Entry.TheVariants.{Chunk, Mark}
+use Rattle.rev_model.specs.declared.Outcome.TheVariants.{Okay}
 use Rattle.rev_model.specs.declared.Queue.{Queue}
 use Rattle.rev_model.specs.declared.Queue.TheVariants.{Hot, Warm, Cold, Temp}
 use Rattle.rev_changes.specs.Rest.{Rest}
 use Rattle.rev_changes.specs.Seats.{place_parts}
+use Rattle.rev_crawler.proofs.Passing.{case_three}
 use Rattle.rev_crawler.proofs.Counting.{has-mark_last, count-mark_last, marks-mark_last, rest-queues}
 
 neither : (a b : Bool) → (a || b) ≡ false → (a ≡ false) × (b ≡ false)
@@ -191,3 +193,16 @@ keeps-marks s well set r = record {
 
 pub rest-marks : (h : Option ChunkRef) (s : State) (set : ClassSet) → Rest h s → Rest h (record s { queues = marked (names s set) 0 s.queues })
 rest-marks h s set = rest-queues h s (marked (names s set) 0 s.queues) (sum-marked (names s set) 0 s.queues)
+
+-- no named class has a mark, as a fact that tells by its set which it is
+pub record IsFree (s : State) (set : ClassSet) : Type 0 where
+  pub free : is_busy 64 s set ≡ false
+
+pub as_free : (s : State) (set : ClassSet) (r : Bool) → r ≡ is_busy 64 s set → r ≡ false → IsFree s set
+as_free s set r e f = record { free = sym e ∙ f }
+
+pub free_marks : (s : State) → Sound s → (set : ClassSet) → names_other 64 s set ≡ false → IsFree s set → Possible (MarksIn set) s
+free_marks s sound set known f = keeps-marks s sound.well set (ready_marks s sound set known f.free)
+
+pub start_okay : (s : State) (set : ClassSet) → names_other 64 s set ≡ false → IsFree s set → (t : State) → t ≡ moved (MarksIn set) s → (t, Okay) ≡ crawl_start s set
+start_okay s set known f t e = ap (λ (u : State). (u, Okay)) e ∙ case_three (names_other 64 s set) (is_busy 64 s set) _ _ _ known f.free

@@ -1,5 +1,5 @@
 -- The mark of a queue leaves, or goes in front of the entry that it stands behind.
-use Rattle.std.specs.Prelude.{ℕ, ◌≡◌, ◌+◌, Bool, true, false, List, [], ◌∷◌, Option, None, Some, is_some, refl, ◌⊎◌, IfOk}
+use Rattle.std.specs.Prelude.{ℕ, ◌≡◌, ◌+◌, Bool, true, false, cond, List, [], ◌∷◌, Option, None, Some, is_some, refl, ◌⊎◌, IfOk}
 use Rattle.std.specs.declared.result.Result.{Result}
 use Rattle.std.proofs.Common.{sym, ◌∙◌, ap, arith, inl, inr}
 use Rattle.std.proofs.lemmas.Bool.{cases_Bool}
@@ -12,13 +12,13 @@ use Rattle.rev_model.specs.Chunk.{same_entry}
 use Rattle.rev_model.specs.Lists.{has, count, without, before, before_from, insert, has_after}
 use Rattle.rev_model.specs.ListLaws.{has-without}
 use Rattle.rev_model.specs.State.{State, WellFormed, queue_of, queue_place, item_at}
-use Rattle.rev_model.specs.Move.{Takes, Puts, moved, Possible, with_queue}
+use Rattle.rev_model.specs.Move.{is_class, Takes, Puts, moved, Possible, with_queue}
 use Rattle.rev_model.specs.Keeps.{keeps-take_queue, keeps-put_queue, count-insert}
 use Rattle.rev_model.specs.Undo.{tells_entry, queue_distinct}
 use Rattle.rev_model.specs.Places.{IsClass, queue_in, free_in}
 use Rattle.rev_model.specs.Sound.{SoundBut, Stands}
-use Rattle.rev_model.specs.Actor.{passed, crawl_item}
-use Rattle.rev_model.specs.Causes.{crawl_item_removals}
+use Rattle.rev_model.specs.Actor.{passed, crawl, crawl_entry, crawl_item}
+use Rattle.rev_model.specs.Causes.{crawl_removals, crawl_entry_removals, crawl_item_removals}
 use Rattle.rev_model.specs.Track.{removal}
 use Rattle.rev_model.specs.Words.{is_dead, header_of, dropped, counted}
 use Rattle.rev_model.specs.declared.ChunkRef.{ChunkRef}
@@ -138,3 +138,41 @@ module _ (s : State) (c : ℕ) (q : Queue) (x : ChunkRef) where
 
   pub crawl_alive-told : (i : PlainItem) → item_at s x ≡ Some i → is_dead s.globals i ≡ false → [] ≡ crawl_item_removals s (item_at s x)
   crawl_alive-told i e alive = rw (e, alive) refl
+
+-- ---- the cases of a crawl
+
+pub case_one : {X : Type 0} (b : Bool) (x y : X) → b ≡ true → x ≡ cond b x y
+case_one b x y e = sym (ap (λ k. cond k x y) e)
+
+pub case_two : {X : Type 0} (b d : Bool) (x y z : X) → b ≡ false → d ≡ true → y ≡ cond b x (cond d y z)
+case_two b d x y z e f = sym (ap (λ k. cond k x (cond d y z)) e ∙ ap (λ k. cond k y z) f)
+
+pub case_three : {X : Type 0} (b d : Bool) (x y z : X) → b ≡ false → d ≡ false → z ≡ cond b x (cond d y z)
+case_three b d x y z e f = sym (ap (λ k. cond k x (cond d y z)) e ∙ ap (λ k. cond k y z) f)
+
+module _ (s : State) (c : ℕ) (q : Queue) where
+  pub crawl_bad : is_class s c ≡ false → (s, outcome.BadClass) ≡ crawl s c q
+  crawl_bad e = sym (ap (λ b. cond b (cond (has same_entry Mark (queue_of s c q)) (crawl_entry s c q (before same_entry Mark (queue_of s c q))) (s, outcome.Idle)) (s, outcome.BadClass)) e)
+
+  pub crawl_bad-told : is_class s c ≡ false → [] ≡ crawl_removals s c q
+  crawl_bad-told e = sym (ap (λ b. cond b (cond (has same_entry Mark (queue_of s c q)) (crawl_entry_removals s (before same_entry Mark (queue_of s c q))) []) []) e)
+
+  module _ (class : is_class s c ≡ true) where
+    in_class : crawl s c q ≡ cond (has same_entry Mark (queue_of s c q)) (crawl_entry s c q (before same_entry Mark (queue_of s c q))) (s, outcome.Idle)
+    in_class = ap (λ b. cond b (cond (has same_entry Mark (queue_of s c q)) (crawl_entry s c q (before same_entry Mark (queue_of s c q))) (s, outcome.Idle)) (s, outcome.BadClass)) class
+
+    in_class-told : crawl_removals s c q ≡ cond (has same_entry Mark (queue_of s c q)) (crawl_entry_removals s (before same_entry Mark (queue_of s c q))) []
+    in_class-told = ap (λ b. cond b (cond (has same_entry Mark (queue_of s c q)) (crawl_entry_removals s (before same_entry Mark (queue_of s c q))) []) []) class
+
+    pub crawl_idle : has same_entry Mark (queue_of s c q) ≡ false → (s, outcome.Idle) ≡ crawl s c q
+    crawl_idle e = sym (in_class ∙ ap (λ b. cond b (crawl_entry s c q (before same_entry Mark (queue_of s c q))) (s, outcome.Idle)) e)
+
+    pub crawl_idle-told : has same_entry Mark (queue_of s c q) ≡ false → [] ≡ crawl_removals s c q
+    crawl_idle-told e = sym (in_class-told ∙ ap (λ b. cond b (crawl_entry_removals s (before same_entry Mark (queue_of s c q))) []) e)
+
+    module _ (mark : has same_entry Mark (queue_of s c q) ≡ true) (o : Option Entry) (e : before same_entry Mark (queue_of s c q) ≡ o) where
+      pub crawl_is : crawl_entry s c q o ≡ crawl s c q
+      crawl_is = sym (in_class ∙ (ap (λ b. cond b (crawl_entry s c q (before same_entry Mark (queue_of s c q))) (s, outcome.Idle)) mark ∙ ap (crawl_entry s c q) e))
+
+      pub crawl_is-told : crawl_entry_removals s o ≡ crawl_removals s c q
+      crawl_is-told = sym (in_class-told ∙ (ap (λ b. cond b (crawl_entry_removals s (before same_entry Mark (queue_of s c q))) []) mark ∙ ap (crawl_entry_removals s) e))

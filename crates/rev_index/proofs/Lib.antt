@@ -4,3 +4,4 @@ pub mod Maps
 pub mod Kept
 pub mod Moves
 pub mod Fills
+pub mod Ends

@@ -6,10 +6,10 @@ use Rattle.rev_model.specs.Chunk.{same_chunk}
 use Rattle.rev_model.specs.Move.{falling, front}
 use Rattle.rev_model.specs.declared.ChunkRef.{ChunkRef}
 use Rattle.rev_model.specs.declared.Form.{Form}
-use Rattle.rev_model.specs.declared.Form.TheVariants.{Fresh, Withdrawn}
+use Rattle.rev_model.specs.declared.Form.TheVariants.{Fresh, Pool, Withdrawn}
 use Rattle.rev_pages.specs.declared.places.FreeList.{FreeList}
 use Rattle.rev_pages.specs.Tables.{FreeLink}
-use Rattle.rev_pages.specs.State.{PagesState, free_of, with_free, without_last_page, IsClear, state_of, IsLinked, carved}
+use Rattle.rev_pages.specs.State.{PagesState, free_of, with_free, without_last_page, with_page, IsClear, state_of, IsLinked, carved}
 use Rattle.rev_pages.specs.Lays.{Fronts, CanLift, lifted}
 use Rattle.rev_pages.proofs.Bridges.{not_in}
 use Rattle.rev_pages.proofs.Carving.{front_clear}
@@ -62,6 +62,14 @@ module _ (v : PagesState) (page p class n : ℕ) (at : p ≡ page) (owned : clas
       ∙ (ap (λ k. lifted page k n Fresh v) owner_is
       ∙ (ap (λ k. lifted page (get_or v.owner page 0) k Fresh v) count
       ∙ ap (λ g. lifted page (get_or v.owner page 0) (get_or v.slots page 0) g v) (sym is)))))
+
+  pub lift_pool : (s₁ s₂ : PagesState) (f : Form) → f ≡ Pool → s₁ ≡ with_free v class (drop n (free_of v class)) → s₂ ≡ with_page s₁ page 0 0
+      → s₂ ≡ lifted page (get_or v.owner page 0) (get_or v.slots page 0) f v
+  lift_pool s₁ s₂ f is a b =
+      b ∙ (ap (λ w. with_page w page 0 0) a
+      ∙ (ap (λ k. lifted page k n Pool v) owner_is
+      ∙ (ap (λ k. lifted page (get_or v.owner page 0) k Pool v) count
+      ∙ ap (λ g. lifted page (get_or v.owner page 0) (get_or v.slots page 0) g v) (sym is))))
 
   module _ (owners : List ℕ) (made : ℕ) (ends : List FreeLink) (links : List (List FreeLink)) (h : IsLinked owners made ends links) (e : state_of owners made ends links ≡ v) where
     pub lift_clear : (s₁ : PagesState) → 0 < get_or v.slots page 0 → Fronts page v → s₁ ≡ with_free v class (drop n (free_of v class)) → IsClear s₁ page

@@ -1,6 +1,7 @@
 -- The links of no page: empty lists.
-use Rattle.std.proofs.Common.{◌≡◌, ℕ, suc, zero, ◌<◌, ◌≤◌, List, [], length, get_or, sym, ◌∙◌, ap, subst, arith, map, replicate, option_map}
-use Rattle.std.proofs.lemmas.List.{same_lists, length-replicate, get_or-replicate}
+use Rattle.std.proofs.Common.{◌≡◌, ℕ, suc, zero, ◌+◌, ◌<◌, ◌≤◌, Some, List, [], ◌∷◌, ◌++◌, slice_get, inl, inr, refl, length, get_or, sym, ◌∙◌, ap, subst, arith, map, replicate, option_map}
+use Rattle.std.proofs.lemmas.Bool.{cases_lt}
+use Rattle.std.proofs.lemmas.List.{length-append, same_lists, length-replicate, get_or-replicate}
 use Rattle.std.proofs.lemmas.List.FromFn.{get_or-map-range_with_len}
 use Rattle.rev_links.specs.declared.places.Place.TheVariants.{End}
 use Rattle.rev_links.specs.Grids.{away}
@@ -12,6 +13,31 @@ use Rattle.rev_pages.specs.Tables.{FreeLink, next_in, previous_in}
 use Rattle.rev_pages.specs.State.{no_pages, chain, chains, state_of, IsLinked}
 use Rattle.rev_pages.specs.Opened.{AreEmpty}
 use Rattle.rev_pages.proofs.Chains.{Bounded, chain_is, length-chains}
+
+-- one end more
+get_before : {X : Type 0} (xs : List X) (y : X) (k : ℕ) → k < length xs → slice_get (xs ++ y ∷ []) k ≡ slice_get xs k
+get_before [] y k l = absurd (omega (arith, l))
+get_before (x ∷ xs) y zero l = refl
+get_before (x ∷ xs) y (suc k) l = get_before xs y k (omega (arith, l))
+
+get_last : {X : Type 0} (xs : List X) (y : X) (k : ℕ) → length xs ≡ k → slice_get (xs ++ y ∷ []) k ≡ Some y
+get_last [] y zero e = refl
+get_last [] y (suc k) e = absurd (omega (arith, e))
+get_last (x ∷ xs) y zero e = absurd (omega (arith, e))
+get_last (x ∷ xs) y (suc k) e = get_last xs y k (omega (arith, e))
+
+abbrev end_of : ℕ → FreeLink
+end_of n = record { previous = End (record { class = n }); next = End (record { class = n }) }
+
+module _ (ends ends' : List FreeLink) (n : ℕ) (e : ends' ≡ ends ++ end_of n ∷ []) (count : length ends ≡ n) where
+  pub count_more : length ends' ≡ n + 1
+  count_more = ap length e ∙ (length-append ends (end_of n ∷ []) ∙ ap (λ k. k + 1) count)
+
+  pub empty_more : AreEmpty ends → AreEmpty ends'
+  empty_more h k l = elim (cases_lt k n) [
+    | inl a ↦ ap (λ xs. slice_get xs k) e ∙ (get_before ends (end_of n) k (omega (arith, a, count)) ∙ h k (omega (arith, a, count)))
+    | inr b ↦ subst (λ m. slice_get ends' m ≡ Some (end_of m)) (omega (arith, b, l, count_more)) (ap (λ xs. slice_get xs n) e ∙ get_last ends (end_of n) n count)
+  ]
 
 nothing_below : (n p : ℕ) → get_or (replicate n 0) p 0 ≤ 65535
 nothing_below zero p = omega arith

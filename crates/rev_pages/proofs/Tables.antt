@@ -1,5 +1,6 @@
 -- Reads and writes of the links of ends and chunks.
-use Rattle.std.proofs.Common.{◌≡◌, ◌≢◌, ℕ, Option, Some, None, IsSome, List, length, set, refl, sym, ◌∙◌, ap, subst, option_map, map}
+use Rattle.std.proofs.Common.{◌≡◌, ◌≢◌, ℕ, slice_get, inl, inr, Option, Some, None, IsSome, List, length, set, refl, sym, ◌∙◌, ap, subst, option_map, map}
+use Rattle.std.proofs.lemmas.Bool.{cases_eq}
 use Rattle.rev_links.specs.declared.places.Place.TheVariants.{End, At}
 use Rattle.rev_pages.specs.declared.places.FreeList.{FreeList}
 use Rattle.rev_model.specs.declared.ChunkRef.{ChunkRef}
@@ -87,6 +88,44 @@ module _ (ends : List FreeLink) (links : List (List FreeLink)) (place : FreePlac
         at = ap (option_map (λ (k : FreeLink). k.previous)) (link_written ends links links' place x w u refl there);
         others = λ q d. ap (option_map (λ (k : FreeLink). k.previous)) (link_others ends links links' place x w u refl q d);
         kept = kept (λ k. k.next) w refl;
+      }
+
+-- the same at an end
+module _ (ends : List FreeLink) (links : List (List FreeLink)) (place : FreePlace) (c : FreeList) (n : ℕ) (l : FreeLink) (v : FreePlace) (u : place ≡ End c) (a : n ≡ c.class) (h : slice_get ends n ≡ Some l) where
+  end_there : IsSome (link_at ends links place)
+  end_there = subst (λ q. IsSome (link_at ends links q)) (sym u) (subst (λ k. IsSome (slice_get ends k)) a (subst IsSome (sym h) refl))
+
+  end_kept : (f : FreeLink → FreePlace) (w : FreeLink) → f w ≡ f l → (q : FreePlace)
+      → option_map f (link_at (set ends n w) links q) ≡ option_map f (link_at ends links q)
+  end_kept f w e (At y) = refl
+  end_kept f w e (End d) = elim (cases_eq d.class n) [
+    | inl b ↦
+        ap (λ k. option_map f (slice_get (set ends n w) k)) b
+        ∙ (ap (option_map f) (slice_get-set_same ends n w (some_within ends n (subst IsSome (sym h) refl)))
+        ∙ (ap Some e ∙ (sym (ap (option_map f) h) ∙ sym (ap (λ k. option_map f (slice_get ends k)) b))))
+    | inr m ↦ ap (option_map f) (slice_get-set_other ends n d.class w m)
+  ]
+
+  pub next_end : let ends' = set ends n (record l { next = v }) in
+      SetsNext (next_in ends links) (previous_in ends links) (next_in ends' links) (previous_in ends' links) place v
+  next_end =
+      let w = record l { next = v } in
+      let k = end_write ends (set ends n w) links place c n w u a refl end_there in
+      record {
+        at = ap (option_map (λ (k : FreeLink). k.next)) k.0;
+        others = λ q d. ap (option_map (λ (k : FreeLink). k.next)) (k.1 q d);
+        kept = end_kept (λ k. k.previous) w refl;
+      }
+
+  pub previous_end : let ends' = set ends n (record l { previous = v }) in
+      SetsPrevious (next_in ends links) (previous_in ends links) (next_in ends' links) (previous_in ends' links) place v
+  previous_end =
+      let w = record l { previous = v } in
+      let k = end_write ends (set ends n w) links place c n w u a refl end_there in
+      record {
+        at = ap (option_map (λ (k : FreeLink). k.previous)) k.0;
+        others = λ q d. ap (option_map (λ (k : FreeLink). k.previous)) (k.1 q d);
+        kept = end_kept (λ k. k.next) w refl;
       }
 
 -- what a member's link says of its neighbours

@@ -1,7 +1,12 @@
-use Rattle.std.specs.Prelude.{None}
+use Rattle.std.specs.Prelude.{None, length}
 use Rattle.rev_model.specs.Undo.{leads_none}
 use Rattle.rev_changes.specs.Rest.{sound_of, rest_of}
 use Rattle.rev_crawler.proofs.Passing.{take_mark, rest-left}
+use Rattle.std.proofs.Common.{ap, arith}
+use Rattle.rev_model.specs.State.{State}
+use Rattle.rev_model.specs.declared.Outcome.TheVariants.{Ended}
+use Rattle.rev_moves.specs.Record.{PlainRecord}
+use Rattle.rev_changes.specs.Telling.{tells_all}
 use Rattle.rev_crawler.proofs.crawling.end.Goals as goal
 
 pub change-requires-clause-possible : goal.change-requires-clause-possible
@@ -14,3 +19,12 @@ returns-clause-sound g c =
 
 pub returns-clause-leads : goal.returns-clause-leads
 returns-clause-leads g c = c.change.ensures.leads c.args.store.now (rw c.in_ok-undo.ensures (leads_none c.args.store.now))
+
+pub returns-clause-step : goal.returns-clause-step
+returns-clause-step g c = ap (λ (t : State). (t, Ended)) c.change.ensures.state
+
+pub returns-clause-few : goal.returns-clause-few
+returns-clause-few g c = omega (arith, c.change.ensures.made, ap (λ (r : PlainRecord). length r.moves) c.in_ok-undo.ensures)
+
+pub returns-clause-told : goal.returns-clause-told
+returns-clause-told g c = tells_all _ _ _ _ _ (ap (λ (r : PlainRecord). r.moves) c.in_ok-undo.ensures) (ap (λ (r : PlainRecord). r.notes) c.in_ok-undo.ensures) c.change.ensures.told

@@ -1,5 +1,5 @@
-use Rattle.std.specs.Prelude.{None, refl}
-use Rattle.std.proofs.Common.{ap, sym, ◌∙◌, subst}
+use Rattle.std.specs.Prelude.{None, refl, length}
+use Rattle.std.proofs.Common.{ap, sym, ◌∙◌, subst, arith}
 use Rattle.rev_model.specs.State.{State, queue_of}
 use Rattle.rev_model.specs.Chunk.{same_entry}
 use Rattle.rev_model.specs.Lists.{before}
@@ -9,6 +9,8 @@ use Rattle.rev_model.specs.declared.Entry.TheVariants.{Chunk, Mark}
 use Rattle.rev_model.specs.declared.Placed.TheVariants.{ToQueue}
 use Rattle.rev_changes.specs.Rest.{Rest, sound_of, rest_of}
 use Rattle.rev_crawler.proofs.Passing.{before_there, take_mark, chunk_left, put_mark, passed_is, rest-passed}
+use Rattle.rev_moves.specs.Record.{PlainRecord}
+use Rattle.rev_changes.specs.Telling.{tells_all, tells_still}
 use Rattle.rev_crawler.proofs.crawling.pass.Goals as goal
 
 pub change-requires-clause-possible : goal.change-requires-clause-possible
@@ -44,3 +46,9 @@ returns-clause-sound g c =
 
 pub returns-clause-leads : goal.returns-clause-leads
 returns-clause-leads g c = c.change-2.ensures.leads c.args.store.now (c.change.ensures.leads c.args.store.now (rw c.in_ok-undo.ensures (leads_none c.args.store.now)))
+
+pub returns-clause-few : goal.returns-clause-few
+returns-clause-few g c = omega (arith, c.change.ensures.made, c.change-2.ensures.made, ap (λ (r : PlainRecord). length r.moves) c.in_ok-undo.ensures)
+
+pub returns-clause-told : goal.returns-clause-told
+returns-clause-told g c = tells_all _ _ _ _ _ (ap (λ (r : PlainRecord). r.moves) c.in_ok-undo.ensures) (ap (λ (r : PlainRecord). r.notes) c.in_ok-undo.ensures) (tells_still _ _ _ _ _ _ _ c.change.ensures.told c.change-2.ensures.told)

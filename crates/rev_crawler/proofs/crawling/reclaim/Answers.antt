@@ -1,7 +1,9 @@
-use Rattle.std.proofs.Common.{rules}
-use Rattle.std.specs.Prelude.{None}
+use Rattle.std.proofs.Common.{ap, arith}
+use Rattle.std.specs.Prelude.{None, length, refl}
 use Rattle.rev_model.specs.Undo.{leads_none}
 use Rattle.rev_changes.specs.Rest.{sound_of, rest_of, rest-dropped}
+use Rattle.rev_moves.specs.Record.{PlainRecord}
+use Rattle.rev_changes.specs.Telling.{tells_all}
 use Rattle.rev_crawler.proofs.crawling.reclaim.Goals as goal
 
 -- what a sound state has beside being well formed says nothing of counters
@@ -17,4 +19,10 @@ pub returns-clause-leads : goal.returns-clause-leads
 returns-clause-leads g c = c.discard.ensures.leads c.args.store.now (rw c.in_ok-undo.ensures (leads_none c.args.store.now))
 
 pub returns-clause-told : goal.returns-clause-told
-returns-clause-told g c = search rules
+returns-clause-told g c = tells_all _ _ _ _ _ (ap (λ (r : PlainRecord). r.moves) c.in_ok-undo.ensures) (ap (λ (r : PlainRecord). r.notes) c.in_ok-undo.ensures) c.discard.ensures.told
+
+pub returns-clause-step : goal.returns-clause-step
+returns-clause-step g c = λ i e. (c.discard.ensures.state i e, refl)
+
+pub returns-clause-few : goal.returns-clause-few
+returns-clause-few g c = omega (arith, c.discard.ensures.made, ap (λ (r : PlainRecord). length r.moves) c.in_ok-undo.ensures)

@@ -3,6 +3,7 @@ use Rattle.std.proofs.Common.{ap, arith}
 use Rattle.rev_model.specs.Undo.{leads_none}
 use Rattle.rev_moves.specs.Record.{PlainRecord}
 use Rattle.rev_maintainer.specs.Bumping.{need_most}
+use Rattle.rev_changes.specs.Telling.{tells_all}
 use Rattle.rev_maintainer.proofs.bumping.bump.Goals as goal
 
 pub returns-clause-leads : goal.returns-clause-leads
@@ -10,3 +11,9 @@ returns-clause-leads g c = c.bump_in-outcome.ensures.leads c.args.store.now (rw 
 
 pub returns-clause-few : goal.returns-clause-few
 returns-clause-few g c = omega (arith, c.bump_in-outcome.ensures.made, need_most c.args.store.now, ap (λ (r : PlainRecord). length r.moves) c.in_ok-undo.ensures)
+
+pub returns-clause-told : goal.returns-clause-told
+returns-clause-told g c = tells_all _ _ _ _ _ (ap (λ (r : PlainRecord). r.moves) c.in_ok-undo.ensures) (ap (λ (r : PlainRecord). r.notes) c.in_ok-undo.ensures) c.bump_in-outcome.ensures.told
+
+pub returns-clause-step : goal.returns-clause-step
+returns-clause-step g c = c.bump_in-outcome.ensures.done

@@ -1,9 +1,29 @@
-use Rattle.std.proofs.Common.{rules}
+use Rattle.std.proofs.Common.{sym, ◌∙◌, ap, subst, arith}
 use Rattle.rev_model.specs.Undo.{leads_none}
+use Rattle.std.specs.Prelude.{◌≡◌, Bool, cond, [], length}
+use Rattle.rev_model.specs.Pull.{pull}
+use Rattle.rev_model.specs.Causes.{pull_removals}
+use Rattle.rev_model.specs.declared.Outcome.TheVariants.{BadClass}
+use Rattle.rev_model.specs.declared.PullMode.TheVariants.{Plain}
+use Rattle.rev_moves.specs.Record.{PlainRecord}
+use Rattle.rev_changes.specs.Telling.{TellsAll, tells_all}
 use Rattle.rev_maintainer.proofs.stepping.pull_step.Goals as goal
 
 pub returns-clause-leads : goal.returns-clause-leads
 returns-clause-leads g c = c.pull-outcome.ensures.leads c.args.store.now (rw c.in_ok-undo.ensures (leads_none c.args.store.now))
 
 pub returns-clause-step : goal.returns-clause-step
-returns-clause-step g c = search rules steps 4000000
+returns-clause-step g c =
+    subst (λ (b : Bool). (c.pull-outcome.new.store, c.pull-outcome.result) ≡ cond b (pull c.args.store.now c.args.class c.args.queue Plain) (c.args.store.now, BadClass)) (sym (sym c.is_class.ensures ∙ c.if-not-is_class.false))
+    c.pull-outcome.ensures.done
+
+pub returns-clause-told : goal.returns-clause-told
+returns-clause-told g c =
+    subst (λ (b : Bool). TellsAll c.pull-outcome.new.undo c.pull-outcome.new.store (cond b (pull_removals c.args.store.now c.args.class c.args.queue Plain) [])) (sym (sym c.is_class.ensures ∙ c.if-not-is_class.false))
+    (tells_all _ _ _ _ _ (ap (λ (r : PlainRecord). r.moves) c.in_ok-undo.ensures) (ap (λ (r : PlainRecord). r.notes) c.in_ok-undo.ensures) c.pull-outcome.ensures.told)
+
+pub returns-clause-few : goal.returns-clause-few
+returns-clause-few g c = omega (arith, c.pull-outcome.ensures.made, ap (λ (r : PlainRecord). length r.moves) c.in_ok-undo.ensures)
+
+pub returns-clause-sound : goal.returns-clause-sound
+returns-clause-sound g c = c.pull-outcome.ensures.sound

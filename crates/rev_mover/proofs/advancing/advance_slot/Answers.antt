@@ -1,5 +1,18 @@
 use Rattle.rev_model.specs.Undo.{leads_none}
+use Rattle.rev_moves.specs.Record.{PlainRecord}
+use Rattle.rev_changes.specs.Telling.{tells_all}
+use Rattle.std.specs.Prelude.{length}
+use Rattle.std.proofs.Common.{ap, arith}
 use Rattle.rev_mover.proofs.advancing.advance_slot.Goals as goal
 
 pub returns-clause-leads : goal.returns-clause-leads
 returns-clause-leads g c = c.clear_slot-outcome.ensures.leads c.args.store.now (rw c.in_ok-undo.ensures (leads_none c.args.store.now))
+
+pub returns-clause-step : goal.returns-clause-step
+returns-clause-step g c = c.clear_slot-outcome.ensures.done
+
+pub returns-clause-told : goal.returns-clause-told
+returns-clause-told g c = tells_all _ _ _ _ _ (ap (λ (r : PlainRecord). r.moves) c.in_ok-undo.ensures) (ap (λ (r : PlainRecord). r.notes) c.in_ok-undo.ensures) c.clear_slot-outcome.ensures.told
+
+pub returns-clause-few : goal.returns-clause-few
+returns-clause-few g c = omega (arith, c.clear_slot-outcome.ensures.made, c.moves.ensures.moves, c.moves.ensures.within, ap (λ (r : PlainRecord). length r.moves) c.in_ok-undo.ensures)

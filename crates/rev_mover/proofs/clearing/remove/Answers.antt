@@ -1,7 +1,9 @@
 use Rattle.std.specs.Prelude.{Some, None}
-use Rattle.rev_model.specs.Words.{unlinked, queue_with}
+use Rattle.rev_model.specs.Words.{unlinked, queue_with, counted}
 use Rattle.rev_changes.specs.Rest.{sound_of, rest_of, rest-counted}
 use Rattle.rev_mover.proofs.Slots.{chunk_stands, rest-unlinked}
+use Rattle.std.proofs.Common.{ap, ◌∙◌}
+use Rattle.rev_changes.specs.Telling.{tells_still}
 use Rattle.rev_mover.proofs.clearing.remove.Goals as goal
 
 pub queue_with-queue-requires-clause-there : goal.queue_with-queue-requires-clause-there
@@ -28,3 +30,9 @@ returns-clause-sound g c =
 
 pub returns-clause-leads : goal.returns-clause-leads
 returns-clause-leads g c = λ first l. c.raise.ensures.leads first (c.unlink.ensures.leads first l)
+
+pub returns-clause-state : goal.returns-clause-state
+returns-clause-state g c = λ i e. c.raise.ensures.state ∙ ap (counted c.args.class c.args.counter) (c.unlink.ensures.state i e ∙ ap (λ q. unlinked c.args.class q c.args.chunk i c.args.store.now) c.queue_with-queue.ensures)
+
+pub returns-clause-told : goal.returns-clause-told
+returns-clause-told g c = tells_still _ _ _ _ _ _ _ c.unlink.ensures.told c.raise.ensures.told

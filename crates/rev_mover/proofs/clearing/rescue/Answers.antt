@@ -1,4 +1,6 @@
 use Rattle.rev_mover.proofs.Rescuing.{rescue_possible, rescue_is, rescue_sound}
+use Rattle.std.proofs.Common.{◌∙◌, arith}
+use Rattle.rev_changes.specs.Telling.{tells_still}
 use Rattle.rev_mover.proofs.clearing.rescue.Goals as goal
 
 pub change-requires-clause-possible : goal.change-requires-clause-possible
@@ -12,3 +14,12 @@ returns-clause-sound g c = rw (c.change.ensures.state, c.hold.ensures.state) (re
 
 pub returns-clause-leads : goal.returns-clause-leads
 returns-clause-leads g c = λ first l. c.change.ensures.leads first (c.hold.ensures.leads first l)
+
+pub returns-clause-told : goal.returns-clause-told
+returns-clause-told g c = tells_still _ _ _ _ _ _ _ c.hold.ensures.told c.change.ensures.told
+
+pub returns-clause-room : goal.returns-clause-room
+returns-clause-room g c = c.change.ensures.room ∙ c.hold.ensures.room
+
+pub returns-clause-made : goal.returns-clause-made
+returns-clause-made g c = omega (arith, c.hold.ensures.made, c.change.ensures.made)

@@ -1,5 +1,5 @@
 use Rattle.std.proofs.Common.{refl}
-use Rattle.rev_pages.proofs.Tables.{next_written, link_shape}
+use Rattle.rev_pages.proofs.Tables.{next_written, link_shape, next_end}
 use Rattle.rev_pages.proofs.table.Table.set_next.Goals as goal
 
 pub returns-in-At-clause-value : goal.returns-in-At-clause-value
@@ -11,3 +11,8 @@ pub returns-in-At-clause-shape : goal.returns-in-At-clause-shape
 returns-in-At-clause-shape g c =
     let s = c.args.self.now in
     link_shape s.ends s.links _ c.in-At.chunk _ refl
+
+pub returns-in-End-clause-value : goal.returns-in-End-clause-value
+returns-in-End-clause-value g c =
+    let s = c.args.self.now in
+    next_end s.ends s.links c.args.place c.in-End.list _ c.edit.result.now c.args.next c.in-End.is c.from.ensures c.edit.ensures.value

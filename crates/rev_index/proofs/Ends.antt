@@ -1,0 +1,32 @@
+-- One end more in a list of ends that lead to themselves.
+use Rattle.std.specs.Prelude.{ℕ, ◌≡◌, ◌+◌, ◌<◌, Some, List, [], ◌∷◌, ◌++◌, length, zero, suc, refl, slice_get}
+use Rattle.std.proofs.Common.{◌∙◌, ap, subst, arith, inl, inr}
+use Rattle.std.proofs.lemmas.Bool.{cases_lt}
+use Rattle.std.proofs.lemmas.List.{length-append}
+use Rattle.rev_links.specs.declared.places.Place.TheVariants.{End}
+use Rattle.rev_index.specs.Chains.{ChainLink}
+use Rattle.rev_index.specs.Index.{AreEmpty}
+
+get_before : {X : Type 0} (xs : List X) (y : X) (k : ℕ) → k < length xs → slice_get (xs ++ y ∷ []) k ≡ slice_get xs k
+get_before [] y k l = absurd (omega (arith, l))
+get_before (x ∷ xs) y zero l = refl
+get_before (x ∷ xs) y (suc k) l = get_before xs y k (omega (arith, l))
+
+get_last : {X : Type 0} (xs : List X) (y : X) (k : ℕ) → length xs ≡ k → slice_get (xs ++ y ∷ []) k ≡ Some y
+get_last [] y zero e = refl
+get_last [] y (suc k) e = absurd (omega (arith, e))
+get_last (x ∷ xs) y zero e = absurd (omega (arith, e))
+get_last (x ∷ xs) y (suc k) e = get_last xs y k (omega (arith, e))
+
+abbrev end_of : ℕ → ChainLink
+end_of n = record { previous = End (record { number = n }); next = End (record { number = n }) }
+
+module _ (ends ends' : List ChainLink) (n : ℕ) (e : ends' ≡ ends ++ end_of n ∷ []) (count : length ends ≡ n) where
+  pub count_more : length ends' ≡ n + 1
+  count_more = ap length e ∙ (length-append ends (end_of n ∷ []) ∙ ap (λ k. k + 1) count)
+
+  pub empty_more : AreEmpty ends → AreEmpty ends'
+  empty_more h k l = elim (cases_lt k n) [
+    | inl a ↦ ap (λ xs. slice_get xs k) e ∙ (get_before ends (end_of n) k (omega (arith, a, count)) ∙ h k (omega (arith, a, count)))
+    | inr b ↦ subst (λ m. slice_get ends' m ≡ Some (end_of m)) (omega (arith, b, l, count_more)) (ap (λ xs. slice_get xs n) e ∙ get_last ends (end_of n) n count)
+  ]
