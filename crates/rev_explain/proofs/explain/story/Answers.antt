@@ -1,10 +1,12 @@
-use Rattle.std.proofs.Common.{sym, ◌∙◌, ◌-◌, ap, subst, length}
+use Rattle.std.proofs.Common.{ℕ, List, ◌≡◌, ◌≤◌, ⊎_elim, length-append, refl, arith, rules, sym, ◌∙◌, ◌-◌, ap, subst, length}
 use Rattle.rev_model.specs.Track.{key_place_of, key_change}
 use Rattle.rev_model.specs.Events.{event_by}
 use Rattle.rev_requests.specs.Plain.{plain_step}
 use Rattle.rev_undotree.specs.Machine.{lineage}
-use Rattle.rev_explain.proofs.Climbs.{above_root}
-use Rattle.rev_explain.proofs.Searches.{Telling, tell_starts, tell_skip, tell_more}
+use Rattle.rev_explain.proofs.Climbs.{Climbs, above_root}
+use Rattle.rev_explain.specs.declared.events.Event.{Event}
+use Rattle.rev_undotree.specs.Positions.{SessionState}
+use Rattle.rev_explain.proofs.Searches.{Telling, tell_starts, tell_skip, tell_more, tell_ends}
 use Rattle.rev_explain.proofs.explain.story.Goals as goal
 
 pub loop-node-init : goal.loop-node-init
@@ -26,3 +28,16 @@ loop-node-preserved g c =
     c.find_event-kind.result (c.find_event-kind.ensures ∙ ap (λ n. event_by c.has_stored-stored.result c.find_before-before.result c.loop-node.place n) c.note_of.ensures)
     c.add.new.events.items c.in_ok-add.ensures)
     c.last_mention-depth-in-Some.ensures.within c.last_mention-depth-in-Some.ensures.still
+
+deep_within : (v : SessionState) (d : ℕ) → Climbs v d → d ≤ length (lineage v.rows v.current)
+deep_within v d h =
+    let s = ap length h.splits in
+    let a = length-append (lineage v.rows h.node) h.below in
+    let e = h.deep in
+    omega (arith, s, a, e)
+
+pub returns : goal.returns
+returns g c =
+    let l = deep_within c.args.session.now c.loop-node.depth c.loop-node.invariant.climb in
+    let z : c.loop-node.depth ≡ 0 = ⊎_elim (λ e. e) (λ o. absurd (omega (arith, l, o))) (c.in_default.ensures.none.0 refl) in
+    ◌∙◌ {A = List Event} (search rules steps 150000) (tell_ends c.args.session.now c.args.key.now c.loop-node.depth c.loop-node.place c.loop-node.events.items c.loop-node.invariant z)

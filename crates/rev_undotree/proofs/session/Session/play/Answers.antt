@@ -1,6 +1,12 @@
-use Rattle.std.proofs.Common.{rules, ◌≡◌, ◌+◌, length, arith, ap, ◌∙◌, sym, refl, add-one, eqb, subst}
-use Rattle.rev_undotree.specs.Steps.{outcome_of}
-use Rattle.rev_undotree.specs.Tree.{PlainNode}
+use Rattle.std.proofs.Common.{ℕ, List, rules, ◌≡◌, ◌+◌, length, arith, ap, ◌∙◌, sym, refl, add-one, eqb, subst}
+use Rattle.rev_undotree.specs.Steps.{State, outcome_of}
+use Rattle.rev_undotree.specs.Tree.{PlainNode, PlainBranch}
+use Rattle.rev_undotree.specs.States.{rewind}
+use Rattle.rev_undotree.specs.Rows.{rows_of, number_at}
+use Rattle.rev_undotree.specs.Positions.{SessionState}
+use Rattle.rev_undotree.specs.Mentioned.{Noted}
+use Rattle.rev_undotree.specs.declared.junction.Junction.{Junction}
+use Rattle.rev_undotree.specs.declared.mention.Mention.{Mention}
 use Rattle.rev_undotree.specs.Runs.{node_of}
 use Rattle.rev_steps.specs.Plain.{plain_step}
 use Rattle.rev_undotree.proofs.Turns.{step_next, step_outcome, undoes_applied}
@@ -12,6 +18,14 @@ use Rattle.rev_undotree.proofs.Machine.{kept_tree, kept_path, goes_on_is, deep_i
 use Rattle.rev_undotree.specs.Mentions.{Within}
 use Rattle.rev_undotree.proofs.Walk.{held_number}
 use Rattle.rev_undotree.proofs.session.Session.play.Goals as goal
+
+-- a session with all its parts as they were
+state_back : (t u : State) (b c : PlainBranch) (w v : List Junction) (k j issued : ℕ) → u ≡ t → c ≡ b → v ≡ w → j ≡ k →
+    ◌≡◌ {A = SessionState} (record { root = rewind c v j u; rows = rows_of issued c; current = number_at c v j }) (record { root = rewind b w k t; rows = rows_of issued b; current = number_at b w k })
+state_back t u b c w v k j issued e f g h = rw (e, f, g, h) refl
+
+noted_back : (t u : State) (b c : PlainBranch) (w v : List Junction) (k j issued : ℕ) (ms : List Mention) → u ≡ t → c ≡ b → v ≡ w → j ≡ k → Noted (rewind b w k t) t b w k issued ms → Noted (rewind c v j u) u c v j issued ms
+noted_back t u b c w v k j issued ms e f g h n = rw (e, f, g, h) n
 
 pub has_room-requires : goal.has_room-requires
 has_room-requires g c = stands_way _ _ _ _ _ c.self.invariant.kept.stands
@@ -140,11 +154,29 @@ invariant_of-self-in-Some g c =
     let i = c.self.inside.position in
     let made : PlainNode = node_of record { number = c.self.inside.issued + 1; step = plain_step c.args.step; outcome = c.in-Ok.outcome } c.in-Ok.undo in
     let e = c.in-Err.ensures.err in
-    let s : c.turn.new.self ≡ i.store = search rules in
-    rw (s, e.1, e.2, e.3) (noted_more _ _ _ _ _ _ _ _ c.self.invariant (c.add.ensures.grows made refl).kept (c.add.ensures.grows made refl).within)
+    let s : c.turn.new.self ≡ i.store = search rules steps 4000000 in
+    let n = c.add.new.position in
+    noted_back i.store c.turn.new.self i.base n.base i.way.items n.way.items i.here n.here c.self.inside.issued _ s e.1 (ap (λ z. z.items) e.2) e.3 (noted_more _ _ _ _ _ _ _ _ c.self.invariant (c.add.ensures.grows made refl).kept (c.add.ensures.grows made refl).within)
 
 pub invariant_of-self : goal.invariant_of-self
-invariant_of-self g c = search rules steps 4000000
+invariant_of-self g c = rw c.in_default.ensures.err c.self.invariant
 
 pub returns-then-not-has_room-clause-err : goal.returns-then-not-has_room-clause-err
-returns-then-not-has_room-clause-err g c = search rules steps 4000000
+returns-then-not-has_room-clause-err g c = refl
+
+pub returns-in_default-clause-err : goal.returns-in_default-clause-err
+returns-in_default-clause-err g c = rw c.in_default.ensures.err c.self.view_is
+
+pub returns-in-Some-clause-err : goal.returns-in-Some-clause-err
+returns-in-Some-clause-err g c =
+    let i = c.self.inside.position in
+    let n = c.add.new.position in
+    let e = c.in-Err.ensures.err in
+    let s : c.turn.new.self ≡ i.store = search rules steps 4000000 in
+    state_back i.store c.turn.new.self i.base n.base i.way.items n.way.items i.here n.here c.self.inside.issued s e.1 (ap (λ z. z.items) e.2) e.3 ∙ c.self.view_is
+
+pub turn-requires-clause-fits : goal.turn-requires-clause-fits
+turn-requires-clause-fits g c = search rules steps 1500000
+
+pub turn-requires-clause-well : goal.turn-requires-clause-well
+turn-requires-clause-well g c = rw c.in-Err.ensures.err.0 c.in-Ok.ensures.sound.well
