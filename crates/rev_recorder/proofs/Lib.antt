@@ -1,3 +1,4 @@
+pub mod Calls
 pub mod Compare
 pub mod Counts
 pub mod Left

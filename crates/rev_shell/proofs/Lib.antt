@@ -4,3 +4,4 @@ pub mod Shows
 pub mod Marks
 pub mod Trees
 pub mod Runs
+pub mod Writing

@@ -1,12 +1,12 @@
 -- How a play ends, by the limits of the tree.
-use Rattle.std.proofs.Common.{◌≡◌, ◌∙◌, ap, sym, ℕ, ◌<◌, ◌&&◌, Bool, true, false, List, [], ◌∷◌, ◌++◌, length, nat_eq, nat_lt, refl, arith}
+use Rattle.std.proofs.Common.{◌≡◌, ◌∙◌, ap, sym, ℕ, ◌<◌, ◌&&◌, Bool, true, false, List, [], ◌∷◌, ◌++◌, length, nat_eq, nat_lt, refl, arith, append_assoc}
 use Rattle.std.proofs.lemmas.List.{append-nil}
 use Rattle.std.proofs.lemmas.Bool.Decides.{nat_tests}
 use Rattle.rev_model.specs.Actor.{Step}
 use Rattle.rev_undotree.specs.Steps.{outcome_of}
 use Rattle.rev_undotree.specs.Machine.{nesting_below}
 use Rattle.rev_undotree.specs.Positions.{SessionState}
-use Rattle.rev_shell.specs.Answers.{state_of, is_full, is_too_deep, reply, after_step, get, value_of, values, or_refused}
+use Rattle.rev_shell.specs.Answers.{state_of, is_full, is_too_deep, reply, after_step, get, value_of, values, or_refused, played, if_played, after_gets}
 use Rattle.rev_shell.specs.declared.play.Reply.{Reply}
 use Rattle.rev_shell.specs.declared.play.Reply.TheVariants.{Played, TooManyNodes, TooDeep}
 
@@ -54,3 +54,26 @@ refused_values w s written now total text k rest left r none tells is wrote keys
     let given : values w s left ≡ text =
     ap (values w s) keys ∙ ap (λ (x : Reply). or_refused x (value_of w x (state_of s) k ++ values w (after_step s (get k)) rest)) (sym is) ∙ tells _ in
     ap (λ (l : List ℕ). l ++ text) before ∙ ap (λ (l : List ℕ). written ++ l) (sym given) ∙ all
+
+-- the session stays where a get was refused
+pub refused_gets : (s now total : SessionState) (k : List ℕ) (rest left : List (List ℕ)) (r : Reply) → ((a b : SessionState) → if_played r a b ≡ b) → r ≡ reply s (get k) → now ≡ after_step s (get k) → left ≡ k ∷ rest → after_gets s left ≡ total → now ≡ total
+refused_gets s now total k rest left r none is step keys all =
+    let stays : (a : SessionState) → if_played (reply s (get k)) a s ≡ s = λ a. ap (λ (x : Reply). if_played x a s) (sym is) ∙ none a s in
+    step ∙ stays (played s (get k)) ∙ sym (stays (after_gets (after_step s (get k)) rest)) ∙ ap (after_gets s) (sym keys) ∙ all
+
+-- after a get that was not refused, the keys left give the rest of the text
+pub played_values : (w : Bool) (s next : SessionState) (written now total : List ℕ) (k : List ℕ) (rest left : List (List ℕ)) (r : Reply) → ((later : List ℕ) → or_refused r later ≡ later) → r ≡ reply s (get k) → next ≡ after_step s (get k) → now ≡ written ++ value_of w r (state_of s) k → left ≡ k ∷ rest → written ++ values w s left ≡ total → now ++ values w next rest ≡ total
+played_values w s next written now total k rest left r tells is step wrote keys all =
+    let value = value_of w r (state_of s) k in
+    let later = values w (after_step s (get k)) rest in
+    let given : values w s left ≡ value ++ later =
+    ap (values w s) keys ∙ ap (λ (x : Reply). or_refused x (value_of w x (state_of s) k ++ later)) (sym is) ∙ tells (value ++ later) in
+    ap (λ (l : List ℕ). l ++ values w next rest) wrote ∙ ap (λ (m : SessionState). (written ++ value) ++ values w m rest) step ∙ append_assoc written value later
+    ∙ ap (λ (l : List ℕ). written ++ l) (sym given) ∙ all
+
+-- and the session that the line leaves
+pub played_gets : (s next total : SessionState) (k : List ℕ) (rest left : List (List ℕ)) (r : Reply) → ((a b : SessionState) → if_played r a b ≡ a) → r ≡ reply s (get k) → next ≡ after_step s (get k) → left ≡ k ∷ rest → after_gets s left ≡ total → after_gets next rest ≡ total
+played_gets s next total k rest left r goes is step keys all =
+    let later = after_gets (after_step s (get k)) rest in
+    let given : after_gets s left ≡ later = ap (after_gets s) keys ∙ ap (λ (x : Reply). if_played x later s) (sym is) ∙ goes later s in
+    ap (λ (m : SessionState). after_gets m rest) step ∙ sym given ∙ all

@@ -1,5 +1,5 @@
 use Rattle.std.proofs.Common.{◌++◌, codes, ◌∙◌, ap}
-use Rattle.std.proofs.lemmas.Result.{IfOk-equal}
+use Rattle.std.proofs.lemmas.Result.{IfOk-equal, IfOk-from_err}
 use Rattle.rev_model.specs.State.{counter_of}
 use Rattle.rev_model.specs.declared.Counter.TheVariants.{MovesToCold, MovesToWarm, MovesWithinLru}
 use Rattle.rev_shell.specs.Texts.{counter_text}
@@ -16,3 +16,9 @@ returns g c =
     IfOk-equal _ _ _ _ c.put_counter-3.ensures
     (ap (λ t. t ++ lru) (c.in_ok-put_counter-2.ensures ∙ ap (λ t. t ++ warm) c.in_ok-put_counter.ensures)
     ∙ three c.args.answer.now.items cold warm lru)
+
+pub returns-in_err-put_counter : goal.returns-in_err-put_counter
+returns-in_err-put_counter g c = IfOk-from_err c.from_residual.result _ c.from_residual.ensures.0
+
+pub returns-in_err-put_counter-2 : goal.returns-in_err-put_counter-2
+returns-in_err-put_counter-2 g c = IfOk-from_err c.from_residual-in_err-put_counter-2.result _ c.from_residual-in_err-put_counter-2.ensures.0
