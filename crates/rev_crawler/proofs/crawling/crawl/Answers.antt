@@ -29,12 +29,12 @@ pub returns-in-None-clause-told : goal.returns-in-None-clause-told
 returns-in-None-clause-told g c = subst (λ rs. IfOk c.end.result (λ p. TellsAll p.1 c.end.new.store rs)) (crawl_is-told c.args.store.now c.args.class c.args.queue (sym c.is_class.ensures ∙ c.if-not-is_class.false) (sym c.has_mark.ensures ∙ c.if-not-has_mark.false) None (sym c.before-2.ensures ∙ c.in-None.is)) c.end.ensures.told
 
 pub returns-in-Some-Chunk-clause-step : goal.returns-in-Some-Chunk-clause-step
-returns-in-Some-Chunk-clause-step g c = 
+returns-in-Some-Chunk-clause-step g c =
     let e : before same_entry Mark (queue_of c.args.store.now c.args.class c.args.queue) ≡ Some (Chunk c.in-Some-Chunk.chunk) = search rules in
     subst (λ (z : State × Outcome). IfOk c.crawl_item.result (λ p. (c.crawl_item.new.store, p.0) ≡ z)) (crawl_is c.args.store.now c.args.class c.args.queue (sym c.is_class.ensures ∙ c.if-not-is_class.false) (sym c.has_mark.ensures ∙ c.if-not-has_mark.false) (Some (Chunk c.in-Some-Chunk.chunk)) e) c.crawl_item.ensures.step
 
 pub returns-in-Some-Chunk-clause-told : goal.returns-in-Some-Chunk-clause-told
-returns-in-Some-Chunk-clause-told g c = 
+returns-in-Some-Chunk-clause-told g c =
     let e : before same_entry Mark (queue_of c.args.store.now c.args.class c.args.queue) ≡ Some (Chunk c.in-Some-Chunk.chunk) = search rules in
     subst (λ rs. IfOk c.crawl_item.result (λ p. TellsAll p.1 c.crawl_item.new.store rs)) (crawl_is-told c.args.store.now c.args.class c.args.queue (sym c.is_class.ensures ∙ c.if-not-is_class.false) (sym c.has_mark.ensures ∙ c.if-not-has_mark.false) (Some (Chunk c.in-Some-Chunk.chunk)) e) c.crawl_item.ensures.told
 
