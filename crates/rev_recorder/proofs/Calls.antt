@@ -24,7 +24,7 @@ pub played_is : (old : PlainRecording) (step : Step) (new : SessionState) (log :
     → n.0 ≡ length old.session.rows + 1 → outcome ≡ outcome_of (at old.session.root old.session.rows old.session.current) step → place ≡ length old.log
     → log ≡ old.log ++ record { actor = actor; call = Play n } ∷ []
     → (receipt_at place (Play n) outcome ≡ receipt_at (length old.log) (Play (node (length old.session.rows + 1))) (outcome_of (at old.session.root old.session.rows old.session.current) step))
-        × (with_parts old new log ≡ logged old (played old.session step) actor (Play (node (length old.session.rows + 1))))
+    × (with_parts old new log ≡ logged old (played old.session step) actor (Play (node (length old.session.rows + 1))))
 played_is old step new log actor place n outcome is number gives at_end more =
     let same : n ≡ node (length old.session.rows + 1) = ap (λ k. node k) number in
     let there : ℕ → SessionState = λ k. record { root = old.session.root; rows = old.session.rows ++ Some (row old.session.current step (not (is_continued old.session.rows old.session.current))) ∷ []; current = k } in (
@@ -38,9 +38,9 @@ pub refused_is : (old : PlainRecording) (new : SessionState) (log : List LogRow)
     → new ≡ old.session → place ≡ length old.log → log ≡ old.log ++ record { actor = actor; call = call } ∷ []
     → (Some (okay_at place call) ≡ Some (okay_at (length old.log) call)) × (with_parts old new log ≡ logged old old.session actor call)
 refused_is old new log actor place call is at_end more = (
-    ap (λ p. Some (okay_at p call)) at_end,
-    ap (λ s. with_parts old s log) is ∙ ap (λ l. with_parts old old.session l) more,
-  )
+  ap (λ p. Some (okay_at p call)) at_end,
+  ap (λ s. with_parts old s log) is ∙ ap (λ l. with_parts old old.session l) more,
+)
 
 -- a call that left all as it was
 pub kept_is : (old : PlainRecording) (new : SessionState) (log : List LogRow) → new ≡ old.session → log ≡ old.log → with_parts old new log ≡ old

@@ -2,7 +2,6 @@ use Rattle.std.proofs.Common.{◌++◌, length, ◌∙◌, ap, append_assoc, ari
 use Rattle.rev_script.proofs.Data.{part_taken, part_size, part_none, part_few}
 use Rattle.rev_script.proofs.data_block.keep.Goals as goal
 
-
 pub pieces-preserved : goal.pieces-preserved
 pieces-preserved g c =
     let i = c.pieces.invariant in (

@@ -60,4 +60,3 @@ loop-key-preserved g c =
       session = played_gets c.loop-key.session c.get_one.new.session _ c.in-Some.key _ _ c.in_ok-get_one.field-0
           (λ a b. ap (λ (r : Reply). if_played r a b) c.in-Played.is) got.reply got.session c.in-Some.ensures.steps.0 c.loop-key.invariant.session;
     }
-
