@@ -8,7 +8,7 @@ use rev_model::ChunkRef;
 use std::alloc::Allocator;
 
 /// A bucket, by its number.
-#[derive(Clone, Copy, PartialEq, Eq)]
+#[derive(Clone, Copy)]
 pub struct Bucket {
     pub number: u32,
 }

@@ -1,12 +1,12 @@
 /// A place in a ring: the end of a list, or a member of one. An end stands before the first member and after the last.
-#[derive(Clone, Copy, PartialEq, Eq)]
+#[derive(Clone, Copy)]
 pub enum Place<E, X> {
     End(E),
     At(X),
 }
 
 /// The neighbours of a place.
-#[derive(Clone, Copy, PartialEq, Eq)]
+#[derive(Clone, Copy)]
 pub struct Link<E, X> {
     pub previous: Place<E, X>,
     pub next: Place<E, X>,

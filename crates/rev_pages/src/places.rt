@@ -2,7 +2,7 @@ use rev_links::{Link, Place};
 use rev_model::ChunkRef;
 
 /// The end of a class's free list: it stands before the first chunk and behind the last one.
-#[derive(Clone, Copy, PartialEq, Eq)]
+#[derive(Clone, Copy)]
 pub struct FreeList {
     pub class: u16,
 }

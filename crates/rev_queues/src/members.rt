@@ -11,7 +11,7 @@ pub struct QueueId {
 }
 
 /// An entry with its place: each queue has one place for a mark.
-#[derive(Clone, Copy, PartialEq, Eq)]
+#[derive(Clone, Copy)]
 pub enum Member {
     Chunk(ChunkRef),
     Mark(QueueId),

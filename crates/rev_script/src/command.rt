@@ -6,7 +6,7 @@ use rev_model::{ClassSet, Queue};
 use rev_requests::Tune;
 
 /// How a malformed line is answered. The line makes no step.
-#[derive(Clone, Copy, Debug, PartialEq, Eq)]
+#[derive(Clone, Copy)]
 pub enum BadAnswer {
     /// Unknown command, or wrong number of words.
     Error,
@@ -29,7 +29,7 @@ pub enum BadAnswer {
 }
 
 /// A storage command of protocol.txt; `cas` with its unique number.
-#[derive(Clone, Copy, Debug, PartialEq, Eq)]
+#[derive(Clone, Copy)]
 pub enum StorageCommand {
     Set,
     Add,
@@ -40,7 +40,7 @@ pub enum StorageCommand {
 }
 
 /// A client's command that changes one stored item and has no data block.
-#[derive(Clone, Copy, Debug, PartialEq, Eq)]
+#[derive(Clone, Copy)]
 pub enum UpdateCommand {
     Delete,
     /// With the expiry time.
@@ -52,7 +52,7 @@ pub enum UpdateCommand {
 }
 
 /// A command to the background actors: the maintainer, the crawler and the page mover.
-#[derive(Clone, Copy, Debug, PartialEq, Eq)]
+#[derive(Clone, Copy)]
 pub enum ActorCommand {
     Pull { class: u32, queue: Queue },
     Bump,
@@ -67,7 +67,7 @@ pub enum ActorCommand {
 }
 
 /// A debug command that names no key and no bookmark. Like each debug command it makes no step.
-#[derive(Clone, Copy, Debug, PartialEq, Eq)]
+#[derive(Clone, Copy)]
 pub enum DebugCommand {
     At,
     Back,
@@ -86,7 +86,7 @@ pub enum DebugCommand {
 }
 
 /// A debug command about one key.
-#[derive(Clone, Copy, Debug, PartialEq, Eq)]
+#[derive(Clone, Copy)]
 pub enum KeyQuery {
     Item,
     Chunk,
@@ -95,14 +95,14 @@ pub enum KeyQuery {
 }
 
 /// A debug command about one bookmark.
-#[derive(Clone, Copy, Debug, PartialEq, Eq)]
+#[derive(Clone, Copy)]
 pub enum BookmarkCommand {
     Mark,
     Goto,
 }
 
 /// What a line asks for, but for its keys or its bookmark's name, which stand behind its first word.
-#[derive(Clone, Copy, Debug, PartialEq, Eq)]
+#[derive(Clone, Copy)]
 pub enum Command {
     /// The second word is the key; a data block of `size` bytes and CR LF follows the line.
     Storage {

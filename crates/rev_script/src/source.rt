@@ -7,7 +7,7 @@ use std::io::{ErrorKind, Read};
 use thiserror::Error;
 
 /// What the last read did.
-#[derive(Clone, Copy, Debug, PartialEq, Eq)]
+#[derive(Clone, Copy)]
 pub enum LastRead {
     /// It gave bytes, or there was no room for any; or nothing was read yet.
     Gave,

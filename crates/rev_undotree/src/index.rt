@@ -10,7 +10,7 @@ use std::marker::Model;
 
 /// Where a branch leaves the run of another. Branches go by their order: 0 is the base branch, and the others are counted
 /// from 1 as they fork.
-#[derive(Clone, Copy, Debug, Drop)]
+#[derive(Clone, Copy, Drop)]
 pub struct Leaving {
     pub branch: usize,
     pub junction: Junction,

@@ -7,7 +7,7 @@ ghost use Rattle.rev_undotree.specs.Links.{mentions_of, IsLinked, IsSound};
 use crate::mention::Mention;
 
 /// A mention, with the link to the entry before it in its bucket.
-#[derive(Clone, Copy, Debug)]
+#[derive(Clone, Copy)]
 pub struct Entry {
     pub hash: u32,
     pub node: u32,

@@ -1,5 +1,5 @@
 /// A hash, and the node that mentions it.
-#[derive(Clone, Copy, Debug, PartialEq, Eq)]
+#[derive(Clone, Copy, PartialEq)]
 pub struct Mention {
     pub hash: u32,
     pub node: u32,

@@ -9,7 +9,7 @@ use std::alloc::{AllocError, Allocator};
 use std::marker::Model;
 
 // Which groups of the list are a record's, and whether they stand the other way round, the last in front.
-#[derive(Clone, Copy, Debug, Drop)]
+#[derive(Clone, Copy, Drop)]
 struct Extent {
     start: u32,
     count: u16,

@@ -1,7 +1,6 @@
 //! A heap of which only so many bytes are left, and what is tried on it.
 use linked_list_allocator::LocalHeap;
 use std::alloc::{AllocError, Global};
-use std::fmt::Debug;
 use std::process::Abort;
 use std::test::Fail;
 
@@ -40,7 +39,7 @@ pub fn fill<'a>(
 }
 
 /// What is tried on a heap of which fewer bytes are left than it may want.
-pub trait Trial: Debug {
+pub trait Trial {
     /// Tries it on a heap of its own with so many bytes left, looks at what it leaves, and tells whether there was memory
     /// for it.
     fn attempt<R: Abort>(
@@ -62,12 +61,17 @@ fn attempt_anew<R: Abort, T: Trial>(
     trial.attempt(rt, alloc, &heap, left)
 }
 
-/// Tries it with no byte left, and then with more and more, up to where there is memory for it. Some attempt must have been
-/// refused.
-pub fn refuse_in_turn<R: Abort, T: Trial>(rt: &R, alloc: Global, trial: &T) -> Result<(), Fail> {
+/// Tries what has this name with no byte left, and then with more and more, up to where there is memory for it. Some attempt
+/// must have been refused.
+pub fn refuse_in_turn<R: Abort, T: Trial>(
+    rt: &R,
+    alloc: Global,
+    name: &str,
+    trial: &T,
+) -> Result<(), Fail> {
     for units in 0..BYTES / UNIT {
         if attempt_anew(rt, alloc, trial, units * UNIT)? {
-            assert!(rt; units > 0, "{trial:?}");
+            assert!(rt; units > 0, "{name}");
             return Ok(());
         }
     }

@@ -26,7 +26,7 @@ pub const SMALL: Config = Config {
     now: 1,
 };
 
-#[derive(Clone, Copy, Debug)]
+#[derive(Clone, Copy)]
 enum Part {
     Key,
     Pages,
@@ -76,7 +76,7 @@ fn makes_or_refuses<R: Abort>(
 ) -> Result<bool, Fail> {
     let _ballast = fill(alloc, heap, left)?;
     let is_made = has_memory(heap, part)?;
-    assert_eq!(rt; heap.free(), left, "{part:?} with {left} bytes");
+    assert_eq!(rt; heap.free(), left, "{left} bytes left");
     Ok(is_made)
 }
 
@@ -95,13 +95,13 @@ impl Trial for Part {
 #[test]
 fn parts(rt: HostRuntime) -> Result<(), Fail> {
     for part in &PARTS {
-        refuse_in_turn(&rt, rt.alloc(), part)?;
+        refuse_in_turn(&rt, rt.alloc(), "a part", part)?;
     }
     Ok(())
 }
 
 // A script of one line.
-#[derive(Clone, Copy, Debug)]
+#[derive(Clone, Copy)]
 struct Text(&'static str);
 
 // Lines whose reading takes memory: for the line, for its words, for its key and its data.
@@ -171,7 +171,7 @@ impl Trial for Text {
 #[test]
 fn lines(rt: HostRuntime) -> Result<(), Fail> {
     for line in &LINES {
-        refuse_in_turn(&rt, rt.alloc(), line)?;
+        refuse_in_turn(&rt, rt.alloc(), line.0, line)?;
     }
     Ok(())
 }

@@ -93,7 +93,7 @@ fn opens_or_hands_back<'a, R: Abort>(
 }
 
 // A session that is opened.
-#[derive(Clone, Copy, Debug)]
+#[derive(Clone, Copy)]
 struct Opening;
 
 impl Trial for Opening {
@@ -117,17 +117,17 @@ impl Trial for Opening {
 
 #[test]
 fn opens(rt: HostRuntime) -> Result<(), Fail> {
-    refuse_in_turn(&rt, rt.alloc(), &Opening)
+    refuse_in_turn(&rt, rt.alloc(), "a session", &Opening)
 }
 
 // What a case does before its play.
-#[derive(Clone, Copy, Debug)]
+#[derive(Clone, Copy)]
 enum Turn {
     Play(Command),
     Back,
 }
 
-#[derive(Clone, Copy, Debug)]
+#[derive(Clone, Copy)]
 struct Case {
     name: &'static str,
     before: &'static [Turn],
@@ -294,7 +294,7 @@ impl Trial for Case {
 #[test]
 fn plays(rt: HostRuntime) -> Result<(), Fail> {
     for case in &CASES {
-        refuse_in_turn(&rt, rt.alloc(), case)?;
+        refuse_in_turn(&rt, rt.alloc(), case.name, case)?;
     }
     Ok(())
 }
@@ -340,7 +340,7 @@ fn tells_or_refuses<'a, R: Abort>(
 }
 
 // A story that is asked for.
-#[derive(Clone, Copy, Debug)]
+#[derive(Clone, Copy)]
 struct Life;
 
 impl Trial for Life {
@@ -360,7 +360,7 @@ impl Trial for Life {
 
 #[test]
 fn stories(rt: HostRuntime) -> Result<(), Fail> {
-    refuse_in_turn(&rt, rt.alloc(), &Life)
+    refuse_in_turn(&rt, rt.alloc(), "a story", &Life)
 }
 
 // The lines of a script, with their data, and what each is answered.
@@ -404,7 +404,7 @@ fn run_script(
 }
 
 // A script that is run.
-#[derive(Clone, Copy, Debug)]
+#[derive(Clone, Copy)]
 struct Script<'a>(&'a [u8]);
 
 impl<'a> Trial for Script<'a> {
@@ -439,5 +439,5 @@ fn runs(rt: HostRuntime) -> Result<(), Fail> {
     for (line, _) in &LINES {
         script.extend_from_slice(line.as_bytes())?;
     }
-    refuse_in_turn(&rt, rt.alloc(), &Script(script.as_slice()))
+    refuse_in_turn(&rt, rt.alloc(), "a run", &Script(script.as_slice()))
 }

@@ -5,7 +5,7 @@ use std::alloc::Allocator;
 use std::test::Fail;
 
 /// A step of the tests, by its key's name and how many digits `1` its data are.
-#[derive(Clone, Copy, Debug)]
+#[derive(Clone, Copy)]
 pub enum Command {
     Store(StoreVerb, &'static str, usize),
     Join(JoinSide, &'static str, usize),

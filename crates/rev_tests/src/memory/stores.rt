@@ -18,7 +18,7 @@ use std::process::Abort;
 use std::test::Fail;
 
 // A store that is opened.
-#[derive(Clone, Copy, Debug)]
+#[derive(Clone, Copy)]
 struct Opening;
 
 impl Trial for Opening {
@@ -46,11 +46,11 @@ impl Trial for Opening {
 
 #[test]
 fn opens(rt: HostRuntime) -> Result<(), Fail> {
-    refuse_in_turn(&rt, rt.alloc(), &Opening)
+    refuse_in_turn(&rt, rt.alloc(), "a store", &Opening)
 }
 
 // Room that is made for a step: in a record, or for a page of the store.
-#[derive(Clone, Copy, Debug)]
+#[derive(Clone, Copy)]
 enum Room {
     Record,
     Page,
@@ -97,7 +97,7 @@ impl Trial for Room {
 #[test]
 fn rooms(rt: HostRuntime) -> Result<(), Fail> {
     for room in &[Room::Page, Room::Record] {
-        refuse_in_turn(&rt, rt.alloc(), room)?;
+        refuse_in_turn(&rt, rt.alloc(), "room", room)?;
     }
     Ok(())
 }
@@ -105,7 +105,7 @@ fn rooms(rt: HostRuntime) -> Result<(), Fail> {
 // A key that takes memory of its own.
 const LONG_KEY: &str = "a-key-that-takes-memory-of-its-own";
 
-#[derive(Clone, Copy, Debug)]
+#[derive(Clone, Copy)]
 struct Case {
     name: &'static str,
     pages: u32,
@@ -463,7 +463,7 @@ impl Trial for Case {
 #[test]
 fn applies(rt: HostRuntime) -> Result<(), Fail> {
     for case in &CASES {
-        refuse_in_turn(&rt, rt.alloc(), case)?;
+        refuse_in_turn(&rt, rt.alloc(), case.name, case)?;
     }
     Ok(())
 }
@@ -486,24 +486,23 @@ fn copies_or_refuses<'a, R: Abort>(
     alloc: Global,
     heap: &'a LocalHeap,
     step: &Step<&'a LocalHeap>,
-    command: Command,
     left: usize,
 ) -> Result<bool, Fail> {
     let _ballast = fill(alloc, heap, left)?;
     match is_copy_same(heap, step) {
         Some(is_same) => {
-            assert!(rt; is_same, "{command:?}");
+            assert!(rt; is_same, "{left} bytes left");
             Ok(true)
         }
         None => {
-            assert_eq!(rt; heap.free(), left, "{command:?}");
+            assert_eq!(rt; heap.free(), left, "{left} bytes left");
             Ok(false)
         }
     }
 }
 
 // A copy of a command's step.
-#[derive(Clone, Copy, Debug)]
+#[derive(Clone, Copy)]
 struct Copied(Command);
 
 impl Trial for Copied {
@@ -515,7 +514,7 @@ impl Trial for Copied {
         left: usize,
     ) -> Result<bool, Fail> {
         let step = step_of(heap, self.0)?;
-        let is_copied = copies_or_refuses(rt, alloc, heap, &step, self.0, left);
+        let is_copied = copies_or_refuses(rt, alloc, heap, &step, left);
         drop(step);
         is_copied
     }
@@ -528,7 +527,7 @@ fn copies(rt: HostRuntime) -> Result<(), Fail> {
         Copied(Command::Join(JoinSide::Append, LONG_KEY, 100)),
         Copied(Command::Keyed(KeyCommand::Get, LONG_KEY)),
     ] {
-        refuse_in_turn(&rt, rt.alloc(), copied)?;
+        refuse_in_turn(&rt, rt.alloc(), "a copy", copied)?;
     }
     Ok(())
 }

@@ -10,7 +10,7 @@ use std::test::Fail;
 const CALLS: u32 = 7;
 
 // In which order the two hands call.
-#[derive(Clone, Copy, Debug)]
+#[derive(Clone, Copy)]
 struct Order {
     // Bit by bit from the lowest: whether the second hand calls.
     second: u32,
@@ -99,7 +99,12 @@ fn record_order<R: Wait>(rt: &R, alloc: Global, order: Order) -> Result<Ending, 
 fn every_order(rt: HostRuntime) -> Result<(), Fail> {
     for order in orders(rt.alloc())? {
         let ending = record_order(&rt, rt.alloc(), order)?;
-        assert_eq!(rt; ending, Ending::Settled { rows: 7, nodes: 6 }, "{order:?}");
+        let (second, go) = (order.second, order.go);
+        assert_eq!(rt;
+            ending,
+            Ending::Settled { rows: 7, nodes: 6 },
+            "{second} {go}"
+        );
     }
     Ok(())
 }

@@ -10,7 +10,7 @@ use std::sync::Wait;
 use std::test::Fail;
 
 // A call of a hand.
-#[derive(Clone, Copy, Debug)]
+#[derive(Clone, Copy)]
 enum Ask {
     Clock(u32),
     Set(&'static str),
