@@ -15,7 +15,7 @@ use rev_undotree::{PlayFault, Played, Session};
 use std::alloc::{AllocError, Allocator};
 
 /// How a play ended: with its step's outcome, or refused by a limit of the tree.
-#[derive(Clone, Copy, Debug, PartialEq, Eq)]
+#[derive(Clone, Copy)]
 pub enum Reply {
     Played(Outcome),
     TooManyNodes,

@@ -1,6 +1,5 @@
 //! The table of slab classes, against figures worked out by hand.
 use rev_classes::{ClassTable, Config, ConfigFault};
-use std::test::Fail;
 
 /// The configuration that the program has without options.
 pub const DEFAULTS: Config = Config {
@@ -42,35 +41,41 @@ static SMALL: [(u32, u32); 11] = [
 ];
 
 #[test]
-fn sizes(rt: HostRuntime) -> Result<(), Fail> {
-    let table = ClassTable::build(&DEFAULTS)?;
-    assert_eq!(rt; table.last(), 42);
+fn sizes(rt: HostRuntime) {
+    let table = ClassTable::build(&DEFAULTS).expect(&rt, "no table");
     for (index, size) in SIZES.iter().enumerate() {
-        assert!(rt; index < table.last());
-        assert_eq!(rt; table.chunk_size(index + 1), *size);
-        assert_eq!(rt; table.class_of(u64::from(*size)), Some(index + 1));
+        assert!(rt;
+            index < table.last()
+                && table.chunk_size(index + 1) == *size
+                && table.class_of(u64::from(*size)) == Some(index + 1),
+            "chunks of {size} bytes"
+        );
     }
     for (index, count) in PER_PAGE.iter().enumerate() {
-        assert!(rt; index < table.last());
-        assert_eq!(rt; table.per_page(index + 1), *count);
+        assert!(rt;
+            index < table.last() && table.per_page(index + 1) == *count,
+            "{count} chunks of a page"
+        );
     }
-    assert_eq!(rt; table.class_of(1048577), None);
-    Ok(())
+    assert!(rt; table.last() == 42 && table.class_of(1048577) == None);
 }
 
 #[test]
-fn small_pages(rt: HostRuntime) -> Result<(), Fail> {
-    let table = ClassTable::build(&Config {
+fn small_pages(rt: HostRuntime) {
+    let config = Config {
         page_size: 1024,
         ..DEFAULTS
-    })?;
+    };
+    let table = ClassTable::build(&config).expect(&rt, "no table");
     assert_eq!(rt; table.last(), 11);
     for (index, (size, count)) in SMALL.iter().enumerate() {
-        assert!(rt; index < table.last());
-        assert_eq!(rt; table.chunk_size(index + 1), *size);
-        assert_eq!(rt; table.per_page(index + 1), *count);
+        assert!(rt;
+            index < table.last()
+                && table.chunk_size(index + 1) == *size
+                && table.per_page(index + 1) == *count,
+            "chunks of {size} bytes"
+        );
     }
-    Ok(())
 }
 
 pub struct Case {

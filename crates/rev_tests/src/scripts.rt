@@ -6,10 +6,9 @@ use rev_classes::{Config, fault_of};
 use rev_output::ToWrite;
 use rev_script::source::FromRead;
 use rev_shell::run::{RunFault, Summary, run};
-use std::alloc::{AllocError, Global};
+use std::alloc::Global;
 use std::io::{Read, Write};
 use std::process::Abort;
-use std::test::Fail;
 
 // A line with a longer data block is cut after so many of its first bytes only, and is not read byte by byte.
 const LONG: usize = 4096;
@@ -29,88 +28,73 @@ pub fn config_of(row: &Row) -> Config {
 }
 
 /// Runs what the reader gives, and writes to the writer.
-pub fn run_with<I: Read + Drop, O: Write + Drop>(
+pub fn run_with<R: Abort, I: Read + Drop, O: Write + Drop>(
+    rt: &R,
     alloc: Global,
     config: &Config,
     reader: I,
     writer: O,
-) -> Result<Result<Summary, RunFault>, Fail> {
-    match fault_of(config) {
-        Some(fault) => Err(Fail::from(fault)),
-        None => {
-            let mut source = FromRead::new(reader);
-            let mut sink = ToWrite::new(writer);
-            Ok(run(&alloc, config, &mut source, &mut sink))
-        }
-    }
+) -> Result<Summary, RunFault> {
+    assert!(rt; fault_of(config).is_none(), "a bad configuration");
+    let mut source = FromRead::new(reader);
+    let mut sink = ToWrite::new(writer);
+    run(&alloc, config, &mut source, &mut sink)
+}
+
+/// Adds bytes to a text.
+pub fn put<R: Abort>(rt: &R, text: &mut Vec<u8>, bytes: &[u8]) {
+    text.extend_from_slice(bytes).expect(rt, "no memory");
+}
+
+/// Adds so many `x` to a text.
+pub fn put_data<R: Abort>(rt: &R, text: &mut Vec<u8>, bytes: usize) {
+    let end = text.len().saturating_add(bytes);
+    text.resize(end, b'x').expect(rt, "no memory");
 }
 
 /// Adds a line with its data to a script.
-pub fn put_exchange(script: &mut Vec<u8>, exchange: &Exchange) -> Result<(), AllocError> {
-    script.extend_from_slice(exchange.line.as_bytes())?;
-    script.extend_from_slice(b"\r\n")?;
+pub fn put_exchange<R: Abort>(rt: &R, script: &mut Vec<u8>, exchange: &Exchange) {
+    put(rt, script, exchange.line.as_bytes());
+    put(rt, script, b"\r\n");
     if let Some(bytes) = exchange.data {
-        for _ in 0..bytes {
-            script.push(b'x')?;
-        }
-        script.extend_from_slice(b"\r\n")?;
+        put_data(rt, script, bytes);
+        put(rt, script, b"\r\n");
     }
-    Ok(())
 }
 
 // Runs what is left of a script that was cut, whose whole lines are answered by `whole`: from one piece and byte by
 // byte the same is written, and where a read fails instead of the end, the answers of the whole lines are.
-fn try_cut<R: Abort>(
-    rt: &R,
-    alloc: Global,
-    config: &Config,
-    script: &[u8],
-    whole: &[u8],
-) -> Result<(), Fail> {
+fn try_cut<R: Abort>(rt: &R, alloc: Global, config: &Config, script: &[u8], whole: &[u8]) {
     let bytes = script.len();
     let mut at_once: Vec<u8> = Vec::new(alloc);
-    let ended = run_with(alloc, config, script, &mut at_once)?;
-    assert!(rt; ended.is_ok(), "cut after {bytes} bytes");
+    let ended = run_with(rt, alloc, config, script, &mut at_once);
     assert!(rt;
-        at_once.as_slice().starts_with(whole),
+        ended.is_ok() && at_once.as_slice().starts_with(whole),
         "cut after {bytes} bytes"
     );
-    if bytes > LONG {
-        return Ok(());
+    if bytes <= LONG {
+        try_bytes(rt, alloc, config, Stutter::new(script), at_once.as_slice(), ended);
+        let fault = Err(RunFault::Read);
+        try_bytes(rt, alloc, config, Stutter::failing(script), whole, fault);
     }
-    let (again, by_bytes) = run_by_bytes(alloc, config, Stutter::new(script))?;
-    assert_eq!(rt; again, ended, "cut after {bytes} bytes");
-    assert!(rt;
-        by_bytes.as_slice() == at_once.as_slice(),
-        "cut after {bytes} bytes"
-    );
-    try_failing(rt, alloc, config, script, whole)
 }
 
-// How a script ends that is read byte by byte, and what is written for it.
-fn run_by_bytes(
+// What is read byte by byte is answered so, and ends so.
+fn try_bytes<R: Abort>(
+    rt: &R,
     alloc: Global,
     config: &Config,
     reader: Stutter<'_>,
-) -> Result<(Result<Summary, RunFault>, Vec<u8>), Fail> {
+    answers: &[u8],
+    end: Result<Summary, RunFault>,
+) {
+    let (bytes, fails) = (reader.rest.len(), reader.fails);
     let mut written: Vec<u8> = Vec::new(alloc);
-    let ended = run_with(alloc, config, reader, &mut written)?;
-    Ok((ended, written))
-}
-
-// Where a read fails instead of the end, the answers of the whole lines are written.
-fn try_failing<R: Abort>(
-    rt: &R,
-    alloc: Global,
-    config: &Config,
-    script: &[u8],
-    whole: &[u8],
-) -> Result<(), Fail> {
-    let bytes = script.len();
-    let (fault, failed) = run_by_bytes(alloc, config, Stutter::failing(script))?;
-    assert_eq!(rt; fault, Err(RunFault::Read), "fails after {bytes} bytes");
-    assert!(rt; failed.as_slice() == whole, "fails after {bytes} bytes");
-    Ok(())
+    let ended = run_with(rt, alloc, config, reader, &mut written);
+    assert!(rt;
+        ended == end && written.as_slice() == answers,
+        "after {bytes} bytes, fails: {fails}"
+    );
 }
 
 // Adds an exchange to a script that is answered by `answers`, and runs it cut after each byte of the exchange.
@@ -121,9 +105,9 @@ fn try_exchange<R: Abort>(
     script: &mut Vec<u8>,
     answers: &[u8],
     exchange: &Exchange,
-) -> Result<(), Fail> {
+) {
     let start = script.len();
-    put_exchange(script, exchange)?;
+    put_exchange(rt, script, exchange);
     let end = script.len();
     let is_long = end.saturating_sub(start) > LONG;
     let last = if is_long {
@@ -132,10 +116,9 @@ fn try_exchange<R: Abort>(
         end
     };
     for cut in start..last {
-        let front = script.as_slice().get(..cut).unwrap_or(b"");
-        try_cut(rt, alloc, config, front, answers)?;
+        let front = script.as_slice().get(..cut).expect(rt, "no such cut");
+        try_cut(rt, alloc, config, front, answers);
     }
-    Ok(())
 }
 
 /// Runs a whole script, for which these answers are written, and tells how it ended.
@@ -145,15 +128,16 @@ pub fn run_whole<R: Abort, I: Read + Drop>(
     name: &str,
     reader: I,
     answers: &Vec<u8>,
-) -> Result<Result<Summary, RunFault>, Fail> {
-    let mut written: Vec<u8> = Vec::new(*answers.allocator());
-    let ended = run_with(*answers.allocator(), config, reader, &mut written)?;
+) -> Summary {
+    let alloc = *answers.allocator();
+    let mut written: Vec<u8> = Vec::new(alloc);
+    let ended = run_with(rt, alloc, config, reader, &mut written);
     assert!(rt; written.as_slice() == answers.as_slice(), "{name}");
-    Ok(ended)
+    ended.expect(rt, name)
 }
 
 // Runs the row's script whole, and cut after each of its bytes.
-fn try_row<R: Abort>(rt: &R, alloc: Global, row: &Row) -> Result<(), Fail> {
+fn try_row<R: Abort>(rt: &R, alloc: Global, row: &Row) {
     let config = config_of(row);
     let mut script: Vec<u8> = Vec::new(alloc);
     let mut answers: Vec<u8> = Vec::new(alloc);
@@ -165,44 +149,41 @@ fn try_row<R: Abort>(rt: &R, alloc: Global, row: &Row) -> Result<(), Fail> {
             &mut script,
             answers.as_slice(),
             exchange,
-        )?;
-        answers.extend_from_slice(exchange.answer.as_bytes())?;
+        );
+        put(rt, &mut answers, exchange.answer.as_bytes());
     }
-    let name = row.name;
-    let ended = run_whole(rt, &config, name, script.as_slice(), &answers)?;
-    assert!(rt; ended.is_ok(), "{name}");
-    try_cut(rt, alloc, &config, script.as_slice(), answers.as_slice())
+    run_whole(rt, &config, row.name, script.as_slice(), &answers);
+    try_cut(rt, alloc, &config, script.as_slice(), answers.as_slice());
 }
 
-fn try_rows<R: Abort>(rt: &R, alloc: Global, rows: &[Row]) -> Result<(), Fail> {
+fn try_rows<R: Abort>(rt: &R, alloc: Global, rows: &[Row]) {
     for row in rows {
-        try_row(rt, alloc, row)?;
+        try_row(rt, alloc, row);
     }
-    Ok(())
 }
 
 #[test]
-fn small_items(rt: HostRuntime) -> Result<(), Fail> {
-    try_rows(&rt, rt.alloc(), &SMALL_ITEMS)
+fn small_items(rt: HostRuntime) {
+    try_rows(&rt, rt.alloc(), &SMALL_ITEMS);
 }
 
 #[test]
-fn too_large_item(rt: HostRuntime) -> Result<(), Fail> {
-    try_rows(&rt, rt.alloc(), &LARGE_ITEMS[..1])
+fn too_large_item(rt: HostRuntime) {
+    try_rows(&rt, rt.alloc(), &LARGE_ITEMS[..1]);
 }
 
 #[test]
-fn largest_items(rt: HostRuntime) -> Result<(), Fail> {
-    try_rows(&rt, rt.alloc(), &LARGE_ITEMS[1..])
+fn largest_items(rt: HostRuntime) {
+    try_rows(&rt, rt.alloc(), &LARGE_ITEMS[1..]);
 }
 
 #[test]
-fn lines(rt: HostRuntime) -> Result<(), Fail> {
-    try_rows(&rt, rt.alloc(), &LINES)
+fn lines(rt: HostRuntime) {
+    try_rows(&rt, rt.alloc(), &LINES);
 }
 
 // A writer that stops after each number of bytes in turn has taken these bytes of the answers.
-fn try_writers<R: Abort>(rt: &R, alloc: Global, fails: bool) -> Result<(), Fail> {
+fn try_writers<R: Abort>(rt: &R, alloc: Global, fails: bool) {
     let script = b"set a 0 0 1\r\nx\r\nget a\r\n:at\r\n";
     let answers = b"STORED\r\nVALUE a 0 1\r\nx\r\nEND\r\nNODE 2\r\n";
     for most in 0..=answers.len() {
@@ -211,20 +192,18 @@ fn try_writers<R: Abort>(rt: &R, alloc: Global, fails: bool) -> Result<(), Fail>
             most,
             fails,
         };
-        let ended = run_with(alloc, &DEFAULTS, script.as_slice(), &mut writer)?;
-        let front = answers.get(..most).unwrap_or(b"");
-        assert!(rt; writer.bytes.as_slice() == front, "{most} bytes");
-        if most < answers.len() {
-            assert_eq!(rt; ended, Err(RunFault::Write), "{most} bytes");
-        } else {
-            assert!(rt; ended.is_ok(), "{most} bytes");
-        }
+        let ended = run_with(rt, alloc, &DEFAULTS, script.as_slice(), &mut writer);
+        let fault = (most < answers.len()).then_some(RunFault::Write);
+        let front = answers.get(..most).expect(rt, "no such front");
+        assert!(rt;
+            writer.bytes.as_slice() == front && ended.err() == fault,
+            "{most} bytes"
+        );
     }
-    Ok(())
 }
 
 #[test]
-fn writers(rt: HostRuntime) -> Result<(), Fail> {
-    try_writers(&rt, rt.alloc(), true)?;
-    try_writers(&rt, rt.alloc(), false)
+fn writers(rt: HostRuntime) {
+    try_writers(&rt, rt.alloc(), true);
+    try_writers(&rt, rt.alloc(), false);
 }

@@ -1,8 +1,7 @@
 //! Scripts at the edges of the grammar: none, a data block cut short, lines at their limits.
 use crate::classes::DEFAULTS;
-use crate::scripts::run_with;
+use crate::scripts::{put, put_data, run_with};
 use rev_shell::run::Summary;
-use std::test::Fail;
 
 struct Case {
     name: &'static str,
@@ -51,28 +50,26 @@ static CASES: [Case; 5] = [
 ];
 
 #[test]
-fn short_scripts(rt: HostRuntime) -> Result<(), Fail> {
+fn short_scripts(rt: HostRuntime) {
     for case in &CASES {
         let name = case.name;
         let mut written: Vec<u8> = Vec::new(rt.alloc());
-        let ended = run_with(rt.alloc(), &DEFAULTS, case.script, &mut written)?;
-        assert!(rt; written.as_slice() == case.answers.as_bytes(), "{name}");
-        assert_eq!(rt;
-            ended,
-            Ok(Summary {
-                lines: case.lines,
-                plays: case.plays,
-            }),
-            "{name}"
+        let ended = run_with(&rt, rt.alloc(), &DEFAULTS, case.script, &mut written);
+        let summary = ended.expect(&rt, name);
+        assert!(rt;
+            written.as_slice() == case.answers.as_bytes()
+                && summary.lines == case.lines
+                && summary.plays == case.plays,
+            "{name}: {summary:?}"
         );
     }
-    Ok(())
 }
 
 struct Limit {
     word: &'static str,
     bytes: usize,
-    answer: &'static str,
+    // With the answer of the line that follows.
+    answers: &'static str,
 }
 
 // Lines whose first word is followed by so many bytes in all of `x`.
@@ -80,42 +77,39 @@ static LIMITS: [Limit; 4] = [
     Limit {
         word: "",
         bytes: 2048,
-        answer: "ERROR\r\n",
+        answers: "ERROR\r\nNODE 0\r\n",
     },
     Limit {
         word: "",
         bytes: 2049,
-        answer: "CLIENT_ERROR line too long\r\n",
+        answers: "CLIENT_ERROR line too long\r\nNODE 0\r\n",
     },
     Limit {
         word: "get ",
         bytes: 65536,
-        answer: "CLIENT_ERROR bad command line format\r\n",
+        answers: "CLIENT_ERROR bad command line format\r\nNODE 0\r\n",
     },
     Limit {
         word: "get ",
         bytes: 65537,
-        answer: "CLIENT_ERROR line too long\r\n",
+        answers: "CLIENT_ERROR line too long\r\nNODE 0\r\n",
     },
 ];
 
 #[test]
-fn long_lines(rt: HostRuntime) -> Result<(), Fail> {
+fn long_lines(rt: HostRuntime) {
     for limit in &LIMITS {
         let bytes = limit.bytes;
         let mut script: Vec<u8> = Vec::new(rt.alloc());
-        script.extend_from_slice(limit.word.as_bytes())?;
-        for _ in limit.word.len()..bytes {
-            script.push(b'x')?;
-        }
-        script.extend_from_slice(b"\r\n:at\r\n")?;
-        let mut answers: Vec<u8> = Vec::new(rt.alloc());
-        answers.extend_from_slice(limit.answer.as_bytes())?;
-        answers.extend_from_slice(b"NODE 0\r\n")?;
+        put(&rt, &mut script, limit.word.as_bytes());
+        put_data(&rt, &mut script, bytes.saturating_sub(limit.word.len()));
+        put(&rt, &mut script, b"\r\n:at\r\n");
         let mut written: Vec<u8> = Vec::new(rt.alloc());
-        let ended = run_with(rt.alloc(), &DEFAULTS, script.as_slice(), &mut written)?;
-        assert!(rt; written.as_slice() == answers.as_slice(), "{bytes} bytes");
-        assert_eq!(rt; ended, Ok(Summary { lines: 2, plays: 0 }), "{bytes} bytes");
+        let ended = run_with(&rt, rt.alloc(), &DEFAULTS, script.as_slice(), &mut written);
+        assert!(rt;
+            written.as_slice() == limit.answers.as_bytes()
+                && ended == Ok(Summary { lines: 2, plays: 0 }),
+            "{bytes} bytes"
+        );
     }
-    Ok(())
 }

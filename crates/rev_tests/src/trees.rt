@@ -1,79 +1,69 @@
 //! How deep, how wide and how long a tree of attempts grows.
 use crate::classes::DEFAULTS;
-use crate::scripts::run_with;
+use crate::scripts::{put, run_with};
 use rev_inverse::Store;
 use rev_steps::{ActorStep, Step};
 use rev_undotree::{PlayFault, Session};
-use std::alloc::{AllocError, Global};
+use std::alloc::Global;
 use std::process::Abort;
-use std::test::Fail;
 
 // The most plays that a session accepts.
 const NODES: u32 = 1048576;
 
-fn put_times(text: &mut Vec<u8>, line: &str, times: usize) -> Result<(), AllocError> {
+fn put_times<R: Abort>(rt: &R, text: &mut Vec<u8>, line: &str, times: usize) {
     for _ in 0..times {
-        text.extend_from_slice(line.as_bytes())?;
+        put(rt, text, line.as_bytes());
     }
-    Ok(())
 }
 
 // What a script writes.
-fn written_by(alloc: Global, script: &Vec<u8>) -> Result<Vec<u8>, Fail> {
+fn written_by<R: Abort>(rt: &R, script: &Vec<u8>) -> Vec<u8> {
+    let alloc = *script.allocator();
     let mut written: Vec<u8> = Vec::new(alloc);
-    match run_with(alloc, &DEFAULTS, script.as_slice(), &mut written)? {
-        Ok(_) => Ok(written),
-        Err(fault) => Err(Fail::from(fault)),
-    }
+    let ended = run_with(rt, alloc, &DEFAULTS, script.as_slice(), &mut written);
+    ended.expect(rt, "the script was not read");
+    written
 }
 
 #[test]
-fn a_run_is_long(rt: HostRuntime) -> Result<(), Fail> {
+fn a_run_is_long(rt: HostRuntime) {
     let mut script: Vec<u8> = Vec::new(rt.alloc());
-    put_times(&mut script, "@ 1\r\n", 513)?;
-    put_times(&mut script, ":at\r\n:go 0\r\n", 1)?;
+    put_times(&rt, &mut script, "@ 1\r\n", 513);
+    put(&rt, &mut script, b":at\r\n:go 0\r\n");
     let mut answers: Vec<u8> = Vec::new(rt.alloc());
-    put_times(&mut answers, "OK\r\n", 513)?;
-    put_times(&mut answers, "NODE 513\r\nNODE 0 TURNS 513\r\n", 1)?;
-    let written = written_by(rt.alloc(), &script)?;
+    put_times(&rt, &mut answers, "OK\r\n", 513);
+    put(&rt, &mut answers, b"NODE 513\r\nNODE 0 TURNS 513\r\n");
+    let written = written_by(&rt, &script);
     assert!(rt; written.as_slice() == answers.as_slice());
-    Ok(())
 }
 
 #[test]
-fn forks_nest(rt: HostRuntime) -> Result<(), Fail> {
+fn forks_nest(rt: HostRuntime) {
     let mut script: Vec<u8> = Vec::new(rt.alloc());
-    put_times(&mut script, "@ 1\r\n@ 1\r\n", 1)?;
-    put_times(&mut script, ":back\r\n@ 1\r\n@ 1\r\n", 64)?;
-    put_times(&mut script, ":at\r\n:back\r\n@ 1\r\n:at\r\n", 1)?;
+    put(&rt, &mut script, b"@ 1\r\n@ 1\r\n");
+    put_times(&rt, &mut script, ":back\r\n@ 1\r\n@ 1\r\n", 64);
+    put(&rt, &mut script, b":at\r\n:back\r\n@ 1\r\n:at\r\n");
     let end = b"OK\r\nNODE 130\r\nNODE 129\r\nSERVER_ERROR too many nested forks\r\nNODE 129\r\n";
-    let written = written_by(rt.alloc(), &script)?;
+    let written = written_by(&rt, &script);
     assert!(rt; written.as_slice().ends_with(end));
-    Ok(())
 }
 
-fn open_session(alloc: Global) -> Result<Session<Global>, Fail> {
-    match Session::open(alloc, Store::open(alloc, DEFAULTS)?) {
-        Ok(session) => Ok(session),
-        Err(refused) => {
-            drop(refused);
-            Err(Fail::new("no session"))
-        }
+fn open_session<R: Abort>(rt: &R, alloc: Global) -> Session<Global> {
+    let store = Store::open(alloc, DEFAULTS).expect(rt, "no store");
+    match Session::open(alloc, store) {
+        Ok(session) => session,
+        Err(_) => panic!(rt; "no session"),
     }
 }
 
 // Plays a step, goes back, and takes its node out.
-fn come_and_go(session: &mut Session<Global>) -> Result<(), Fail> {
+fn come_and_go<R: Abort>(rt: &R, session: &mut Session<Global>) {
     match session.play(Step::Actor(ActorStep::Clock(1))) {
         Ok(played) => {
-            session.back()?;
-            session.prune(played.node)?;
-            Ok(())
+            session.back().expect(rt, "no way back");
+            session.prune(played.node).expect(rt, "not taken out");
         }
-        Err((fault, step)) => {
-            drop(step);
-            Err(Fail::from(fault))
-        }
+        Err(_) => panic!(rt; "a play was refused"),
     }
 }
 
@@ -89,19 +79,20 @@ fn refusal(session: &mut Session<Global>) -> Option<PlayFault> {
 }
 
 // Uses all numbers up; then a play is refused.
-fn use_up<R: Abort>(rt: &R, session: &mut Session<Global>) -> Result<(), Fail> {
+fn use_up<R: Abort>(rt: &R, session: &mut Session<Global>) {
     for _ in 0..NODES {
-        come_and_go(session)?;
+        come_and_go(rt, session);
     }
-    assert_eq!(rt; session.issued(), NODES);
-    assert_eq!(rt; refusal(session), Some(PlayFault::TooManyNodes));
-    Ok(())
+    let issued = session.issued();
+    assert!(rt;
+        issued == NODES && refusal(session) == Some(PlayFault::TooManyNodes),
+        "{issued} plays"
+    );
 }
 
 #[test]
-fn numbers_run_out(rt: HostRuntime) -> Result<(), Fail> {
-    let mut session = open_session(rt.alloc())?;
-    let used = use_up(&rt, &mut session);
+fn numbers_run_out(rt: HostRuntime) {
+    let mut session = open_session(&rt, rt.alloc());
+    use_up(&rt, &mut session);
     drop(session);
-    used
 }

@@ -1,10 +1,5 @@
 //! What the program does with the words of `record`.
 use rev_program::program::program;
-use std::process::Abort;
-use std::rt::Files;
-use std::sync::Wait;
-use std::test::Fail;
-use std::thread::Threads;
 
 struct Case {
     words: &'static [&'static str],
@@ -58,25 +53,17 @@ static CASES: [Case; 8] = [
     },
 ];
 
-fn try_words<R: Files + Threads + Wait + Sync + AllocGlobal + Abort>(
-    rt: &R,
-    case: &Case,
-) -> Result<(), Fail> {
-    let mut output: Vec<u8> = Vec::new(rt.alloc());
-    let mut errors: Vec<u8> = Vec::new(rt.alloc());
-    let words = case.words;
-    let status = program(rt, words, b"".as_slice(), &mut output, &mut errors);
-    let told = std::str::from_utf8(errors.as_slice()).unwrap_or("");
-    assert_eq!(rt; status, case.status, "{words:?}: {told}");
-    assert!(rt; output.is_empty());
-    assert!(rt; told.starts_with(case.errors), "{words:?}: {told}");
-    Ok(())
-}
-
 #[test]
-fn words(rt: HostRuntime) -> Result<(), Fail> {
+fn words(rt: HostRuntime) {
     for case in &CASES {
-        try_words(&rt, case)?;
+        let mut output: Vec<u8> = Vec::new(rt.alloc());
+        let mut errors: Vec<u8> = Vec::new(rt.alloc());
+        let words = case.words;
+        let status = program(&rt, words, b"".as_slice(), &mut output, &mut errors);
+        let told = std::str::from_utf8(errors.as_slice()).unwrap_or("");
+        assert!(rt;
+            status == case.status && output.is_empty() && told.starts_with(case.errors),
+            "{words:?}: {status} {told}"
+        );
     }
-    Ok(())
 }

@@ -5,7 +5,6 @@ use rev_program::play::play_files;
 use std::io::{Read, Write};
 use std::process::Abort;
 use std::sync::Wait;
-use std::test::Fail;
 use std::thread::Threads;
 
 const CONFIG: Config = Config {
@@ -110,133 +109,122 @@ static CASES: [Case; 12] = [
 ];
 
 // The status of a recording of these files. What is told goes to `errors`.
-fn status_of<R: Threads + Wait + Sync + AllocGlobal, F: Read + Drop, W: Write>(
+fn status_of<R: Threads + Wait + Sync + AllocGlobal + Abort, F: Read + Drop, W: Write>(
     rt: &R,
     files: Vec<(String, F)>,
     writer: &mut W,
     errors: &mut Vec<u8>,
 ) -> u8 {
     let count = files.len();
-    if fault_of(&CONFIG).is_some() || count < 1 || count > 8 {
-        return 2;
-    }
+    assert!(rt; fault_of(&CONFIG).is_none() && 1 <= count && count <= 8);
     play_files(rt, &CONFIG, files, writer, errors)
 }
 
-fn files_of<R: AllocGlobal>(
+fn files_of<R: AllocGlobal + Abort>(
     rt: &R,
     files: &[(&'static str, &'static [u8])],
     fails: bool,
-) -> Result<Vec<(String, File<'static>)>, Fail> {
+) -> Vec<(String, File<'static>)> {
     let mut all = Vec::new(rt.alloc());
     for (name, bytes) in files {
-        let name = String::from_str(rt.alloc(), *name)?;
-        all.push((
-            name,
-            File {
-                rest: *bytes,
-                fails,
-            },
-        ))?;
+        let name = String::from_str(rt.alloc(), *name).expect(rt, "no memory");
+        let file = File {
+            rest: *bytes,
+            fails,
+        };
+        all.push((name, file)).expect(rt, "no memory");
     }
-    Ok(all)
-}
-
-fn try_case<R: Threads + Wait + Sync + AllocGlobal + Abort>(
-    rt: &R,
-    case: &Case,
-) -> Result<(), Fail> {
-    let files = files_of(rt, case.files, false)?;
-    let mut output: Vec<u8> = Vec::new(rt.alloc());
-    let mut errors: Vec<u8> = Vec::new(rt.alloc());
-    let status = status_of(rt, files, &mut output, &mut errors);
-    let told = std::str::from_utf8(errors.as_slice()).unwrap_or("");
-    let rows = std::str::from_utf8(output.as_slice()).unwrap_or("");
-    assert_eq!(rt; told, case.errors);
-    assert_eq!(rt; status, case.status);
-    assert_eq!(rt; rows, case.output);
-    Ok(())
+    all
 }
 
 #[test]
-fn files(rt: HostRuntime) -> Result<(), Fail> {
+fn files(rt: HostRuntime) {
     for case in &CASES {
-        try_case(&rt, case)?;
+        let files = files_of(&rt, case.files, false);
+        let mut output: Vec<u8> = Vec::new(rt.alloc());
+        let mut errors: Vec<u8> = Vec::new(rt.alloc());
+        let status = status_of(&rt, files, &mut output, &mut errors);
+        let told = std::str::from_utf8(errors.as_slice()).unwrap_or("");
+        let rows = std::str::from_utf8(output.as_slice()).unwrap_or("");
+        assert!(rt;
+            status == case.status && told == case.errors && rows == case.output,
+            "{status} {told} {rows}"
+        );
     }
-    Ok(())
 }
 
 #[test]
-fn failing_reader(rt: HostRuntime) -> Result<(), Fail> {
-    let files = files_of(&rt, &[("a", b"~bump\r\n:at"), ("b", b"")], true)?;
+fn failing_reader(rt: HostRuntime) {
+    let files = files_of(&rt, &[("a", b"~bump\r\n:at"), ("b", b"")], true);
     let mut output: Vec<u8> = Vec::new(rt.alloc());
     let mut errors: Vec<u8> = Vec::new(rt.alloc());
     // The line that was cut is not known, and so it is the read that is told.
     let status = status_of(&rt, files, &mut output, &mut errors);
-    assert_eq!(rt; status, 4);
+    assert!(rt; status == 4 && output.is_empty());
     assert!(rt; errors.as_slice() == b"lrudb: a: cannot read\n".as_slice());
-    assert!(rt; output.is_empty());
-    Ok(())
 }
 
 #[test]
-fn failing_writer(rt: HostRuntime) -> Result<(), Fail> {
-    let files = files_of(&rt, &[("a", b"~bump\r\n")], false)?;
+fn failing_writer(rt: HostRuntime) {
+    let files = files_of(&rt, &[("a", b"~bump\r\n")], false);
     let mut errors: Vec<u8> = Vec::new(rt.alloc());
     let status = status_of(&rt, files, &mut Full, &mut errors);
-    assert_eq!(rt; status, 4);
-    assert!(rt; errors.as_slice() == b"lrudb: cannot write\n".as_slice());
-    Ok(())
+    assert!(rt; status == 4 && errors.as_slice() == b"lrudb: cannot write\n".as_slice());
 }
 
 static SETS: &[u8] = b"set a 0 0 1\r\nx\r\nset b 0 0 1\r\ny\r\nset c 0 0 1\r\nz\r\n";
 
+static EIGHT: [(&str, &[u8]); 8] = [
+    ("a", SETS),
+    ("b", SETS),
+    ("c", SETS),
+    ("d", SETS),
+    ("e", SETS),
+    ("f", SETS),
+    ("g", SETS),
+    ("h", SETS),
+];
+
 // How many rows stand in the text, if row i begins with i, row i of the tree is node i + 1, and the end comes last.
-fn rows_in<R: AllocGlobal + Abort>(rt: &R, text: &str) -> Result<u64, Fail> {
+fn rows_in<R: AllocGlobal + Abort>(rt: &R, text: &str) -> u64 {
     let mut place: u64 = 0;
     for line in text.lines() {
         if line == "END" {
-            return Ok(place);
+            return place;
         }
-        let start = format!(in rt.alloc(); "{place} ")?;
-        assert!(rt; line.starts_with(start.as_str()), "{line}");
-        assert!(rt; line.ends_with(" set STORED"), "{line}");
+        let start = format!(in rt.alloc(); "{place} ").expect(rt, "no memory");
+        assert!(rt;
+            line.starts_with(start.as_str()) && line.ends_with(" set STORED"),
+            "{line}"
+        );
         place = place.wrapping_add(1);
     }
-    Ok(0)
+    0
 }
 
 #[test]
-fn eight_actors(rt: HostRuntime) -> Result<(), Fail> {
-    let names = ["a", "b", "c", "d", "e", "f", "g", "h"];
-    let mut files = Vec::new(rt.alloc());
-    for name in names {
-        let name = String::from_str(rt.alloc(), name)?;
-        files.push((name, SETS))?;
-    }
+fn eight_actors(rt: HostRuntime) {
+    let files = files_of(&rt, &EIGHT, false);
     let mut output: Vec<u8> = Vec::new(rt.alloc());
     let mut errors: Vec<u8> = Vec::new(rt.alloc());
     let status = status_of(&rt, files, &mut output, &mut errors);
-    assert_eq!(rt; status, 0);
     let text = std::str::from_utf8(output.as_slice()).unwrap_or("");
-    assert_eq!(rt; rows_in(&rt, text)?, 24);
-    Ok(())
+    assert!(rt; status == 0 && rows_in(&rt, text) == 24, "{status}");
 }
 
 // The tree has no more than 1048576 nodes, and so the last step is refused.
 #[test]
-fn stopped(rt: HostRuntime) -> Result<(), Fail> {
+fn stopped(rt: HostRuntime) {
     let mut files = Vec::new(rt.alloc());
     let lines = Lines {
         line: b"@ 1\n",
         times: 1048577,
     };
-    files.push((String::from_str(rt.alloc(), "a")?, lines))?;
+    let name = String::from_str(rt.alloc(), "a").expect(&rt, "no memory");
+    files.push((name, lines)).expect(&rt, "no memory");
     let mut output: Vec<u8> = Vec::new(rt.alloc());
     let mut errors: Vec<u8> = Vec::new(rt.alloc());
     let status = status_of(&rt, files, &mut output, &mut errors);
-    assert_eq!(rt; status, 0);
     let end = b"\r\n1048575 0 play 1048576 clock OK\r\nSTOPPED 0 too many nodes\r\nEND\r\n";
-    assert!(rt; output.as_slice().ends_with(end));
-    Ok(())
+    assert!(rt; status == 0 && output.as_slice().ends_with(end), "{status}");
 }

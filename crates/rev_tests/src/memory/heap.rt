@@ -1,8 +1,7 @@
 //! A heap of which only so many bytes are left, and what is tried on it.
 use linked_list_allocator::LocalHeap;
-use std::alloc::{AllocError, Global};
+use std::alloc::Global;
 use std::process::Abort;
-use std::test::Fail;
 
 // The heap hands out multiples of so many bytes.
 const UNIT: usize = 16;
@@ -16,13 +15,14 @@ pub type Ballast<'a> = Vec<Vec<u8, &'a LocalHeap>>;
 // Holes of a heap that are filled before the filling is given up.
 const MOST_HOLES: usize = 100000;
 
-/// Fills a heap but for one hole of `left` bytes. An error where it has no such hole.
-pub fn fill<'a>(
+/// Fills a heap but for one hole of `left` bytes. The test fails where it has no such hole.
+pub fn fill<'a, R: Abort>(
+    rt: &R,
     alloc: Global,
     heap: &'a LocalHeap,
     left: usize,
-) -> Result<Ballast<'a>, AllocError> {
-    let hole: Vec<u8, &LocalHeap> = Vec::with_capacity(heap, left)?;
+) -> Ballast<'a> {
+    let hole: Vec<u8, &LocalHeap> = Vec::with_capacity(heap, left).expect(rt, "no such hole");
     let mut ballast = Vec::new(alloc);
     let mut bytes = heap.free();
     for _ in 0..MOST_HOLES {
@@ -30,50 +30,34 @@ pub fn fill<'a>(
             break;
         }
         match Vec::with_capacity(heap, bytes) {
-            Ok(block) => ballast.push(block)?,
+            Ok(block) => ballast.push(block).expect(rt, "no memory"),
             Err(_) => bytes /= 2,
         }
     }
     drop(hole);
-    Ok(ballast)
+    ballast
 }
 
 /// What is tried on a heap of which fewer bytes are left than it may want.
 pub trait Trial {
     /// Tries it on a heap of its own with so many bytes left, looks at what it leaves, and tells whether there was memory
     /// for it.
-    fn attempt<R: Abort>(
-        &self,
-        rt: &R,
-        alloc: Global,
-        heap: &LocalHeap,
-        left: usize,
-    ) -> Result<bool, Fail>;
+    fn attempt<R: Abort>(&self, rt: &R, alloc: Global, heap: &LocalHeap, left: usize) -> bool;
 }
 
-fn attempt_anew<R: Abort, T: Trial>(
-    rt: &R,
-    alloc: Global,
-    trial: &T,
-    left: usize,
-) -> Result<bool, Fail> {
-    let heap = LocalHeap::new(alloc, BYTES)?;
+fn attempt_anew<R: Abort, T: Trial>(rt: &R, alloc: Global, trial: &T, left: usize) -> bool {
+    let heap = LocalHeap::new(alloc, BYTES).expect(rt, "no memory");
     trial.attempt(rt, alloc, &heap, left)
 }
 
 /// Tries what has this name with no byte left, and then with more and more, up to where there is memory for it. Some attempt
 /// must have been refused.
-pub fn refuse_in_turn<R: Abort, T: Trial>(
-    rt: &R,
-    alloc: Global,
-    name: &str,
-    trial: &T,
-) -> Result<(), Fail> {
+pub fn refuse_in_turn<R: Abort, T: Trial>(rt: &R, alloc: Global, name: &str, trial: &T) {
     for units in 0..BYTES / UNIT {
-        if attempt_anew(rt, alloc, trial, units * UNIT)? {
+        if attempt_anew(rt, alloc, trial, units * UNIT) {
             assert!(rt; units > 0, "{name}");
-            return Ok(());
+            return;
         }
     }
-    Err(Fail::new("there was never enough memory"))
+    panic!(rt; "{name}: there was never enough memory")
 }

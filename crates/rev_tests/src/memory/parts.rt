@@ -12,7 +12,6 @@ use rev_script::lines::Lines;
 use rev_script::source::FromRead;
 use std::alloc::Global;
 use std::process::Abort;
-use std::test::Fail;
 
 /// A store of few bytes.
 pub const SMALL: Config = Config {
@@ -48,13 +47,13 @@ const PARTS: [Part; 7] = [
 ];
 
 // Whether the heap had memory for the part.
-fn has_memory(heap: &LocalHeap, part: Part) -> Result<bool, Fail> {
-    let table = ClassTable::build(&SMALL)?;
-    let has_memory = match part {
+fn has_memory<R: Abort>(rt: &R, heap: &LocalHeap, part: Part) -> bool {
+    let table = ClassTable::build(&SMALL).expect(rt, "no class table");
+    match part {
         Part::Key => match Key::new(heap, b"a-key-that-takes-memory-of-its-own") {
             Ok(_) => true,
             Err(KeyFault::Memory) => false,
-            Err(KeyFault::BadKey) => return Err(Fail::new("a bad key")),
+            Err(KeyFault::BadKey) => panic!(rt; "a bad key"),
         },
         Part::Pages => is_made(Pages::open(heap, &SMALL, &table)),
         Part::PageSlots => is_made(rev_pages::slots(heap, 10)),
@@ -62,42 +61,24 @@ fn has_memory(heap: &LocalHeap, part: Part) -> Result<bool, Fail> {
         Part::QueueSlots => is_made(rev_queues::slots(heap, 10)),
         Part::Index => is_made(Index::open(heap, &SMALL, &table)),
         Part::IndexSlots => is_made(rev_index::slots(heap, 10)),
-    };
-    Ok(has_memory)
-}
-
-// Makes the part with so many bytes left. All memory is given back, also by what was refused.
-fn makes_or_refuses<R: Abort>(
-    rt: &R,
-    alloc: Global,
-    heap: &LocalHeap,
-    part: Part,
-    left: usize,
-) -> Result<bool, Fail> {
-    let _ballast = fill(alloc, heap, left)?;
-    let is_made = has_memory(heap, part)?;
-    assert_eq!(rt; heap.free(), left, "{left} bytes left");
-    Ok(is_made)
+    }
 }
 
 impl Trial for Part {
-    fn attempt<R: Abort>(
-        &self,
-        rt: &R,
-        alloc: Global,
-        heap: &LocalHeap,
-        left: usize,
-    ) -> Result<bool, Fail> {
-        makes_or_refuses(rt, alloc, heap, *self, left)
+    // All memory is given back, also by what was refused.
+    fn attempt<R: Abort>(&self, rt: &R, alloc: Global, heap: &LocalHeap, left: usize) -> bool {
+        let _ballast = fill(rt, alloc, heap, left);
+        let is_made = has_memory(rt, heap, *self);
+        assert_eq!(rt; heap.free(), left, "{left} bytes left");
+        is_made
     }
 }
 
 #[test]
-fn parts(rt: HostRuntime) -> Result<(), Fail> {
+fn parts(rt: HostRuntime) {
     for part in &PARTS {
-        refuse_in_turn(&rt, rt.alloc(), "a part", part)?;
+        refuse_in_turn(&rt, rt.alloc(), "a part", part);
     }
-    Ok(())
 }
 
 // A script of one line.
@@ -126,52 +107,26 @@ fn has_next<'a>(
     }
 }
 
-// Reads a line with so many bytes left. A reader that was refused memory stays refused.
-fn reads_or_refuses<'a, R: Abort>(
-    rt: &R,
-    alloc: Global,
-    heap: &'a LocalHeap,
-    lines: &mut Lines<FromRead<&'static [u8]>, &'a LocalHeap>,
-    left: usize,
-) -> Result<bool, Fail> {
-    let ballast = fill(alloc, heap, left)?;
-    let line = has_next(lines);
-    drop(ballast);
-    match line {
-        Ok(is_some) => {
-            assert!(rt; is_some);
-            Ok(true)
-        }
-        Err(fault) => {
-            assert_eq!(rt; fault, LineFault::Memory, "{left} bytes left");
-            match has_next(lines) {
-                Ok(_) => Err(Fail::new("a line after a refused one")),
-                Err(again) => {
-                    assert_eq!(rt; again, LineFault::Memory, "{left} bytes left");
-                    Ok(false)
-                }
-            }
-        }
-    }
-}
-
 impl Trial for Text {
-    fn attempt<R: Abort>(
-        &self,
-        rt: &R,
-        alloc: Global,
-        heap: &LocalHeap,
-        left: usize,
-    ) -> Result<bool, Fail> {
+    // A reader that was refused memory stays refused.
+    fn attempt<R: Abort>(&self, rt: &R, alloc: Global, heap: &LocalHeap, left: usize) -> bool {
         let mut lines = Lines::over(heap, FromRead::new(self.0.as_bytes()));
-        reads_or_refuses(rt, alloc, heap, &mut lines, left)
+        let ballast = fill(rt, alloc, heap, left);
+        let line = has_next(&mut lines);
+        drop(ballast);
+        let is_read = line == Ok(true);
+        if !is_read {
+            assert_eq!(rt; line, Err(LineFault::Memory), "{left} bytes left");
+            let again = has_next(&mut lines);
+            assert_eq!(rt; again, Err(LineFault::Memory), "{left} bytes left");
+        }
+        is_read
     }
 }
 
 #[test]
-fn lines(rt: HostRuntime) -> Result<(), Fail> {
+fn lines(rt: HostRuntime) {
     for line in &LINES {
-        refuse_in_turn(&rt, rt.alloc(), line.0, line)?;
+        refuse_in_turn(&rt, rt.alloc(), line.0, line);
     }
-    Ok(())
 }

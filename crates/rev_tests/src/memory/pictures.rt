@@ -7,8 +7,8 @@ use rev_inverse::Store;
 use rev_items::{Item, Key};
 use rev_model::{ChunkRef, Counter, Entry, Outcome, Queue};
 use rev_undotree::{NodeId, Session};
-use std::alloc::{AllocError, Allocator, Global};
-use std::test::Fail;
+use std::alloc::{Allocator, Global};
+use std::process::Abort;
 
 // The keys that are looked up, the last too long to lie in place.
 const KEYS: [&[u8]; 4] = [b"a", b"b", b"c", b"a-key-that-takes-memory-of-its-own"];
@@ -52,77 +52,73 @@ impl Picture {
             && self.outcomes.as_slice() == other.outcomes.as_slice()
     }
 
-    fn put(&mut self, number: u64) -> Result<(), AllocError> {
-        self.numbers.push(number)?;
-        Ok(())
+    fn put<R: Abort>(&mut self, rt: &R, number: u64) {
+        self.numbers.push(number).expect(rt, "no memory");
     }
 
-    fn put_all(&mut self, numbers: &[u64]) -> Result<(), AllocError> {
-        self.numbers.extend_from_slice(numbers)
+    fn put_all<R: Abort>(&mut self, rt: &R, numbers: &[u64]) {
+        self.numbers.extend_from_slice(numbers).expect(rt, "no memory");
     }
 
-    fn put_bytes(&mut self, bytes: &[u8]) -> Result<(), AllocError> {
-        self.put(bytes.len() as u64)?;
+    fn put_bytes<R: Abort>(&mut self, rt: &R, bytes: &[u8]) {
+        self.put(rt, bytes.len() as u64);
         for byte in bytes {
-            self.put(u64::from(*byte))?;
+            self.put(rt, u64::from(*byte));
         }
-        Ok(())
     }
 
-    fn put_chunk(&mut self, chunk: Option<ChunkRef>) -> Result<(), AllocError> {
+    fn put_chunk<R: Abort>(&mut self, rt: &R, chunk: Option<ChunkRef>) {
         match chunk {
-            None => self.put(u64::MAX),
+            None => self.put(rt, u64::MAX),
             Some(chunk) => {
-                self.put(u64::from(chunk.page))?;
-                self.put(u64::from(chunk.slot))
+                self.put(rt, u64::from(chunk.page));
+                self.put(rt, u64::from(chunk.slot));
             }
         }
     }
 
-    fn put_entry(&mut self, entry: Entry) -> Result<(), AllocError> {
+    fn put_entry<R: Abort>(&mut self, rt: &R, entry: Entry) {
         match entry {
-            Entry::Mark => self.put_chunk(None),
-            Entry::Chunk(chunk) => self.put_chunk(Some(chunk)),
+            Entry::Mark => self.put_chunk(rt, None),
+            Entry::Chunk(chunk) => self.put_chunk(rt, Some(chunk)),
         }
     }
 
-    fn put_item<A: Allocator>(&mut self, item: &Item<A>) -> Result<(), AllocError> {
-        self.put_bytes(item.key().bytes())?;
-        self.put_bytes(item.value())?;
-        self.put_all(&[
+    fn put_item<R: Abort, A: Allocator>(&mut self, rt: &R, item: &Item<A>) {
+        self.put_bytes(rt, item.key().bytes());
+        self.put_bytes(rt, item.value());
+        self.put_all(rt, &[
             u64::from(item.flags()),
             item.moment(),
             u64::from(item.time()),
             item.cas(),
             u64::from(item.bits().fetched),
             u64::from(item.bits().active),
-        ])
+        ]);
     }
 
-    fn put_pages<A: Allocator>(&mut self, store: &Store<A>) -> Result<(), AllocError> {
-        self.put(store.made() as u64)?;
+    fn put_pages<R: Abort, A: Allocator>(&mut self, rt: &R, store: &Store<A>) {
+        self.put(rt, store.made() as u64);
         for page in 0..store.made() {
-            self.put(store.owner(page) as u64)?;
+            self.put(rt, store.owner(page) as u64);
         }
-        Ok(())
     }
 
-    fn put_contents<A: Allocator>(&mut self, store: &Store<A>) -> Result<(), AllocError>
+    fn put_contents<R: Abort, A: Allocator>(&mut self, rt: &R, store: &Store<A>)
         requires { Sound store.now }
     {
         for page in 0..4 {
             for slot in 0..SLOTS {
                 match store.content(ChunkRef { page, slot }) {
-                    None => self.put(u64::MAX)?,
-                    Some(item) => self.put_item(item)?,
+                    None => self.put(rt, u64::MAX),
+                    Some(item) => self.put_item(rt, item),
                 }
             }
         }
-        Ok(())
     }
 
     // Puts the free chunks of a class, front first.
-    fn put_free<A: Allocator>(&mut self, store: &Store<A>, class: usize) -> Result<(), AllocError>
+    fn put_free<R: Abort, A: Allocator>(&mut self, rt: &R, store: &Store<A>, class: usize)
         requires sound { Sound store.now }
         requires class { IsClass store.now.fixed class }
     {
@@ -131,19 +127,20 @@ impl Picture {
             let Some(chunk) = store.free_at(class, behind) else {
                 break;
             };
-            self.put_chunk(Some(chunk))?;
+            self.put_chunk(rt, Some(chunk));
             behind = Some(chunk);
         }
-        self.put(u64::MAX)
+        self.put(rt, u64::MAX);
     }
 
     // Puts the entries of a queue, head first, and its bytes.
-    fn put_queue<A: Allocator>(
+    fn put_queue<R: Abort, A: Allocator>(
         &mut self,
+        rt: &R,
         store: &Store<A>,
         class: usize,
         queue: Queue,
-    ) -> Result<(), AllocError>
+    )
         requires sound { Sound store.now }
         requires class { IsClass store.now.fixed class }
     {
@@ -152,152 +149,155 @@ impl Picture {
             let Some(entry) = store.queue_entry(class, queue, behind) else {
                 break;
             };
-            self.put_entry(entry)?;
+            self.put_entry(rt, entry);
             behind = Some(entry);
         }
-        self.put(store.bytes(class, queue))
+        self.put(rt, store.bytes(class, queue));
     }
 
-    fn put_counters<A: Allocator>(
+    fn put_counters<R: Abort, A: Allocator>(
         &mut self,
+        rt: &R,
         store: &Store<A>,
         class: usize,
-    ) -> Result<(), AllocError>
+    )
         requires sound { Sound store.now }
         requires class { IsClass store.now.fixed class }
     {
         for counter in COUNTERS {
-            self.put(store.counter(class, counter))?;
+            self.put(rt, store.counter(class, counter));
         }
-        Ok(())
     }
 
-    fn put_classes<A: Allocator>(&mut self, store: &Store<A>) -> Result<(), AllocError>
+    fn put_classes<R: Abort, A: Allocator>(&mut self, rt: &R, store: &Store<A>)
         requires { Sound store.now }
     {
         for index in 0..store.table().last() {
             let class = index + 1;
-            self.put_free(store, class)?;
-            self.put_counters(store, class)?;
+            self.put_free(rt, store, class);
+            self.put_counters(rt, store, class);
             for queue in QUEUES {
-                self.put_queue(store, class, queue)?;
+                self.put_queue(rt, store, class, queue);
             }
         }
-        Ok(())
     }
 
-    fn put_bump<A: Allocator>(&mut self, store: &Store<A>) -> Result<(), AllocError> {
-        self.put(store.bump_len() as u64)?;
+    fn put_bump<R: Abort, A: Allocator>(&mut self, rt: &R, store: &Store<A>) {
+        self.put(rt, store.bump_len() as u64);
         for i in 0..store.bump_len() {
             if let Some(entry) = store.bump_at(i) {
-                self.put_chunk(Some(entry.chunk))?;
-                self.put(entry.cas)?;
+                self.put_chunk(rt, Some(entry.chunk));
+                self.put(rt, entry.cas);
             }
         }
-        Ok(())
     }
 
-    fn put_globals<A: Allocator>(&mut self, store: &Store<A>) -> Result<(), AllocError> {
+    fn put_globals<R: Abort, A: Allocator>(&mut self, rt: &R, store: &Store<A>) {
         let globals = store.globals();
-        self.put_all(&[
+        self.put_all(rt, &[
             u64::from(globals.clock),
             globals.last_cas,
             globals.mark,
             globals.flush.unwrap_or(u64::MAX),
-        ])?;
+        ]);
         if let Some(mover) = globals.mover {
-            self.put_all(&[
+            self.put_all(rt, &[
                 u64::from(mover.src),
                 u64::from(mover.dst),
                 u64::from(mover.page),
                 u64::from(mover.slot),
-            ])?;
+            ]);
         }
-        self.put(u64::MAX)
+        self.put(rt, u64::MAX);
     }
 
-    fn put_settings<A: Allocator>(&mut self, store: &Store<A>) -> Result<(), AllocError> {
+    fn put_settings<R: Abort, A: Allocator>(&mut self, rt: &R, store: &Store<A>) {
         let settings = store.globals().settings;
-        self.put_all(&[
+        self.put_all(rt, &[
             u64::from(settings.hot_share),
             u64::from(settings.warm_share),
             u64::from(settings.hot_factor),
             u64::from(settings.warm_factor),
             u64::from(settings.temp_ttl < 0),
             u64::from(settings.temp_ttl.unsigned_abs()),
-        ])
+        ]);
     }
 
-    fn put_key<A: Allocator + Clone>(&mut self, store: &Store<A>, name: &[u8]) -> Result<(), Fail> {
-        let key = Key::new(store.alloc()?, name)?;
-        Ok(self.put_chunk(store.find(&key))?)
+    fn put_key<R: Abort, A: Allocator + Clone>(&mut self, rt: &R, store: &Store<A>, name: &[u8]) {
+        let alloc = store.alloc().expect(rt, "no memory");
+        let key = Key::new(alloc, name).expect(rt, "no key");
+        self.put_chunk(rt, store.find(&key));
     }
 
     /// Puts what the store tells: pages, contents, each class's lists and counters, the bump queue, the globals, the
     /// settings, keys.
-    pub fn put_store<A: Allocator + Clone>(&mut self, store: &Store<A>) -> Result<(), Fail>
+    pub fn put_store<R: Abort, A: Allocator + Clone>(&mut self, rt: &R, store: &Store<A>)
         requires { Sound store.now }
     {
-        self.put_pages(store)?;
-        self.put_contents(store)?;
-        self.put_classes(store)?;
-        self.put_bump(store)?;
-        self.put_globals(store)?;
-        self.put_settings(store)?;
+        self.put_pages(rt, store);
+        self.put_contents(rt, store);
+        self.put_classes(rt, store);
+        self.put_bump(rt, store);
+        self.put_globals(rt, store);
+        self.put_settings(rt, store);
         for name in KEYS {
-            self.put_key(store, name)?;
+            self.put_key(rt, store, name);
         }
-        Ok(())
     }
 
-    fn put_place(&mut self, node: Option<NodeId>) -> Result<(), AllocError> {
+    fn put_place<R: Abort>(&mut self, rt: &R, node: Option<NodeId>) {
         match node {
-            None => self.put(u64::MAX),
-            Some(node) => self.put(u64::from(node.0)),
+            None => self.put(rt, u64::MAX),
+            Some(node) => self.put(rt, u64::from(node.0)),
         }
     }
 
-    fn put_node<A: Allocator + Clone>(
+    fn put_node<R: Abort, A: Allocator + Clone>(
         &mut self,
+        rt: &R,
         session: &Session<A>,
         node: NodeId,
-    ) -> Result<(), AllocError> {
-        self.put_place(session.parent(node))?;
+    ) {
+        self.put_place(rt, session.parent(node));
         if let Some((_, outcome)) = session.row(node) {
-            self.outcomes.push(outcome)?;
+            self.outcomes.push(outcome).expect(rt, "no memory");
         }
         for index in 0..4 {
-            self.put_place(session.child(node, index))?;
+            self.put_place(rt, session.child(node, index));
         }
-        Ok(())
     }
 
     /// Puts what the session tells: its nodes, where it stands, and the store there.
-    pub fn put_session<A: Allocator + Clone>(&mut self, session: &Session<A>) -> Result<(), Fail> {
-        self.put(u64::from(session.current().0))?;
-        self.put(u64::from(session.issued()))?;
+    pub fn put_session<R: Abort, A: Allocator + Clone>(&mut self, rt: &R, session: &Session<A>) {
+        self.put(rt, u64::from(session.current().0));
+        self.put(rt, u64::from(session.issued()));
         for node in 0..=session.issued() {
-            self.put_node(session, NodeId(node))?;
+            self.put_node(rt, session, NodeId(node));
         }
-        self.put_store(session.store())
+        self.put_store(rt, session.store())
     }
 }
 
 /// A picture of the store.
-pub fn picture_of<A: Allocator + Clone>(alloc: Global, store: &Store<A>) -> Result<Picture, Fail>
+pub fn picture_of<R: Abort, A: Allocator + Clone>(
+    rt: &R,
+    alloc: Global,
+    store: &Store<A>,
+) -> Picture
     requires { Sound store.now }
 {
     let mut picture = Picture::new(alloc);
-    picture.put_store(store)?;
-    Ok(picture)
+    picture.put_store(rt, store);
+    picture
 }
 
 /// A picture of the session.
-pub fn session_picture<A: Allocator + Clone>(
+pub fn session_picture<R: Abort, A: Allocator + Clone>(
+    rt: &R,
     alloc: Global,
     session: &Session<A>,
-) -> Result<Picture, Fail> {
+) -> Picture {
     let mut picture = Picture::new(alloc);
-    picture.put_session(session)?;
-    Ok(picture)
+    picture.put_session(rt, session);
+    picture
 }

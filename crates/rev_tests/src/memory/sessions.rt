@@ -1,12 +1,11 @@
 //! Sessions that are opened and played on, and whole runs.
-ghost use Rattle.std.specs.Prelude.{IfOk, IfSome};
+ghost use Rattle.std.specs.Prelude.{IfSome};
 ghost use Rattle.rev_model.specs.Sound.{Sound};
 
 use crate::memory::heap::{Trial, fill, refuse_in_turn};
 use crate::memory::parts::SMALL;
 use crate::memory::pictures::{Picture, picture_of, session_picture};
 use crate::memory::steps::{Command, step_of};
-use crate::owned::{after, or_fail};
 use linked_list_allocator::LocalHeap;
 use rev_classes::fault_of;
 use rev_explain::story;
@@ -17,15 +16,21 @@ use rev_script::source::FromRead;
 use rev_shell::run::{RunFault, Summary, run};
 use rev_steps::{KeyCommand, Step, StoreVerb};
 use rev_undotree::{PlayFault, Session};
-use std::alloc::{Allocator, Global};
+use std::alloc::Global;
 use std::process::Abort;
-use std::test::Fail;
 
-// The store that is handed back where no session can be opened.
-fn handed_back<'a>(heap: &'a LocalHeap, store: Store<&'a LocalHeap>) -> Option<Store<&'a LocalHeap>>
+// The store that is handed back where a session is opened with so many bytes left, none where it opened.
+fn refused_store<'a, R: Abort>(
+    rt: &R,
+    alloc: Global,
+    heap: &'a LocalHeap,
+    store: Store<&'a LocalHeap>,
+    left: usize,
+) -> Option<Store<&'a LocalHeap>>
     requires { Sound store }
     ensures { IfSome result Sound }
 {
+    let _ballast = fill(rt, alloc, heap, left);
     match Session::open(heap, store) {
         Ok(session) => {
             drop(session);
@@ -35,89 +40,30 @@ fn handed_back<'a>(heap: &'a LocalHeap, store: Store<&'a LocalHeap>) -> Option<S
     }
 }
 
-// The store that is handed back where a session is opened with so many bytes left, none where it opened.
-fn refused_store<'a>(
-    alloc: Global,
-    heap: &'a LocalHeap,
-    store: Store<&'a LocalHeap>,
-    left: usize,
-) -> Result<Option<Store<&'a LocalHeap>>, Fail>
-    requires { Sound store }
-    ensures { IfOk result (λ handed. IfSome handed Sound) }
-{
-    match fill(alloc, heap, left) {
-        Ok(ballast) => {
-            let handed = handed_back(heap, store);
-            drop(ballast);
-            Ok(handed)
-        }
-        Err(fault) => {
-            drop(store);
-            Err(Fail::from(fault))
-        }
-    }
-}
-
-// Whether the store tells what it told before.
-fn tells_the_same<A: Allocator + Clone>(
-    alloc: Global,
-    store: &Store<A>,
-    before: &Picture,
-) -> Result<bool, Fail>
-    requires { Sound store.now }
-{
-    let after = picture_of(alloc, store)?;
-    Ok(before.is_same(&after))
-}
-
-// Opens a session with so many bytes left. A store that is handed back tells what it told before.
-fn opens_or_hands_back<'a, R: Abort>(
-    rt: &R,
-    alloc: Global,
-    heap: &'a LocalHeap,
-    store: Store<&'a LocalHeap>,
-    before: &Picture,
-    left: usize,
-) -> Result<bool, Fail>
-    requires { Sound store }
-{
-    match refused_store(alloc, heap, store, left)? {
-        None => Ok(true),
-        Some(store) => {
-            let is_same = tells_the_same(alloc, &store, before);
-            drop(store);
-            assert!(rt; is_same?, "{left} bytes left");
-            Ok(false)
-        }
-    }
-}
-
 // A session that is opened.
 #[derive(Clone, Copy)]
 struct Opening;
 
 impl Trial for Opening {
-    fn attempt<R: Abort>(
-        &self,
-        rt: &R,
-        alloc: Global,
-        heap: &LocalHeap,
-        left: usize,
-    ) -> Result<bool, Fail> {
-        let store = Store::open(heap, SMALL)?;
-        match picture_of(alloc, &store) {
-            Ok(before) => opens_or_hands_back(rt, alloc, heap, store, &before, left),
-            Err(fail) => {
+    // A store that is handed back tells what it told before.
+    fn attempt<R: Abort>(&self, rt: &R, alloc: Global, heap: &LocalHeap, left: usize) -> bool {
+        let store = Store::open(heap, SMALL).expect(rt, "no store");
+        let before = picture_of(rt, alloc, &store);
+        match refused_store(rt, alloc, heap, store, left) {
+            None => true,
+            Some(store) => {
+                let after = picture_of(rt, alloc, &store);
                 drop(store);
-                Err(fail)
+                assert!(rt; before.is_same(&after), "{left} bytes left");
+                false
             }
         }
     }
 }
 
 #[test]
-fn opens(rt: HostRuntime) -> Result<(), Fail> {
-    refuse_in_turn(&rt, rt.alloc(), "a session", &Opening)
+fn opens(rt: HostRuntime) {
+    refuse_in_turn(&rt, rt.alloc(), "a session", &Opening);
 }
 
 // What a case does before its play.
@@ -174,47 +120,39 @@ static CASES: [Case; 5] = [
     },
 ];
 
-fn take_turn<'a>(
+fn take_turn<'a, R: Abort>(
+    rt: &R,
     heap: &'a LocalHeap,
     session: &mut Session<&'a LocalHeap>,
     turn: Turn,
-) -> Result<(), Fail> {
+) {
     match turn {
-        Turn::Play(command) => match session.play(step_of(heap, command)?) {
-            Ok(_) => Ok(()),
-            Err((fault, step)) => {
-                drop(step);
-                Err(Fail::from(fault))
+        Turn::Play(command) => {
+            let step = step_of(rt, heap, command);
+            if let Err((fault, _)) = session.play(step) {
+                panic!(rt; "a play was refused: {fault}");
             }
-        },
+        }
         Turn::Back => {
-            session.back()?;
-            Ok(())
+            session.back().expect(rt, "no way back");
         }
     }
 }
 
-// A session on which nothing was played.
-fn new_session<'a>(heap: &'a LocalHeap) -> Result<Session<&'a LocalHeap>, Fail> {
-    or_fail(Session::open(heap, Store::open(heap, SMALL)?), "no session")
-}
-
-// Takes the turns, one after another.
-fn take_turns<'a>(
-    heap: &'a LocalHeap,
-    session: &mut Session<&'a LocalHeap>,
-    turns: &[Turn],
-) -> Result<(), Fail> {
-    for turn in turns {
-        take_turn(heap, session, *turn)?;
-    }
-    Ok(())
-}
-
 // A session on which these turns were taken.
-fn session_after<'a>(heap: &'a LocalHeap, turns: &[Turn]) -> Result<Session<&'a LocalHeap>, Fail> {
-    let mut session = new_session(heap)?;
-    after(take_turns(heap, &mut session, turns), session)
+fn session_after<'a, R: Abort>(
+    rt: &R,
+    heap: &'a LocalHeap,
+    turns: &[Turn],
+) -> Session<&'a LocalHeap> {
+    let store = Store::open(heap, SMALL).expect(rt, "no store");
+    let Ok(mut session) = Session::open(heap, store) else {
+        panic!(rt; "no session");
+    };
+    for turn in turns {
+        take_turn(rt, heap, &mut session, *turn);
+    }
+    session
 }
 
 // Why a play was refused, and whether the step that was handed back is as it was.
@@ -234,69 +172,47 @@ fn refusal<'a>(
 }
 
 // Plays the command with so many bytes left, and tells the refusal.
-fn try_play<'a>(
+fn try_play<'a, R: Abort>(
+    rt: &R,
     alloc: Global,
     heap: &'a LocalHeap,
     session: &mut Session<&'a LocalHeap>,
     command: Command,
     left: usize,
-) -> Result<Option<(PlayFault, bool)>, Fail> {
-    let step = step_of(heap, command)?;
-    let like = step_of(heap, command)?;
-    let _ballast = fill(alloc, heap, left)?;
-    Ok(refusal(session, step, &like))
+) -> Option<(PlayFault, bool)> {
+    let step = step_of(rt, heap, command);
+    let like = step_of(rt, heap, command);
+    let _ballast = fill(rt, alloc, heap, left);
+    refusal(session, step, &like)
 }
 
-// Plays the command with so many bytes left. A session that was refused memory tells what it told before, and the step is
-// handed back.
-fn plays_or_keeps<'a, R: Abort>(
-    rt: &R,
-    alloc: Global,
-    heap: &'a LocalHeap,
-    session: &mut Session<&'a LocalHeap>,
-    case: &Case,
-    left: usize,
-) -> Result<bool, Fail> {
-    let before = session_picture(alloc, session)?;
-    let refusal = try_play(alloc, heap, session, case.command, left)?;
-    let after = session_picture(alloc, session)?;
-    let name = case.name;
-    let is_same = before.is_same(&after);
-    assert!(rt; is_same == refusal.is_some(), "{name}: {left} bytes left");
-    match refusal {
-        None => Ok(true),
-        Some(refusal) => {
+impl Trial for Case {
+    // A session that was refused memory tells what it told before, and the step is handed back.
+    fn attempt<R: Abort>(&self, rt: &R, alloc: Global, heap: &LocalHeap, left: usize) -> bool {
+        let mut session = session_after(rt, heap, self.before);
+        let before = session_picture(rt, alloc, &session);
+        let refusal = try_play(rt, alloc, heap, &mut session, self.command, left);
+        let after = session_picture(rt, alloc, &session);
+        drop(session);
+        let name = self.name;
+        let is_same = before.is_same(&after);
+        assert!(rt; is_same == refusal.is_some(), "{name}: {left} bytes left");
+        if let Some(refusal) = refusal {
             assert_eq!(rt;
                 refusal,
                 (PlayFault::Memory, true),
                 "{name}: {left} bytes left"
             );
-            Ok(false)
         }
-    }
-}
-
-impl Trial for Case {
-    fn attempt<R: Abort>(
-        &self,
-        rt: &R,
-        alloc: Global,
-        heap: &LocalHeap,
-        left: usize,
-    ) -> Result<bool, Fail> {
-        let mut session = session_after(heap, self.before)?;
-        let is_done = plays_or_keeps(rt, alloc, heap, &mut session, self, left);
-        drop(session);
-        is_done
+        refusal.is_none()
     }
 }
 
 #[test]
-fn plays(rt: HostRuntime) -> Result<(), Fail> {
+fn plays(rt: HostRuntime) {
     for case in &CASES {
-        refuse_in_turn(&rt, rt.alloc(), case.name, case)?;
+        refuse_in_turn(&rt, rt.alloc(), case.name, case);
     }
-    Ok(())
 }
 
 // A key's story that has three events.
@@ -307,36 +223,19 @@ static LIFE: [Turn; 3] = [
 ];
 
 // How many events the story has, asked for with so many bytes left.
-fn story_length<'a>(
-    alloc: Global,
-    heap: &'a LocalHeap,
-    session: &Session<&'a LocalHeap>,
-    left: usize,
-) -> Result<Option<usize>, Fail> {
-    let key = Key::new(heap, b"a")?;
-    let _ballast = fill(alloc, heap, left)?;
-    let told = story(session, &key);
-    let length = match &told {
-        Ok(events) => Some(events.len()),
-        Err(_) => None,
-    };
-    drop(told);
-    Ok(length)
-}
-
-// Asks for the story with so many bytes left. Whatever comes of it, no memory is kept.
-fn tells_or_refuses<'a, R: Abort>(
+fn story_length<'a, R: Abort>(
     rt: &R,
     alloc: Global,
     heap: &'a LocalHeap,
     session: &Session<&'a LocalHeap>,
     left: usize,
-) -> Result<bool, Fail> {
-    let free = heap.free();
-    let length = story_length(alloc, heap, session, left)?;
-    assert_eq!(rt; heap.free(), free);
-    assert_eq!(rt; length.unwrap_or(LIFE.len()), LIFE.len());
-    Ok(length.is_some())
+) -> Option<usize> {
+    let key = Key::new(heap, b"a").expect(rt, "no key");
+    let _ballast = fill(rt, alloc, heap, left);
+    match story(session, &key) {
+        Ok(events) => Some(events.len()),
+        Err(_) => None,
+    }
 }
 
 // A story that is asked for.
@@ -344,23 +243,21 @@ fn tells_or_refuses<'a, R: Abort>(
 struct Life;
 
 impl Trial for Life {
-    fn attempt<R: Abort>(
-        &self,
-        rt: &R,
-        alloc: Global,
-        heap: &LocalHeap,
-        left: usize,
-    ) -> Result<bool, Fail> {
-        let session = session_after(heap, &LIFE)?;
-        let is_told = tells_or_refuses(rt, alloc, heap, &session, left);
+    // Whatever comes of it, no memory is kept.
+    fn attempt<R: Abort>(&self, rt: &R, alloc: Global, heap: &LocalHeap, left: usize) -> bool {
+        let session = session_after(rt, heap, &LIFE);
+        let free = heap.free();
+        let length = story_length(rt, alloc, heap, &session, left);
+        assert_eq!(rt; heap.free(), free);
+        assert_eq!(rt; length.unwrap_or(LIFE.len()), LIFE.len());
         drop(session);
-        is_told
+        length.is_some()
     }
 }
 
 #[test]
-fn stories(rt: HostRuntime) -> Result<(), Fail> {
-    refuse_in_turn(&rt, rt.alloc(), "a story", &Life)
+fn stories(rt: HostRuntime) {
+    refuse_in_turn(&rt, rt.alloc(), "a story", &Life);
 }
 
 // The lines of a script, with their data, and what each is answered.
@@ -376,31 +273,32 @@ static LINES: [(&str, &str); 8] = [
 ];
 
 // The answers of the lines before a line, counted from 1.
-fn answers_before(alloc: Global, line: u64) -> Result<Vec<u8>, Fail> {
+fn answers_before<R: Abort>(rt: &R, alloc: Global, line: u64) -> Vec<u8> {
     let mut answers = Vec::new(alloc);
     for (index, (_, answer)) in LINES.iter().enumerate() {
         if (index as u64) + 1 < line {
-            answers.extend_from_slice(answer.as_bytes())?;
+            answers
+                .extend_from_slice(answer.as_bytes())
+                .expect(rt, "no memory");
         }
     }
-    Ok(answers)
+    answers
 }
 
 // Runs the script.
-fn run_script(
+fn run_script<R: Abort>(
+    rt: &R,
     heap: &LocalHeap,
     script: &[u8],
     written: &mut Vec<u8>,
-) -> Result<Result<Summary, RunFault>, Fail> {
-    match fault_of(&SMALL) {
-        Some(fault) => Err(Fail::from(fault)),
-        None => Ok(run(
-            &heap,
-            &SMALL,
-            &mut FromRead::new(script),
-            &mut ToWrite::new(written),
-        )),
-    }
+) -> Result<Summary, RunFault> {
+    assert!(rt; fault_of(&SMALL).is_none(), "a bad store");
+    run(
+        &heap,
+        &SMALL,
+        &mut FromRead::new(script),
+        &mut ToWrite::new(written),
+    )
 }
 
 // A script that is run.
@@ -409,35 +307,31 @@ struct Script<'a>(&'a [u8]);
 
 impl<'a> Trial for Script<'a> {
     // Where memory is refused at a line, the answers before it are written.
-    fn attempt<R: Abort>(
-        &self,
-        rt: &R,
-        alloc: Global,
-        heap: &LocalHeap,
-        left: usize,
-    ) -> Result<bool, Fail> {
-        let _ballast = fill(alloc, heap, left)?;
+    fn attempt<R: Abort>(&self, rt: &R, alloc: Global, heap: &LocalHeap, left: usize) -> bool {
+        let _ballast = fill(rt, alloc, heap, left);
         let mut written: Vec<u8> = Vec::new(alloc);
-        let (line, is_done) = match run_script(heap, self.0, &mut written)? {
+        let (line, is_done) = match run_script(rt, heap, self.0, &mut written) {
             Ok(_) => (u64::MAX, true),
             Err(RunFault::Memory { line }) => (line, false),
-            Err(fault) => return Err(Fail::from(fault)),
+            Err(fault) => panic!(rt; "{left} bytes left: {fault}"),
         };
-        let answers = answers_before(alloc, line)?;
+        let answers = answers_before(rt, alloc, line);
         assert!(rt;
             written.as_slice() == answers.as_slice(),
             "{left} bytes left: line {line}"
         );
         assert_eq!(rt; heap.free(), left);
-        Ok(is_done)
+        is_done
     }
 }
 
 #[test]
-fn runs(rt: HostRuntime) -> Result<(), Fail> {
+fn runs(rt: HostRuntime) {
     let mut script: Vec<u8> = Vec::new(rt.alloc());
     for (line, _) in &LINES {
-        script.extend_from_slice(line.as_bytes())?;
+        script
+            .extend_from_slice(line.as_bytes())
+            .expect(&rt, "no memory");
     }
-    refuse_in_turn(&rt, rt.alloc(), "a run", &Script(script.as_slice()))
+    refuse_in_turn(&rt, rt.alloc(), "a run", &Script(script.as_slice()));
 }

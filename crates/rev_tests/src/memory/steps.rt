@@ -2,7 +2,7 @@
 use rev_items::Key;
 use rev_steps::{ActorStep, ClientStep, JoinSide, KeyCommand, Payload, Step, StoreVerb, Tune};
 use std::alloc::Allocator;
-use std::test::Fail;
+use std::process::Abort;
 
 /// A step of the tests, by its key's name and how many digits `1` its data are.
 #[derive(Clone, Copy)]
@@ -15,54 +15,61 @@ pub enum Command {
     Tune,
 }
 
-fn data_of<A: Allocator + Clone>(alloc: A, digits: usize) -> Result<Payload<A>, Fail> {
-    let mut data = Vec::with_capacity(alloc, digits)?;
+fn data_of<R: Abort, A: Allocator + Clone>(rt: &R, alloc: A, digits: usize) -> Payload<A> {
+    let mut data = Vec::with_capacity(alloc, digits).expect(rt, "no memory");
     for _ in 0..digits {
-        data.push(b'1')?;
+        data.push(b'1').expect(rt, "no memory");
     }
-    Ok(Payload::from_vec(data)?)
+    Payload::from_vec(data).expect(rt, "no memory")
 }
 
-fn store_of<A: Allocator + Clone>(
+fn key_of<R: Abort, A: Allocator>(rt: &R, alloc: A, name: &str) -> Key<A> {
+    Key::new(alloc, name.as_bytes()).expect(rt, "no key")
+}
+
+fn store_of<R: Abort, A: Allocator + Clone>(
+    rt: &R,
     alloc: A,
     verb: StoreVerb,
     name: &str,
     digits: usize,
-) -> Result<ClientStep<A>, Fail> {
-    let key = Key::new(alloc.clone()?, name.as_bytes())?;
-    let data = data_of(alloc, digits)?;
-    Ok(ClientStep::Store {
+) -> ClientStep<A> {
+    let key = key_of(rt, alloc.clone().expect(rt, "no memory"), name);
+    ClientStep::Store {
         verb,
         key,
         flags: 0,
         exptime: 0,
-        data,
-    })
+        data: data_of(rt, alloc, digits),
+    }
 }
 
-fn join_of<A: Allocator + Clone>(
+fn join_of<R: Abort, A: Allocator + Clone>(
+    rt: &R,
     alloc: A,
     side: JoinSide,
     name: &str,
     digits: usize,
-) -> Result<ClientStep<A>, Fail> {
-    let key = Key::new(alloc.clone()?, name.as_bytes())?;
-    let data = data_of(alloc, digits)?;
-    Ok(ClientStep::Join { side, key, data })
+) -> ClientStep<A> {
+    let key = key_of(rt, alloc.clone().expect(rt, "no memory"), name);
+    ClientStep::Join {
+        side,
+        key,
+        data: data_of(rt, alloc, digits),
+    }
 }
 
 /// The step of a command.
-pub fn step_of<A: Allocator + Clone>(alloc: A, command: Command) -> Result<Step<A>, Fail> {
-    let step = match command {
-        Command::Store(verb, name, digits) => Step::Client(store_of(alloc, verb, name, digits)?),
-        Command::Join(side, name, digits) => Step::Client(join_of(alloc, side, name, digits)?),
+pub fn step_of<R: Abort, A: Allocator + Clone>(rt: &R, alloc: A, command: Command) -> Step<A> {
+    match command {
+        Command::Store(verb, name, digits) => Step::Client(store_of(rt, alloc, verb, name, digits)),
+        Command::Join(side, name, digits) => Step::Client(join_of(rt, alloc, side, name, digits)),
         Command::Keyed(command, name) => Step::Client(ClientStep::Keyed {
             command,
-            key: Key::new(alloc, name.as_bytes())?,
+            key: key_of(rt, alloc, name),
         }),
         Command::FlushAll => Step::Client(ClientStep::FlushAll { delay: 10 }),
         Command::Actor(step) => Step::Actor(step),
-        Command::Tune => Step::Tune(Tune::new(20, 30, 200, 2000)?),
-    };
-    Ok(step)
+        Command::Tune => Step::Tune(Tune::new(20, 30, 200, 2000).expect(rt, "no tune")),
+    }
 }

@@ -1,12 +1,11 @@
 //! A store that is opened, and steps that are applied to one.
-ghost use Rattle.std.specs.Prelude.{OnOk, IfOk};
 ghost use Rattle.rev_model.specs.Sound.{Sound};
 
 use crate::memory::heap::{Trial, fill, refuse_in_turn};
 use crate::memory::parts::SMALL;
 use crate::memory::pictures::picture_of;
 use crate::memory::steps::{Command, step_of};
-use crate::owned::{after, is_made};
+use crate::owned::is_made;
 use linked_list_allocator::LocalHeap;
 use rev_classes::{Config, ConfigFault};
 use rev_inverse::Store;
@@ -15,38 +14,31 @@ use rev_moves::Record;
 use rev_steps::{ActorStep, Arithmetic, JoinSide, KeyCommand, Step, StoreVerb, apply};
 use std::alloc::{Allocator, Global};
 use std::process::Abort;
-use std::test::Fail;
 
 // A store that is opened.
 #[derive(Clone, Copy)]
 struct Opening;
 
 impl Trial for Opening {
-    fn attempt<R: Abort>(
-        &self,
-        rt: &R,
-        alloc: Global,
-        heap: &LocalHeap,
-        left: usize,
-    ) -> Result<bool, Fail> {
-        let _ballast = fill(alloc, heap, left)?;
+    fn attempt<R: Abort>(&self, rt: &R, alloc: Global, heap: &LocalHeap, left: usize) -> bool {
+        let _ballast = fill(rt, alloc, heap, left);
         match Store::open(heap, SMALL) {
             Ok(store) => {
                 drop(store);
-                Ok(true)
+                true
             }
             Err(fault) => {
                 assert_eq!(rt; fault, ConfigFault::Memory, "{left} bytes left");
                 assert_eq!(rt; heap.free(), left);
-                Ok(false)
+                false
             }
         }
     }
 }
 
 #[test]
-fn opens(rt: HostRuntime) -> Result<(), Fail> {
-    refuse_in_turn(&rt, rt.alloc(), "a store", &Opening)
+fn opens(rt: HostRuntime) {
+    refuse_in_turn(&rt, rt.alloc(), "a store", &Opening);
 }
 
 // Room that is made for a step: in a record, or for a page of the store.
@@ -64,42 +56,23 @@ fn has_room<'a>(heap: &'a LocalHeap, store: &Store<&'a LocalHeap>, room: Room) -
     }
 }
 
-// Makes the room with so many bytes left.
-fn makes_room<'a, R: Abort>(
-    rt: &R,
-    alloc: Global,
-    heap: &'a LocalHeap,
-    store: &Store<&'a LocalHeap>,
-    room: Room,
-    left: usize,
-) -> Result<bool, Fail> {
-    let _ballast = fill(alloc, heap, left)?;
-    let has_room = has_room(heap, store, room);
-    assert_eq!(rt; heap.free(), left);
-    Ok(has_room)
-}
-
 impl Trial for Room {
-    fn attempt<R: Abort>(
-        &self,
-        rt: &R,
-        alloc: Global,
-        heap: &LocalHeap,
-        left: usize,
-    ) -> Result<bool, Fail> {
-        let store = Store::open(heap, SMALL)?;
-        let has_room = makes_room(rt, alloc, heap, &store, *self, left);
+    fn attempt<R: Abort>(&self, rt: &R, alloc: Global, heap: &LocalHeap, left: usize) -> bool {
+        let store = Store::open(heap, SMALL).expect(rt, "no store");
+        let ballast = fill(rt, alloc, heap, left);
+        let has_room = has_room(heap, &store, *self);
+        assert_eq!(rt; heap.free(), left);
+        drop(ballast);
         drop(store);
         has_room
     }
 }
 
 #[test]
-fn rooms(rt: HostRuntime) -> Result<(), Fail> {
+fn rooms(rt: HostRuntime) {
     for room in &[Room::Page, Room::Record] {
-        refuse_in_turn(&rt, rt.alloc(), "room", room)?;
+        refuse_in_turn(&rt, rt.alloc(), "room", room);
     }
-    Ok(())
 }
 
 // A key that takes memory of its own.
@@ -350,22 +323,6 @@ static CASES: [Case; 30] = [
     },
 ];
 
-// Applies the commands, one after another.
-fn prepare<A: Allocator + Clone>(store: &mut Store<A>, commands: &[Command]) -> Result<(), Fail>
-    requires { Sound store.old }
-    ensures { Sound store.new }
-{
-    for command in commands {
-        let step = step_of(store.alloc()?, *command)?;
-        let is_applied = has_applied(store, &step);
-        drop(step);
-        if !is_applied {
-            return Err(Fail::new("no memory"));
-        }
-    }
-    Ok(())
-}
-
 // Applies a step, and tells whether there was memory for it.
 fn has_applied<A: Allocator + Clone>(store: &mut Store<A>, step: &Step<A>) -> bool
     requires { Sound store.old }
@@ -374,98 +331,65 @@ fn has_applied<A: Allocator + Clone>(store: &mut Store<A>, step: &Step<A>) -> bo
     is_made(apply(store, step))
 }
 
-// Applies a step with so many bytes left, and tells whether there was memory for it.
-fn apply_with<'a>(
-    alloc: Global,
-    heap: &'a LocalHeap,
-    store: &mut Store<&'a LocalHeap>,
-    step: &Step<&'a LocalHeap>,
-    left: usize,
-) -> Result<bool, Fail>
-    requires { Sound store.old }
-    ensures { OnOk result (Sound store.new) }
-{
-    let ballast = fill(alloc, heap, left)?;
-    let is_applied = has_applied(store, step);
-    drop(ballast);
-    Ok(is_applied)
-}
-
-// The same with the step of a command.
-fn try_apply<'a>(
+// Applies a command's step with so many bytes left, and tells whether there was memory for it.
+fn try_apply<'a, R: Abort>(
+    rt: &R,
     alloc: Global,
     heap: &'a LocalHeap,
     store: &mut Store<&'a LocalHeap>,
     command: Command,
     left: usize,
-) -> Result<bool, Fail>
+) -> bool
     requires { Sound store.old }
-    ensures { OnOk result (Sound store.new) }
+    ensures { Sound store.new }
 {
-    let step = step_of(heap, command)?;
-    let applied = apply_with(alloc, heap, store, &step, left);
-    drop(step);
-    applied
+    let step = step_of(rt, heap, command);
+    let _ballast = fill(rt, alloc, heap, left);
+    has_applied(store, &step)
 }
 
 // A store to which these commands were applied.
-fn store_after<'a>(
+fn store_after<'a, R: Abort>(
+    rt: &R,
     heap: &'a LocalHeap,
     pages: u32,
     commands: &[Command],
-) -> Result<Store<&'a LocalHeap>, Fail>
-    ensures { IfOk result (λ store. Sound store) }
+) -> Store<&'a LocalHeap>
+    ensures { Sound result }
 {
     let config = Config { pages, ..SMALL };
-    let mut store = Store::open(heap, config)?;
-    after(prepare(&mut store, commands), store)
-}
-
-// Applies the case's command with so many bytes left. A store that was refused memory tells what it told before.
-fn applies_or_keeps<'a, R: Abort>(
-    rt: &R,
-    alloc: Global,
-    heap: &'a LocalHeap,
-    store: &mut Store<&'a LocalHeap>,
-    case: &Case,
-    left: usize,
-) -> Result<bool, Fail>
-    requires { Sound store.old }
-{
-    let before = picture_of(alloc, store)?;
-    let free = heap.free();
-    let is_done = try_apply(alloc, heap, store, case.command, left)?;
-    let name = case.name;
-    if !is_done {
-        assert_eq!(rt; heap.free(), free, "{name}: {left} bytes left");
+    let mut store = Store::open(heap, config).expect(rt, "no store");
+    for command in commands {
+        let step = step_of(rt, heap, *command);
+        assert!(rt; has_applied(&mut store, &step), "no memory");
     }
-    let after = picture_of(alloc, store)?;
-    let is_same = before.is_same(&after);
-    assert!(rt; is_same != is_done, "{name}: {left} bytes left");
-    Ok(is_done)
+    store
 }
 
 impl Trial for Case {
-    fn attempt<R: Abort>(
-        &self,
-        rt: &R,
-        alloc: Global,
-        heap: &LocalHeap,
-        left: usize,
-    ) -> Result<bool, Fail> {
-        let mut store = store_after(heap, self.pages, self.before)?;
-        let is_done = applies_or_keeps(rt, alloc, heap, &mut store, self, left);
+    // A store that was refused memory tells what it told before.
+    fn attempt<R: Abort>(&self, rt: &R, alloc: Global, heap: &LocalHeap, left: usize) -> bool {
+        let mut store = store_after(rt, heap, self.pages, self.before);
+        let before = picture_of(rt, alloc, &store);
+        let free = heap.free();
+        let is_done = try_apply(rt, alloc, heap, &mut store, self.command, left);
+        let name = self.name;
+        if !is_done {
+            assert_eq!(rt; heap.free(), free, "{name}: {left} bytes left");
+        }
+        let after = picture_of(rt, alloc, &store);
         drop(store);
+        let is_same = before.is_same(&after);
+        assert!(rt; is_same != is_done, "{name}: {left} bytes left");
         is_done
     }
 }
 
 #[test]
-fn applies(rt: HostRuntime) -> Result<(), Fail> {
+fn applies(rt: HostRuntime) {
     for case in &CASES {
-        refuse_in_turn(&rt, rt.alloc(), case.name, case)?;
+        refuse_in_turn(&rt, rt.alloc(), case.name, case);
     }
-    Ok(())
 }
 
 // Whether a copy of the step is the same, none where there was no memory for it.
@@ -480,54 +404,28 @@ fn is_copy_same<'a>(heap: &'a LocalHeap, step: &Step<&'a LocalHeap>) -> Option<b
     }
 }
 
-// Copies the step with so many bytes left.
-fn copies_or_refuses<'a, R: Abort>(
-    rt: &R,
-    alloc: Global,
-    heap: &'a LocalHeap,
-    step: &Step<&'a LocalHeap>,
-    left: usize,
-) -> Result<bool, Fail> {
-    let _ballast = fill(alloc, heap, left)?;
-    match is_copy_same(heap, step) {
-        Some(is_same) => {
-            assert!(rt; is_same, "{left} bytes left");
-            Ok(true)
-        }
-        None => {
-            assert_eq!(rt; heap.free(), left, "{left} bytes left");
-            Ok(false)
-        }
-    }
-}
-
 // A copy of a command's step.
 #[derive(Clone, Copy)]
 struct Copied(Command);
 
 impl Trial for Copied {
-    fn attempt<R: Abort>(
-        &self,
-        rt: &R,
-        alloc: Global,
-        heap: &LocalHeap,
-        left: usize,
-    ) -> Result<bool, Fail> {
-        let step = step_of(heap, self.0)?;
-        let is_copied = copies_or_refuses(rt, alloc, heap, &step, left);
-        drop(step);
-        is_copied
+    fn attempt<R: Abort>(&self, rt: &R, alloc: Global, heap: &LocalHeap, left: usize) -> bool {
+        let step = step_of(rt, heap, self.0);
+        let _ballast = fill(rt, alloc, heap, left);
+        let is_same = is_copy_same(heap, &step);
+        assert!(rt; is_same != Some(false), "{left} bytes left");
+        assert_eq!(rt; heap.free(), left, "{left} bytes left");
+        is_same.is_some()
     }
 }
 
 #[test]
-fn copies(rt: HostRuntime) -> Result<(), Fail> {
+fn copies(rt: HostRuntime) {
     for copied in &[
         Copied(Command::Store(StoreVerb::Set, LONG_KEY, 100)),
         Copied(Command::Join(JoinSide::Append, LONG_KEY, 100)),
         Copied(Command::Keyed(KeyCommand::Get, LONG_KEY)),
     ] {
-        refuse_in_turn(&rt, rt.alloc(), "a copy", copied)?;
+        refuse_in_turn(&rt, rt.alloc(), "a copy", copied);
     }
-    Ok(())
 }
