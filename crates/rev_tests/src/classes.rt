@@ -57,7 +57,7 @@ fn sizes(rt: HostRuntime) {
             "{count} chunks of a page"
         );
     }
-    assert!(rt; table.last() == 42 && table.class_of(1048577) == None);
+    assert!(rt; table.last() == 42 && table.class_of(1048577).is_none());
 }
 
 #[test]

@@ -35,7 +35,9 @@ pub fn run_with<R: Abort, I: Read + Drop, O: Write + Drop>(
     reader: I,
     writer: O,
 ) -> Result<Summary, RunFault> {
-    assert!(rt; fault_of(config).is_none(), "a bad configuration");
+    if let Some(fault) = fault_of(config) {
+        panic!(rt; "{fault}");
+    }
     let mut source = FromRead::new(reader);
     let mut sink = ToWrite::new(writer);
     run(&alloc, config, &mut source, &mut sink)
@@ -68,12 +70,13 @@ fn try_cut<R: Abort>(rt: &R, alloc: Global, config: &Config, script: &[u8], whol
     let bytes = script.len();
     let mut at_once: Vec<u8> = Vec::new(alloc);
     let ended = run_with(rt, alloc, config, script, &mut at_once);
+    let answers = at_once.as_slice();
     assert!(rt;
-        ended.is_ok() && at_once.as_slice().starts_with(whole),
+        ended.is_ok() && answers.starts_with(whole),
         "cut after {bytes} bytes"
     );
     if bytes <= LONG {
-        try_bytes(rt, alloc, config, Stutter::new(script), at_once.as_slice(), ended);
+        try_bytes(rt, alloc, config, Stutter::new(script), answers, ended);
         let fault = Err(RunFault::Read);
         try_bytes(rt, alloc, config, Stutter::failing(script), whole, fault);
     }
@@ -121,7 +124,7 @@ fn try_exchange<R: Abort>(
     }
 }
 
-/// Runs a whole script, for which these answers are written, and tells how it ended.
+/// Runs a whole script, for which these answers are written, and tells what the run did.
 pub fn run_whole<R: Abort, I: Read + Drop>(
     rt: &R,
     config: &Config,

@@ -47,12 +47,11 @@ fn does_not_open(rt: HostRuntime) {
 // So many letters, and whether they are a key.
 static LETTERS: [(usize, bool); 4] = [(0, false), (1, true), (250, true), (251, false)];
 
-static NAME: [u8; 251] = [b'k'; 251];
-
 #[test]
 fn keys(rt: HostRuntime) {
+    let longest = vec![in rt.alloc(); b'k'; 251].expect(&rt, "no memory");
     for (letters, is_key) in &LETTERS {
-        let name = NAME.get(..*letters).expect(&rt, "so many letters");
+        let name = longest.as_slice().get(..*letters).expect(&rt, "too many");
         match Key::new(rt.alloc(), name) {
             Ok(key) => assert!(rt; *is_key && key.bytes() == name, "{letters} letters"),
             Err(fault) => {

@@ -116,7 +116,10 @@ fn status_of<R: Threads + Wait + Sync + AllocGlobal + Abort, F: Read + Drop, W: 
     errors: &mut Vec<u8>,
 ) -> u8 {
     let count = files.len();
-    assert!(rt; fault_of(&CONFIG).is_none() && 1 <= count && count <= 8);
+    assert!(rt; 1 <= count && count <= 8, "{count} files");
+    if let Some(fault) = fault_of(&CONFIG) {
+        panic!(rt; "{fault}");
+    }
     play_files(rt, &CONFIG, files, writer, errors)
 }
 
@@ -172,7 +175,7 @@ fn failing_writer(rt: HostRuntime) {
     assert!(rt; status == 4 && errors.as_slice() == b"lrudb: cannot write\n".as_slice());
 }
 
-static SETS: &[u8] = b"set a 0 0 1\r\nx\r\nset b 0 0 1\r\ny\r\nset c 0 0 1\r\nz\r\n";
+const SETS: &[u8] = b"set a 0 0 1\r\nx\r\nset b 0 0 1\r\ny\r\nset c 0 0 1\r\nz\r\n";
 
 static EIGHT: [(&str, &[u8]); 8] = [
     ("a", SETS),

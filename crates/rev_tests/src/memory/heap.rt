@@ -16,12 +16,7 @@ pub type Ballast<'a> = Vec<Vec<u8, &'a LocalHeap>>;
 const MOST_HOLES: usize = 100000;
 
 /// Fills a heap but for one hole of `left` bytes. The test fails where it has no such hole.
-pub fn fill<'a, R: Abort>(
-    rt: &R,
-    alloc: Global,
-    heap: &'a LocalHeap,
-    left: usize,
-) -> Ballast<'a> {
+pub fn fill<'a, R: Abort>(rt: &R, alloc: Global, heap: &'a LocalHeap, left: usize) -> Ballast<'a> {
     let hole: Vec<u8, &LocalHeap> = Vec::with_capacity(heap, left).expect(rt, "no such hole");
     let mut ballast = Vec::new(alloc);
     let mut bytes = heap.free();

@@ -57,7 +57,9 @@ impl Picture {
     }
 
     fn put_all<R: Abort>(&mut self, rt: &R, numbers: &[u64]) {
-        self.numbers.extend_from_slice(numbers).expect(rt, "no memory");
+        self.numbers
+            .extend_from_slice(numbers)
+            .expect(rt, "no memory");
     }
 
     fn put_bytes<R: Abort>(&mut self, rt: &R, bytes: &[u8]) {
@@ -87,14 +89,15 @@ impl Picture {
     fn put_item<R: Abort, A: Allocator>(&mut self, rt: &R, item: &Item<A>) {
         self.put_bytes(rt, item.key().bytes());
         self.put_bytes(rt, item.value());
-        self.put_all(rt, &[
+        let numbers = [
             u64::from(item.flags()),
             item.moment(),
             u64::from(item.time()),
             item.cas(),
             u64::from(item.bits().fetched),
             u64::from(item.bits().active),
-        ]);
+        ];
+        self.put_all(rt, &numbers);
     }
 
     fn put_pages<R: Abort, A: Allocator>(&mut self, rt: &R, store: &Store<A>) {
@@ -155,12 +158,7 @@ impl Picture {
         self.put(rt, store.bytes(class, queue));
     }
 
-    fn put_counters<R: Abort, A: Allocator>(
-        &mut self,
-        rt: &R,
-        store: &Store<A>,
-        class: usize,
-    )
+    fn put_counters<R: Abort, A: Allocator>(&mut self, rt: &R, store: &Store<A>, class: usize)
         requires sound { Sound store.now }
         requires class { IsClass store.now.fixed class }
     {
@@ -194,33 +192,36 @@ impl Picture {
 
     fn put_globals<R: Abort, A: Allocator>(&mut self, rt: &R, store: &Store<A>) {
         let globals = store.globals();
-        self.put_all(rt, &[
+        let numbers = [
             u64::from(globals.clock),
             globals.last_cas,
             globals.mark,
             globals.flush.unwrap_or(u64::MAX),
-        ]);
+        ];
+        self.put_all(rt, &numbers);
         if let Some(mover) = globals.mover {
-            self.put_all(rt, &[
+            let numbers = [
                 u64::from(mover.src),
                 u64::from(mover.dst),
                 u64::from(mover.page),
                 u64::from(mover.slot),
-            ]);
+            ];
+            self.put_all(rt, &numbers);
         }
         self.put(rt, u64::MAX);
     }
 
     fn put_settings<R: Abort, A: Allocator>(&mut self, rt: &R, store: &Store<A>) {
         let settings = store.globals().settings;
-        self.put_all(rt, &[
+        let numbers = [
             u64::from(settings.hot_share),
             u64::from(settings.warm_share),
             u64::from(settings.hot_factor),
             u64::from(settings.warm_factor),
             u64::from(settings.temp_ttl < 0),
             u64::from(settings.temp_ttl.unsigned_abs()),
-        ]);
+        ];
+        self.put_all(rt, &numbers);
     }
 
     fn put_key<R: Abort, A: Allocator + Clone>(&mut self, rt: &R, store: &Store<A>, name: &[u8]) {

@@ -1,7 +1,6 @@
 //! Hands that play side by side: two threads that meet outside the lock, and one that waits for another's answer.
 ghost use Rattle.std.specs.Prelude.{◌≤◌};
 
-use crate::owned::or_fail;
 use crate::recorder::hands::{clock, set};
 use crate::recorder::openings::{Ending, SEAL, end, open};
 use rev_recorder::{Gate, Hand, RecordFault, Recorder, run_actors};
@@ -10,7 +9,6 @@ use std::alloc::Global;
 use std::process::Abort;
 use std::sync::Wait;
 use std::sync::atomic::{AtomicBool, Ordering};
-use std::test::Fail;
 use std::thread;
 use std::thread::Threads;
 
@@ -119,59 +117,66 @@ impl Gate for Answer {
 }
 
 // What a hand is to play: a set, and steps of the clock.
-fn steps_of_one(alloc: Global) -> Result<Vec<Step<Global>>, Fail> {
+fn steps_of_one<R: Abort>(rt: &R, alloc: Global) -> Vec<Step<Global>> {
     let mut steps = Vec::new(alloc);
-    steps.push(set(alloc, "a")?)?;
+    steps.push(set(rt, alloc, "a")).expect(rt, "no memory");
     for now in 1..STEPS {
-        steps.push(clock(now))?;
+        steps.push(clock(now)).expect(rt, "no memory");
     }
-    Ok(steps)
+    steps
 }
 
 // Each hand with its steps.
-fn work_of(alloc: Global, hands: Vec<Hand>) -> Result<Vec<(Hand, Vec<Step<Global>>)>, Fail> {
+fn work_of<R: Abort>(rt: &R, alloc: Global, hands: Vec<Hand>) -> Vec<(Hand, Vec<Step<Global>>)> {
     let mut work = Vec::new(alloc);
     for hand in hands {
-        work.push((hand, steps_of_one(alloc)?))?;
+        let steps = steps_of_one(rt, alloc);
+        work.push((hand, steps)).expect(rt, "no memory");
     }
-    Ok(work)
+    work
 }
 
-// The hands in the order they came, if each played all its steps.
-fn hands_of(alloc: Global, done: Vec<(Hand, Result<(), RecordFault>)>) -> Result<Vec<Hand>, Fail> {
+// The hands in the order they came, each of which played all its steps.
+fn hands_of<R: Abort>(
+    rt: &R,
+    alloc: Global,
+    done: Vec<(Hand, Result<(), RecordFault>)>,
+) -> Vec<Hand> {
     let mut hands = Vec::new(alloc);
     for (hand, result) in done {
-        result?;
-        hands.push(hand)?;
+        result.expect(rt, "a refused step");
+        hands.push(hand).expect(rt, "no memory");
     }
-    Ok(hands)
+    hands
 }
 
 // Runs each hand on a thread.
-fn run_hands<R: Threads + Wait + Sync, G: Gate + Sync>(
+fn run<R: Threads + Wait + Sync + Abort, G: Gate + Sync>(
     rt: &R,
-    alloc: Global,
     recorder: &Recorder,
-    hands: Vec<Hand>,
+    work: Vec<(Hand, Vec<Step<Global>>)>,
     gate: &G,
-) -> Result<Vec<Hand>, Fail> {
-    let work = work_of(alloc, hands)?;
-    let done = or_fail(run_actors(rt, recorder, work, gate), "no memory")?;
-    hands_of(alloc, done)
+) -> Vec<(Hand, Result<(), RecordFault>)> {
+    match run_actors(rt, recorder, work, gate) {
+        Ok(done) => done,
+        Err(_) => panic!(rt; "no memory"),
+    }
 }
 
 // Records the steps of so many actors side by side.
-fn record_all<R: Threads + Wait + Sync, G: Gate + Sync>(
+fn record_all<R: Threads + Wait + Sync + Abort, G: Gate + Sync>(
     rt: &R,
     alloc: Global,
     actors: usize,
     gate: &G,
-) -> Result<Ending, Fail>
+) -> Ending
     requires { (1 ≤ actors) × (actors ≤ 8) }
 {
-    let (recorder, hands) = open(alloc, actors, SEAL)?;
-    let hands = run_hands(rt, alloc, &recorder, hands, gate)?;
-    Ok(end(recorder, hands))
+    let (recorder, hands) = open(rt, alloc, actors, SEAL);
+    let work = work_of(rt, alloc, hands);
+    let done = run(rt, &recorder, work, gate);
+    let hands = hands_of(rt, alloc, done);
+    end(recorder, hands)
 }
 
 // How the recording of so many actors ends.
@@ -185,86 +190,79 @@ fn all_played(actors: usize) -> Ending
 }
 
 #[test]
-fn no_hands(rt: HostRuntime) -> Result<(), Fail> {
-    let (recorder, hands) = open(rt.alloc(), 1, SEAL)?;
-    match run_actors(&rt, &recorder, Vec::new(rt.alloc()), &Open) {
-        Ok(done) => assert_eq!(rt; done.len(), 0),
-        Err(_) => return Err(Fail::new("no memory")),
-    }
+fn no_hands(rt: HostRuntime) {
+    let (recorder, hands) = open(&rt, rt.alloc(), 1, SEAL);
+    let done = run(&rt, &recorder, Vec::new(rt.alloc()), &Open);
+    assert_eq!(rt; done.len(), 0);
+    drop(done);
     assert_eq!(rt; end(recorder, hands), Ending::Settled { rows: 0, nodes: 0 });
-    Ok(())
 }
 
 #[test]
-fn hands_of_each_number(rt: HostRuntime) -> Result<(), Fail> {
+fn hands_of_each_number(rt: HostRuntime) {
     for actors in 1..=8 {
-        let ending = record_all(&rt, rt.alloc(), actors, &Open)?;
+        let ending = record_all(&rt, rt.alloc(), actors, &Open);
         assert_eq!(rt; ending, all_played(actors));
     }
-    Ok(())
 }
 
 // Whether the two of so many actors met.
-fn try_meeting<R: Threads + Wait + Abort + Sync>(
+fn try_meeting<R: Threads + Wait + Sync + Abort>(
     rt: &R,
     alloc: Global,
     actors: usize,
     first: usize,
     second: usize,
-) -> Result<(), Fail>
+)
     requires { (1 ≤ actors) × (actors ≤ 8) }
 {
     let gate = Meeting::new(first, second);
-    let ending = record_all(rt, alloc, actors, &gate)?;
+    let ending = record_all(rt, alloc, actors, &gate);
     assert_eq!(rt; ending, all_played(actors));
     assert!(rt;
         !gate.is_missed.load(Ordering::SeqCst),
         "{first} and {second} of {actors}"
     );
-    Ok(())
 }
 
 #[test]
-fn gate_meet(rt: HostRuntime) -> Result<(), Fail> {
-    try_meeting(&rt, rt.alloc(), 2, 0, 1)?;
+fn gate_meet(rt: HostRuntime) {
+    try_meeting(&rt, rt.alloc(), 2, 0, 1);
     for first in 0..7 {
         for second in first + 1..8 {
-            try_meeting(&rt, rt.alloc(), 8, first, second)?;
+            try_meeting(&rt, rt.alloc(), 8, first, second);
         }
     }
-    Ok(())
 }
 
 // Whether the late one of so many actors waited for the early one's answer.
-fn try_answer<R: Threads + Wait + Abort + Sync>(
+fn try_answer<R: Threads + Wait + Sync + Abort>(
     rt: &R,
     alloc: Global,
     actors: usize,
     early: usize,
     late: usize,
-) -> Result<(), Fail>
+)
     requires { (1 ≤ actors) × (actors ≤ 8) }
 {
     let gate = Answer::new(early, late);
-    let ending = record_all(rt, alloc, actors, &gate)?;
+    let ending = record_all(rt, alloc, actors, &gate);
     assert_eq!(rt; ending, all_played(actors));
     assert!(rt;
         !gate.is_missed.load(Ordering::SeqCst),
         "{early} before {late} of {actors}"
     );
-    Ok(())
 }
 
 #[test]
-fn gate_answered(rt: HostRuntime) -> Result<(), Fail> {
-    try_answer(&rt, rt.alloc(), 2, 0, 1)?;
-    try_answer(&rt, rt.alloc(), 2, 1, 0)?;
+fn gate_answered(rt: HostRuntime) {
+    try_answer(&rt, rt.alloc(), 2, 0, 1);
+    try_answer(&rt, rt.alloc(), 2, 1, 0);
     for early in 0..8 {
         for late in 0..8 {
             if early != late {
-                try_answer(&rt, rt.alloc(), 8, early, late)?;
+                try_answer(&rt, rt.alloc(), 8, early, late);
             }
         }
     }
-    Ok(())
 }

@@ -4,8 +4,8 @@ use rev_recorder::{Call, Hand, Receipt, RecordFault, Recorder};
 use rev_requests::{ActorStep, ClientStep, KeyCommand, Payload, Step, StoreVerb};
 use rev_undotree::NodeId;
 use std::alloc::Global;
+use std::process::Abort;
 use std::sync::Wait;
-use std::test::Fail;
 
 /// A step of the clock.
 pub fn clock(now: u32) -> Step<Global> {
@@ -13,23 +13,23 @@ pub fn clock(now: u32) -> Step<Global> {
 }
 
 /// A set of one byte.
-pub fn set(alloc: Global, name: &str) -> Result<Step<Global>, Fail> {
-    let key = Key::new(alloc, name.as_bytes())?;
+pub fn set<R: Abort>(rt: &R, alloc: Global, name: &str) -> Step<Global> {
+    let key = Key::new(alloc, name.as_bytes()).expect(rt, "no key");
     let mut data = Vec::new(alloc);
-    data.push(b'x')?;
-    Ok(Step::Client(ClientStep::Store {
+    data.push(b'x').expect(rt, "no memory");
+    Step::Client(ClientStep::Store {
         verb: StoreVerb::Set,
         key,
         flags: 0,
         exptime: 0,
-        data: Payload::from_vec(data)?,
-    }))
+        data: Payload::from_vec(data).expect(rt, "no memory"),
+    })
 }
 
 /// A command on a key that brings no data.
-pub fn keyed(alloc: Global, command: KeyCommand, name: &str) -> Result<Step<Global>, Fail> {
-    let key = Key::new(alloc, name.as_bytes())?;
-    Ok(Step::Client(ClientStep::Keyed { command, key }))
+pub fn keyed<R: Abort>(rt: &R, alloc: Global, command: KeyCommand, name: &str) -> Step<Global> {
+    let key = Key::new(alloc, name.as_bytes()).expect(rt, "no key");
+    Step::Client(ClientStep::Keyed { command, key })
 }
 
 /// Plays a step. A step that was not played is dropped.
@@ -49,28 +49,27 @@ pub fn play<R: Wait>(
 }
 
 /// Plays a set of one byte.
-pub fn play_set<R: Wait>(
+pub fn play_set<R: Wait + Abort>(
     rt: &R,
     alloc: Global,
     recorder: &Recorder,
     hand: &mut Hand,
     name: &str,
-) -> Result<Receipt, Fail> {
-    let step = set(alloc, name)?;
-    Ok(play(rt, recorder, hand, step)?)
+) {
+    let step = set(rt, alloc, name);
+    play(rt, recorder, hand, step).expect(rt, "a refused set");
 }
 
-/// Plays so many steps of the clock, up to the first that is refused.
-pub fn play_clocks<R: Wait>(
-    rt: &R,
-    recorder: &Recorder,
-    hand: &mut Hand,
-    count: u32,
-) -> Result<(), RecordFault> {
+/// Plays so many steps of the clock.
+pub fn play_clocks<R: Wait + Abort>(rt: &R, recorder: &Recorder, hand: &mut Hand, count: u32) {
     for _ in 0..count {
-        play(rt, recorder, hand, clock(1))?;
+        play(rt, recorder, hand, clock(1)).expect(rt, "a refused clock");
     }
-    Ok(())
+}
+
+/// Goes to the root.
+pub fn go_to_root<R: Wait + Abort>(rt: &R, recorder: &Recorder, hand: &mut Hand) {
+    recorder.go(rt, hand, ROOT).expect(rt, "a refused go");
 }
 
 /// The last call that the hand was told of, and how many there were.

@@ -2,114 +2,85 @@
 //! what was handed back, and go on. Without it no request is refused, and they see a recording to its end.
 ghost use Rattle.std.specs.Prelude.{◌≤◌};
 
-use crate::owned::or_fail;
-use crate::recorder::hands::{ROOT, last_call, set};
+use crate::recorder::hands::{ROOT, go_to_root, last_call, play, set};
 use crate::recorder::openings::{Ending, SEAL, end, open, open_session};
 use rev_recorder::{Gate, Hand, RecordFault, Recorder, run_actors};
 use rev_requests::Step;
 use rev_undotree::Session;
 use std::alloc::Global;
+use std::process::Abort;
 use std::sync::Wait;
-use std::test::Fail;
 use std::thread::Threads;
 
 // Opens a recorder. A session that is handed back is as it was, and is opened again.
-fn open_again(
+fn open_again<R: Abort>(
+    rt: &R,
     alloc: Global,
     session: Session<Global>,
     actors: usize,
-) -> Result<(Recorder, Vec<Hand>), Fail>
+) -> (Recorder, Vec<Hand>)
     requires { (1 ≤ actors) × (actors ≤ 8) }
 {
     match Recorder::open(alloc, session, actors, SEAL) {
-        Ok(opened) => Ok(opened),
-        Err((_, session)) => or_fail(
-            Recorder::open(alloc, session, actors, SEAL),
-            "no memory, twice",
-        ),
+        Ok(opened) => opened,
+        Err((_, session)) => match Recorder::open(alloc, session, actors, SEAL) {
+            Ok(opened) => opened,
+            Err(_) => panic!(rt; "no memory, twice"),
+        },
     }
 }
 
 // Plays a step. A step that is handed back for want of memory is played again, by a hand that is as it was.
-fn play_again<R: Wait>(
-    rt: &R,
-    recorder: &Recorder,
-    hand: &mut Hand,
-    step: Step<Global>,
-) -> Result<(), Fail> {
+fn play_again<R: Wait + Abort>(rt: &R, recorder: &Recorder, hand: &mut Hand, step: Step<Global>) {
     let before = last_call(hand);
     match recorder.play(rt, hand, step) {
-        Ok(_) => Ok(()),
+        Ok(_) => {}
         Err((RecordFault::Memory, step)) => {
-            if last_call(hand) != before {
-                return Err(Fail::new("a refused play entered the hand"));
-            }
-            match recorder.play(rt, hand, step) {
-                Ok(_) => Ok(()),
-                Err((fault, step)) => {
-                    drop(step);
-                    Err(Fail::from(fault))
-                }
-            }
+            assert!(rt;
+                last_call(hand) == before,
+                "a refused play entered the hand"
+            );
+            play(rt, recorder, hand, step).expect(rt, "a play refused again");
         }
-        Err((fault, step)) => {
-            drop(step);
-            Err(Fail::from(fault))
-        }
+        Err((fault, _)) => panic!(rt; "a refused play: {fault:?}"),
     }
 }
 
 // Goes to the root. What is refused for want of memory is asked again, by a hand that is as it was.
-fn go_again<R: Wait>(rt: &R, recorder: &Recorder, hand: &mut Hand) -> Result<(), Fail> {
+fn go_again<R: Wait + Abort>(rt: &R, recorder: &Recorder, hand: &mut Hand) {
     let before = last_call(hand);
     match recorder.go(rt, hand, ROOT) {
-        Ok(_) => Ok(()),
+        Ok(_) => {}
         Err(RecordFault::Memory) => {
-            if last_call(hand) != before {
-                return Err(Fail::new("a refused go entered the hand"));
-            }
-            recorder.go(rt, hand, ROOT)?;
-            Ok(())
+            assert!(rt; last_call(hand) == before, "a refused go entered the hand");
+            go_to_root(rt, recorder, hand);
         }
-        Err(fault) => Err(Fail::from(fault)),
+        Err(fault) => panic!(rt; "a refused go: {fault:?}"),
     }
 }
 
 // Calls of a hand, each made again where it was refused memory.
-fn call_again<R: Wait>(
-    rt: &R,
-    alloc: Global,
-    recorder: &Recorder,
-    hand: &mut Hand,
-) -> Result<(), Fail> {
-    go_again(rt, recorder, hand)?;
+fn call_again<R: Wait + Abort>(rt: &R, alloc: Global, recorder: &Recorder, hand: &mut Hand) {
+    go_again(rt, recorder, hand);
     for name in ["a", "b", "a"] {
-        play_again(rt, recorder, hand, set(alloc, name)?)?;
-        go_again(rt, recorder, hand)?;
+        play_again(rt, recorder, hand, set(rt, alloc, name));
+        go_again(rt, recorder, hand);
     }
-    Ok(())
 }
 
-fn call_all_again<R: Wait>(
-    rt: &R,
-    alloc: Global,
-    recorder: &Recorder,
-    hands: &mut [Hand],
-) -> Result<(), Fail> {
+fn call_all_again<R: Wait + Abort>(rt: &R, alloc: Global, recorder: &Recorder, hands: &mut [Hand]) {
     for hand in hands.iter_mut() {
-        call_again(rt, alloc, recorder, hand)?;
+        call_again(rt, alloc, recorder, hand);
     }
-    Ok(())
 }
 
 #[test]
-fn calls(rt: HostRuntime) -> Result<(), Fail> {
-    let session = open_session(rt.alloc())?;
-    let (recorder, mut hands) = open_again(rt.alloc(), session, 3)?;
-    call_all_again(&rt, rt.alloc(), &recorder, hands.as_mut_slice())?;
+fn calls(rt: HostRuntime) {
+    let session = open_session(&rt, rt.alloc());
+    let (recorder, mut hands) = open_again(&rt, rt.alloc(), session, 3);
+    call_all_again(&rt, rt.alloc(), &recorder, hands.as_mut_slice());
     let ending = end(recorder, hands);
     assert_eq!(rt; ending, Ending::Settled { rows: 21, nodes: 9 });
-    Ok(())
 }
 
 // Lets every step pass.
@@ -121,61 +92,68 @@ impl Gate for Open {
     fn after(&self, _actor: usize, _index: usize) {}
 }
 
-// Each hand with three sets.
-fn work_of(alloc: Global, hands: Vec<Hand>) -> Result<Vec<(Hand, Vec<Step<Global>>)>, Fail> {
-    let mut work = Vec::new(alloc);
-    for hand in hands {
-        let mut steps = Vec::new(alloc);
-        for name in ["a", "b", "c"] {
-            steps.push(set(alloc, name)?)?;
-        }
-        work.push((hand, steps))?;
+// Three sets.
+fn three_sets<R: Abort>(rt: &R, alloc: Global) -> Vec<Step<Global>> {
+    let mut steps = Vec::new(alloc);
+    for name in ["a", "b", "c"] {
+        steps.push(set(rt, alloc, name)).expect(rt, "no memory");
     }
-    Ok(work)
+    steps
 }
 
-// Takes the hands out of what `run_actors` gives, in order, if each ended well or was refused memory.
-fn hands_of(
+// Each hand with three sets.
+fn work_of<R: Abort>(rt: &R, alloc: Global, hands: Vec<Hand>) -> Vec<(Hand, Vec<Step<Global>>)> {
+    let mut work = Vec::new(alloc);
+    for hand in hands {
+        let steps = three_sets(rt, alloc);
+        work.push((hand, steps)).expect(rt, "no memory");
+    }
+    work
+}
+
+// Takes the hands out of what `run_actors` gives, in order, each of which ended well or was refused memory.
+fn hands_of<R: Abort>(
+    rt: &R,
     done: Vec<(Hand, Result<(), RecordFault>)>,
     mut hands: Vec<Hand>,
-) -> Result<Vec<Hand>, Fail> {
+) -> Vec<Hand> {
     for (hand, result) in done {
         match result {
             Ok(()) => {}
             Err(RecordFault::Memory) => {}
-            Err(fault) => return Err(Fail::from(fault)),
+            Err(fault) => panic!(rt; "a refused step: {fault:?}"),
         }
-        hands.push(hand)?;
+        hands.push(hand).expect(rt, "no memory");
     }
-    Ok(hands)
+    hands
 }
 
 // Runs the hands. Where nothing was started, all is handed back and run again.
-fn run_again<R: Threads + Wait + Sync>(
+fn run_again<R: Threads + Wait + Sync + Abort>(
     rt: &R,
     recorder: &Recorder,
     work: Vec<(Hand, Vec<Step<Global>>)>,
-    room: Vec<Hand>,
-) -> Result<Vec<Hand>, Fail> {
+) -> Vec<(Hand, Result<(), RecordFault>)> {
     match run_actors(rt, recorder, work, &Open) {
-        Ok(done) => hands_of(done, room),
+        Ok(done) => done,
         Err((_, work)) => match run_actors(rt, recorder, work, &Open) {
-            Ok(done) => hands_of(done, room),
-            Err(_) => Err(Fail::new("no memory, twice")),
+            Ok(done) => done,
+            Err(_) => panic!(rt; "no memory, twice"),
         },
     }
 }
 
 // Runs the hands, and gives them back.
-fn run_hands<R: Threads + Wait + Sync>(
+fn run_hands<R: Threads + Wait + Sync + Abort>(
     rt: &R,
     alloc: Global,
     recorder: &Recorder,
     hands: Vec<Hand>,
-) -> Result<Vec<Hand>, Fail> {
-    let room = Vec::with_capacity(alloc, hands.len())?;
-    let work = work_of(alloc, hands)?;
-    run_again(rt, recorder, work, room)
+) -> Vec<Hand> {
+    let room = Vec::with_capacity(alloc, hands.len()).expect(rt, "no memory");
+    let work = work_of(rt, alloc, hands);
+    let done = run_again(rt, recorder, work);
+    hands_of(rt, done, room)
 }
 
 // How many calls the hands were told of.
@@ -188,9 +166,9 @@ fn calls_of(hands: &[Hand]) -> usize {
 }
 
 #[test]
-fn actors(rt: HostRuntime) -> Result<(), Fail> {
-    let (recorder, hands) = open(rt.alloc(), 3, SEAL)?;
-    let hands = run_hands(&rt, rt.alloc(), &recorder, hands)?;
+fn actors(rt: HostRuntime) {
+    let (recorder, hands) = open(&rt, rt.alloc(), 3, SEAL);
+    let hands = run_hands(&rt, rt.alloc(), &recorder, hands);
     assert_eq!(rt; hands.len(), 3);
     let calls = calls_of(hands.as_slice());
     assert!(rt; 6 <= calls && calls <= 9);
@@ -199,5 +177,4 @@ fn actors(rt: HostRuntime) -> Result<(), Fail> {
         nodes: calls as u32,
     };
     assert_eq!(rt; end(recorder, hands), wanted);
-    Ok(())
 }

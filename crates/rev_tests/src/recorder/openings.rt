@@ -1,13 +1,13 @@
 //! Recorders that are opened, and how their recordings end.
 ghost use Rattle.std.specs.Prelude.{◌≤◌};
+ghost use Rattle.rev_model.specs.Sound.{Sound};
 
-use crate::owned::or_fail;
 use rev_classes::Config;
 use rev_inverse::Store;
-use rev_recorder::{Hand, Recorder, SettleFault, Settled};
+use rev_recorder::{Hand, Recorder, SettleFault};
 use rev_undotree::Session;
 use std::alloc::Global;
-use std::test::Fail;
+use std::process::Abort;
 
 /// The seal of the recorders that are looked at.
 pub const SEAL: u64 = 7;
@@ -24,35 +24,44 @@ pub const SMALL: Config = Config {
     now: 1,
 };
 
-// A session has many parts, and a drop of it where it stands drops each of them there, once for each way out. A drop
-// by a call is short: so `or_fail`, `after` and `drop` stand where a `?` or the end of a function would do.
+/// A session over this store.
+pub fn session_over<R: Abort>(rt: &R, alloc: Global, store: Store<Global>) -> Session<Global>
+    requires { Sound store }
+{
+    match Session::open(alloc, store) {
+        Ok(session) => session,
+        Err(_) => panic!(rt; "no session"),
+    }
+}
 
 /// A session over an empty store.
-pub fn open_session(alloc: Global) -> Result<Session<Global>, Fail> {
-    or_fail(
-        Session::open(alloc, Store::open(alloc, SMALL)?),
-        "no session",
-    )
+pub fn open_session<R: Abort>(rt: &R, alloc: Global) -> Session<Global> {
+    let store = Store::open(alloc, SMALL).expect(rt, "no store");
+    session_over(rt, alloc, store)
 }
 
 /// A recorder of a session, and its hands.
-pub fn record(
+pub fn record<R: Abort>(
+    rt: &R,
     alloc: Global,
     session: Session<Global>,
     actors: usize,
     seal: u64,
-) -> Result<(Recorder, Vec<Hand>), Fail>
+) -> (Recorder, Vec<Hand>)
     requires { (1 ≤ actors) × (actors ≤ 8) }
 {
-    or_fail(Recorder::open(alloc, session, actors, seal), "no recorder")
+    match Recorder::open(alloc, session, actors, seal) {
+        Ok(opened) => opened,
+        Err(_) => panic!(rt; "no recorder"),
+    }
 }
 
 /// A recorder of a new session, and its hands.
-pub fn open(alloc: Global, actors: usize, seal: u64) -> Result<(Recorder, Vec<Hand>), Fail>
+pub fn open<R: Abort>(rt: &R, alloc: Global, actors: usize, seal: u64) -> (Recorder, Vec<Hand>)
     requires { (1 ≤ actors) × (actors ≤ 8) }
 {
-    let session = open_session(alloc)?;
-    record(alloc, session, actors, seal)
+    let session = open_session(rt, alloc);
+    record(rt, alloc, session, actors, seal)
 }
 
 /// How a recording ended.
@@ -101,38 +110,24 @@ pub fn end(recorder: Recorder, hands: Vec<Hand>) -> Ending {
     ending
 }
 
-// The fault of a recording that did not settle.
-fn fault_of(settled: Result<Settled, SettleFault>) -> Result<SettleFault, Fail> {
-    match settled {
-        Ok(settled) => {
-            drop(settled);
-            Err(Fail::new("the hands agree"))
-        }
-        Err(fault) => Ok(fault),
-    }
-}
-
 /// Tries to end a recording of which a hand is missing, and gives back what is handed back.
-pub fn end_early(recorder: Recorder, hands: Vec<Hand>) -> Result<(Recorder, Vec<Hand>), Fail> {
-    match fault_of(recorder.settle(hands))? {
-        SettleFault::MissingHand { recorder, hands } => Ok((recorder, hands)),
-        other => {
-            drop(other);
-            Err(Fail::new("no hand is missing"))
-        }
+pub fn end_early<R: Abort>(rt: &R, recorder: Recorder, hands: Vec<Hand>) -> (Recorder, Vec<Hand>) {
+    match recorder.settle(hands) {
+        Ok(_) => panic!(rt; "the hands agree"),
+        Err(SettleFault::MissingHand { recorder, hands }) => (recorder, hands),
+        Err(_) => panic!(rt; "no hand is missing"),
     }
 }
 
 /// Tries to end a recording with a strange hand, and gives back what is handed back.
-pub fn end_with_stranger(
+pub fn end_with_stranger<R: Abort>(
+    rt: &R,
     recorder: Recorder,
     hands: Vec<Hand>,
-) -> Result<(Recorder, Vec<Hand>), Fail> {
-    match fault_of(recorder.settle(hands))? {
-        SettleFault::StrangerHand { recorder, hands } => Ok((recorder, hands)),
-        other => {
-            drop(other);
-            Err(Fail::new("no hand is strange"))
-        }
+) -> (Recorder, Vec<Hand>) {
+    match recorder.settle(hands) {
+        Ok(_) => panic!(rt; "the hands agree"),
+        Err(SettleFault::StrangerHand { recorder, hands }) => (recorder, hands),
+        Err(_) => panic!(rt; "no hand is strange"),
     }
 }

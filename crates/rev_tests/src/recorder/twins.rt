@@ -6,8 +6,8 @@ use rev_recorder::{Hand, Recorder};
 use rev_requests::KeyCommand;
 use rev_undotree::NodeId;
 use std::alloc::Global;
+use std::process::Abort;
 use std::sync::Wait;
-use std::test::Fail;
 
 // A call of a hand.
 #[derive(Clone, Copy)]
@@ -168,78 +168,77 @@ static CASES: [Case; 11] = [
     },
 ];
 
-// Makes the call. A refusal is an answer, too.
-fn call<R: Wait>(
+// Makes the call, and tells whether it was accepted: a refusal is an answer, too.
+fn call<R: Wait + Abort>(
     rt: &R,
     alloc: Global,
     recorder: &Recorder,
     hand: &mut Hand,
     ask: Ask,
-) -> Result<bool, Fail> {
+) -> bool {
     let step = match ask {
         Ask::Clock(now) => clock(now),
-        Ask::Set(name) => set(alloc, name)?,
-        Ask::Get(name) => keyed(alloc, KeyCommand::Get, name)?,
-        Ask::Go(node) => return Ok(recorder.go(rt, hand, NodeId(node)).is_ok()),
+        Ask::Set(name) => set(rt, alloc, name),
+        Ask::Get(name) => keyed(rt, alloc, KeyCommand::Get, name),
+        Ask::Go(node) => return recorder.go(rt, hand, NodeId(node)).is_ok(),
     };
-    Ok(play(rt, recorder, hand, step).is_ok())
+    play(rt, recorder, hand, step).is_ok()
 }
 
 // Makes the calls of a hand.
-fn call_all<R: Wait>(
+fn call_all<R: Wait + Abort>(
     rt: &R,
     alloc: Global,
     recorder: &Recorder,
     hand: &mut Hand,
     asks: &[Ask],
-) -> Result<(), Fail> {
+) {
     for ask in asks {
-        call(rt, alloc, recorder, hand, *ask)?;
+        call(rt, alloc, recorder, hand, *ask);
     }
-    Ok(())
 }
 
 // Makes the calls of both hands.
-fn call_both<R: Wait>(
+fn call_both<R: Wait + Abort>(
     rt: &R,
     alloc: Global,
     recorder: &Recorder,
     hands: &mut [Hand],
     calls: &Calls,
-) -> Result<(), Fail> {
+) {
     let [first, second] = hands else {
-        return Err(Fail::new("not two hands"));
+        panic!(rt; "not two hands");
     };
-    call_all(rt, alloc, recorder, first, calls.first)?;
-    call_all(rt, alloc, recorder, second, calls.second)
+    call_all(rt, alloc, recorder, first, calls.first);
+    call_all(rt, alloc, recorder, second, calls.second);
 }
 
 // The second hand of a recorder whose hands made these calls.
-fn foreign_hand<R: Wait>(rt: &R, alloc: Global, calls: &Calls) -> Result<Hand, Fail> {
-    let (twin, mut hands) = open(alloc, 2, SEAL)?;
-    call_both(rt, alloc, &twin, hands.as_mut_slice(), calls)?;
-    match hands.pop() {
-        Some(hand) => Ok(hand),
-        None => Err(Fail::new("no hand")),
-    }
+fn foreign_hand<R: Wait + Abort>(rt: &R, alloc: Global, calls: &Calls) -> Hand {
+    let (twin, mut hands) = open(rt, alloc, 2, SEAL);
+    call_both(rt, alloc, &twin, hands.as_mut_slice(), calls);
+    let hand = hands.pop().expect(rt, "no hand");
+    drop(hands);
+    drop(twin);
+    hand
 }
 
 // Ends the case's recording with the foreign hand, and with the second hand of its own where that one is kept.
-fn end_case<R: Wait>(rt: &R, alloc: Global, case: &Case, is_kept: bool) -> Result<Ending, Fail> {
-    let foreign = foreign_hand(rt, alloc, &case.foreign)?;
-    let (recorder, mut hands) = open(alloc, 2, SEAL)?;
-    call_both(rt, alloc, &recorder, hands.as_mut_slice(), &case.own)?;
+fn end_case<R: Wait + Abort>(rt: &R, alloc: Global, case: &Case, is_kept: bool) -> Ending {
+    let foreign = foreign_hand(rt, alloc, &case.foreign);
+    let (recorder, mut hands) = open(rt, alloc, 2, SEAL);
+    call_both(rt, alloc, &recorder, hands.as_mut_slice(), &case.own);
     if !is_kept {
         drop(hands.pop());
     }
-    hands.push(foreign)?;
-    Ok(end(recorder, hands))
+    hands.push(foreign).expect(rt, "no memory");
+    end(recorder, hands)
 }
 
 #[test]
-fn foreign_hands(rt: HostRuntime) -> Result<(), Fail> {
+fn foreign_hands(rt: HostRuntime) {
     for case in &CASES {
-        let ending = end_case(&rt, rt.alloc(), case, false)?;
+        let ending = end_case(&rt, rt.alloc(), case, false);
         let name = case.name;
         let wanted = Ending::Differs {
             actor: 1,
@@ -247,7 +246,6 @@ fn foreign_hands(rt: HostRuntime) -> Result<(), Fail> {
         };
         assert_eq!(rt; ending, wanted, "{name}");
     }
-    Ok(())
 }
 
 // A hand and its twin that made the same calls.
@@ -265,14 +263,13 @@ static SAME: Case = Case {
 };
 
 #[test]
-fn hand_twice(rt: HostRuntime) -> Result<(), Fail> {
-    let ending = end_case(&rt, rt.alloc(), &SAME, true)?;
+fn hand_twice(rt: HostRuntime) {
+    let ending = end_case(&rt, rt.alloc(), &SAME, true);
     let wanted = Ending::Differs {
         actor: 1,
         place: SAME.place,
     };
     assert_eq!(rt; ending, wanted);
-    let ending = end_case(&rt, rt.alloc(), &SAME, false)?;
+    let ending = end_case(&rt, rt.alloc(), &SAME, false);
     assert_eq!(rt; ending, Ending::Settled { rows: 3, nodes: 3 });
-    Ok(())
 }
