@@ -3,7 +3,7 @@ use crate::actor_rows::{
     BUMP, CRAWLER, MOVER, NUMBERS, REASONS, REFUSED, ROOM, ROUNDS, SETTINGS, STORING, TIME, TREE,
 };
 use crate::rows::Row;
-use crate::scripts::{config_of, put, put_exchange, run_whole};
+use crate::scripts::{config_of, put_line, run_whole};
 use crate::streams::Stutter;
 use rev_classes::Config;
 use std::alloc::Global;
@@ -17,9 +17,8 @@ fn try_row<R: Abort>(rt: &R, alloc: Global, row: &Row, hash_power: u32) {
     };
     let mut script: Vec<u8> = Vec::new(alloc);
     let mut answers: Vec<u8> = Vec::new(alloc);
-    for exchange in row.exchanges {
-        put_exchange(rt, &mut script, exchange);
-        put(rt, &mut answers, exchange.answer.as_bytes());
+    for line in row.lines.lines() {
+        put_line(rt, line, &mut script, &mut answers);
     }
     let name = row.name;
     let ended = run_whole(rt, &config, name, script.as_slice(), &answers);

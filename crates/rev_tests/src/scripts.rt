@@ -1,6 +1,6 @@
 //! Each worked script whole, and cut after every byte, from one piece and byte by byte.
 use crate::classes::DEFAULTS;
-use crate::rows::{Exchange, LARGE_ITEMS, LINES, Row, SMALL_ITEMS};
+use crate::rows::{LARGE_ITEMS, LINES, Row, SMALL_ITEMS};
 use crate::streams::{Narrow, Stutter};
 use rev_classes::{Config, fault_of};
 use rev_output::ToWrite;
@@ -10,7 +10,7 @@ use std::alloc::Global;
 use std::io::{Read, Write};
 use std::process::Abort;
 
-// A line with a longer data block is cut after so many of its first bytes only, and is not read byte by byte.
+// A longer data block is cut after so many of its first bytes only, and a longer script is not read byte by byte.
 const LONG: usize = 4096;
 
 const FIRST: usize = 40;
@@ -54,13 +54,17 @@ pub fn put_data<R: Abort>(rt: &R, text: &mut Vec<u8>, bytes: usize) {
     text.resize(end, b'x').expect(rt, "no memory");
 }
 
-/// Adds a line with its data to a script.
-pub fn put_exchange<R: Abort>(rt: &R, script: &mut Vec<u8>, exchange: &Exchange) {
-    put(rt, script, exchange.line.as_bytes());
-    put(rt, script, b"\r\n");
-    if let Some(bytes) = exchange.data {
-        put_data(rt, script, bytes);
+/// Adds a line of a row to its script, if it is sent, or to its answers.
+pub fn put_line<R: Abort>(rt: &R, line: &str, script: &mut Vec<u8>, answers: &mut Vec<u8>) {
+    if let Some(sent) = line.strip_prefix("> ") {
+        put(rt, script, sent.as_bytes());
         put(rt, script, b"\r\n");
+    } else if let Some(count) = line.strip_prefix("* ") {
+        put_data(rt, script, count.parse().expect(rt, "not a number"));
+        put(rt, script, b"\r\n");
+    } else {
+        put(rt, answers, line.as_bytes());
+        put(rt, answers, b"\r\n");
     }
 }
 
@@ -100,17 +104,16 @@ fn try_bytes<R: Abort>(
     );
 }
 
-// Adds an exchange to a script that is answered by `answers`, and runs it cut after each byte of the exchange.
-fn try_exchange<R: Abort>(
+// Runs the script cut after each byte from the start of its last line or data block on; what is before it is answered by
+// `answers`.
+fn try_cuts<R: Abort>(
     rt: &R,
     alloc: Global,
     config: &Config,
-    script: &mut Vec<u8>,
+    script: &[u8],
+    start: usize,
     answers: &[u8],
-    exchange: &Exchange,
 ) {
-    let start = script.len();
-    put_exchange(rt, script, exchange);
     let end = script.len();
     let is_long = end.saturating_sub(start) > LONG;
     let last = if is_long {
@@ -119,7 +122,7 @@ fn try_exchange<R: Abort>(
         end
     };
     for cut in start..last {
-        let front = script.as_slice().get(..cut).expect(rt, "no such cut");
+        let front = script.get(..cut).expect(rt, "no such cut");
         try_cut(rt, alloc, config, front, answers);
     }
 }
@@ -144,16 +147,17 @@ fn try_row<R: Abort>(rt: &R, alloc: Global, row: &Row) {
     let config = config_of(row);
     let mut script: Vec<u8> = Vec::new(alloc);
     let mut answers: Vec<u8> = Vec::new(alloc);
-    for exchange in row.exchanges {
-        try_exchange(
+    for line in row.lines.lines() {
+        let start = script.len();
+        put_line(rt, line, &mut script, &mut answers);
+        try_cuts(
             rt,
             alloc,
             &config,
-            &mut script,
+            script.as_slice(),
+            start,
             answers.as_slice(),
-            exchange,
         );
-        put(rt, &mut answers, exchange.answer.as_bytes());
     }
     run_whole(rt, &config, row.name, script.as_slice(), &answers);
     try_cut(rt, alloc, &config, script.as_slice(), answers.as_slice());
