@@ -29,8 +29,8 @@ fn await_flag(flag: &AtomicBool) -> bool {
     false
 }
 
-// Lets every step pass.
-struct Open;
+/// Lets every step pass.
+pub struct Open;
 
 impl Gate for Open {
     fn before(&self, _actor: usize, _index: usize) {}

@@ -2,9 +2,10 @@
 //! what was handed back, and go on. Without it no request is refused, and they see a recording to its end.
 ghost use Rattle.std.specs.Prelude.{◌≤◌};
 
+use crate::recorder::gates::Open;
 use crate::recorder::hands::{ROOT, go_to_root, last_call, play, set};
 use crate::recorder::openings::{Ending, SEAL, end, open, open_session};
-use rev_recorder::{Gate, Hand, RecordFault, Recorder, run_actors};
+use rev_recorder::{Hand, RecordFault, Recorder, run_actors};
 use rev_requests::Step;
 use rev_undotree::Session;
 use std::alloc::Global;
@@ -81,15 +82,6 @@ fn calls(rt: HostRuntime) {
     call_all_again(&rt, rt.alloc(), &recorder, hands.as_mut_slice());
     let ending = end(recorder, hands);
     assert_eq!(rt; ending, Ending::Settled { rows: 21, nodes: 9 });
-}
-
-// Lets every step pass.
-struct Open;
-
-impl Gate for Open {
-    fn before(&self, _actor: usize, _index: usize) {}
-
-    fn after(&self, _actor: usize, _index: usize) {}
 }
 
 // Three sets.
