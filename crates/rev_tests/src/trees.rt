@@ -1,5 +1,6 @@
 //! How deep, how wide and how long a tree of attempts grows.
 use crate::classes::DEFAULTS;
+use crate::owned::session_over;
 use crate::scripts::{put, run_with};
 use rev_inverse::Store;
 use rev_steps::{ActorStep, Step};
@@ -50,10 +51,7 @@ fn forks_nest(rt: HostRuntime) {
 
 fn open_session<R: Abort>(rt: &R, alloc: Global) -> Session<Global> {
     let store = Store::open(alloc, DEFAULTS).expect(rt, "no store");
-    match Session::open(alloc, store) {
-        Ok(session) => session,
-        Err(_) => panic!(rt; "no session"),
-    }
+    session_over(rt, alloc, store)
 }
 
 // Plays a step, goes back, and takes its node out.

@@ -11,7 +11,7 @@ struct Case {
 static CASES: [Case; 8] = [
     Case {
         words: &["record"],
-        errors: "",
+        errors: "error: the following required arguments were not provided:\n  <FILE>...\n",
         status: 2,
     },
     Case {

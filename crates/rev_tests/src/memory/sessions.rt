@@ -6,6 +6,7 @@ use crate::memory::heap::{Trial, fill, refuse_in_turn};
 use crate::memory::parts::SMALL;
 use crate::memory::pictures::{Picture, picture_of, session_picture};
 use crate::memory::steps::{Command, step_of};
+use crate::owned::session_over;
 use linked_list_allocator::LocalHeap;
 use rev_classes::fault_of;
 use rev_explain::story;
@@ -146,9 +147,7 @@ fn session_after<'a, R: Abort>(
     turns: &[Turn],
 ) -> Session<&'a LocalHeap> {
     let store = Store::open(heap, SMALL).expect(rt, "no store");
-    let Ok(mut session) = Session::open(heap, store) else {
-        panic!(rt; "no session");
-    };
+    let mut session = session_over(rt, heap, store);
     for turn in turns {
         take_turn(rt, heap, &mut session, *turn);
     }

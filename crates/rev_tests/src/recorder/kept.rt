@@ -1,8 +1,9 @@
 //! What a recording keeps of the session that it was handed: the root, the nodes, and the place where it stood.
 ghost use Rattle.rev_model.specs.Sound.{Sound};
 
+use crate::owned::session_over;
 use crate::recorder::hands::{ROOT, clock, go_to_root, keyed, play_set, set};
-use crate::recorder::openings::{SEAL, SMALL, record, session_over};
+use crate::recorder::openings::{SEAL, SMALL, record};
 use rev_inverse::Store;
 use rev_items::Key;
 use rev_model::Outcome;

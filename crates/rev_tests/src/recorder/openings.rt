@@ -1,7 +1,7 @@
 //! Recorders that are opened, and how their recordings end.
 ghost use Rattle.std.specs.Prelude.{◌≤◌};
-ghost use Rattle.rev_model.specs.Sound.{Sound};
 
+use crate::owned::session_over;
 use rev_classes::Config;
 use rev_inverse::Store;
 use rev_recorder::{Hand, Recorder, SettleFault};
@@ -23,16 +23,6 @@ pub const SMALL: Config = Config {
     temp_ttl: -1,
     now: 1,
 };
-
-/// A session over this store.
-pub fn session_over<R: Abort>(rt: &R, alloc: Global, store: Store<Global>) -> Session<Global>
-    requires { Sound store }
-{
-    match Session::open(alloc, store) {
-        Ok(session) => session,
-        Err(_) => panic!(rt; "no session"),
-    }
-}
 
 /// A session over an empty store.
 pub fn open_session<R: Abort>(rt: &R, alloc: Global) -> Session<Global> {
