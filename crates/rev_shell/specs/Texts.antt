@@ -63,6 +63,11 @@ outcome_text outcomes.Finished = output (codes "FINISHED")
 outcome_text (outcomes.Number n) = output (decimal n)
 outcome_text outcomes.NotNumber = output (codes "CLIENT_ERROR cannot increment or decrement non-numeric value")
 
+-- the digits that an outcome's line begins with
+abbrev pub digits_of : Outcome → List ℕ
+digits_of (outcomes.Number n) = decimal n
+digits_of o = []
+
 -- ---- values
 
 abbrev pub cas_text : Bool → ℕ → List ℕ

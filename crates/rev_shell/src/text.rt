@@ -1,6 +1,6 @@
 //! The texts of answers. Each function writes behind what the answer holds.
 ghost use Rattle.std.specs.Prelude.{◌≡◌, ◌++◌, decimal, OnOk};
-ghost use Rattle.rev_shell.specs.Texts.{output, bad_text, outcome_text, cas_text, value_text, queue_text, bits_text, chunk_text, page_text, flush_text, free_text, mover_text, clock_text, pending_text, node_text};
+ghost use Rattle.rev_shell.specs.Texts.{output, bad_text, outcome_text, digits_of, cas_text, value_text, queue_text, bits_text, chunk_text, page_text, flush_text, free_text, mover_text, clock_text, pending_text, node_text};
 
 use itoa::Buffer;
 use rev_items::{Bits, Item};
@@ -54,6 +54,39 @@ pub fn bad_text(answer: BadAnswer) -> &'static [u8]
     }
 }
 
+// The line of an outcome; a number's lacks its digits, and a hit and a miss have none.
+fn outcome_line(outcome: Outcome) -> &'static [u8]
+    ensures { digits_of outcome ++ result.now ≡ outcome_text outcome }
+{
+    match outcome {
+        Outcome::Stored => b"STORED\r\n",
+        Outcome::NotStored => b"NOT_STORED\r\n",
+        Outcome::Exists => b"EXISTS\r\n",
+        Outcome::NotFound => b"NOT_FOUND\r\n",
+        Outcome::Deleted => b"DELETED\r\n",
+        Outcome::Touched => b"TOUCHED\r\n",
+        Outcome::Okay => b"OK\r\n",
+        Outcome::Hit { .. } | Outcome::Miss => b"",
+        Outcome::TooLarge => b"SERVER_ERROR object too large for cache\r\n",
+        Outcome::NoChunk => b"SERVER_ERROR out of memory storing object\r\n",
+        Outcome::Busy => b"BUSY\r\n",
+        Outcome::BadClass => b"BADCLASS\r\n",
+        Outcome::NoSpare => b"NOSPARE\r\n",
+        Outcome::Same => b"SAME\r\n",
+        Outcome::Moved => b"MOVED\r\n",
+        Outcome::Reclaimed => b"RECLAIMED\r\n",
+        Outcome::Idle => b"IDLE\r\n",
+        Outcome::Passed => b"PASSED\r\n",
+        Outcome::Ended => b"ENDED\r\n",
+        Outcome::Withdrawn => b"WITHDRAWN\r\n",
+        Outcome::Rescued => b"RESCUED\r\n",
+        Outcome::Evicted => b"EVICTED\r\n",
+        Outcome::Finished => b"FINISHED\r\n",
+        Outcome::Number(_) => b"\r\n",
+        Outcome::NotNumber => b"CLIENT_ERROR cannot increment or decrement non-numeric value\r\n",
+    }
+}
+
 /// Writes the line of an outcome, all at once but for a number's; a hit and a miss have none.
 pub fn put_outcome<A: Allocator>(
     answer: &mut Vec<u8, A>,
@@ -61,42 +94,10 @@ pub fn put_outcome<A: Allocator>(
 ) -> Result<(), AllocError>
     ensures { OnOk result (answer.new.items ≡ answer.old.items ++ outcome_text outcome) }
 {
-    match outcome {
-        Outcome::Stored => answer.extend_from_slice(b"STORED\r\n"),
-        Outcome::NotStored => answer.extend_from_slice(b"NOT_STORED\r\n"),
-        Outcome::Exists => answer.extend_from_slice(b"EXISTS\r\n"),
-        Outcome::NotFound => answer.extend_from_slice(b"NOT_FOUND\r\n"),
-        Outcome::Deleted => answer.extend_from_slice(b"DELETED\r\n"),
-        Outcome::Touched => answer.extend_from_slice(b"TOUCHED\r\n"),
-        Outcome::Okay => answer.extend_from_slice(b"OK\r\n"),
-        Outcome::Hit { .. } | Outcome::Miss => Ok(()),
-        Outcome::TooLarge => answer.extend_from_slice(
-            b"SERVER_ERROR object too large for cache\r\n",
-        ),
-        Outcome::NoChunk => answer.extend_from_slice(
-            b"SERVER_ERROR out of memory storing object\r\n",
-        ),
-        Outcome::Busy => answer.extend_from_slice(b"BUSY\r\n"),
-        Outcome::BadClass => answer.extend_from_slice(b"BADCLASS\r\n"),
-        Outcome::NoSpare => answer.extend_from_slice(b"NOSPARE\r\n"),
-        Outcome::Same => answer.extend_from_slice(b"SAME\r\n"),
-        Outcome::Moved => answer.extend_from_slice(b"MOVED\r\n"),
-        Outcome::Reclaimed => answer.extend_from_slice(b"RECLAIMED\r\n"),
-        Outcome::Idle => answer.extend_from_slice(b"IDLE\r\n"),
-        Outcome::Passed => answer.extend_from_slice(b"PASSED\r\n"),
-        Outcome::Ended => answer.extend_from_slice(b"ENDED\r\n"),
-        Outcome::Withdrawn => answer.extend_from_slice(b"WITHDRAWN\r\n"),
-        Outcome::Rescued => answer.extend_from_slice(b"RESCUED\r\n"),
-        Outcome::Evicted => answer.extend_from_slice(b"EVICTED\r\n"),
-        Outcome::Finished => answer.extend_from_slice(b"FINISHED\r\n"),
-        Outcome::Number(n) => {
-            put_number(answer, n)?;
-            answer.extend_from_slice(b"\r\n")
-        }
-        Outcome::NotNumber => answer.extend_from_slice(
-            b"CLIENT_ERROR cannot increment or decrement non-numeric value\r\n",
-        ),
+    if let Outcome::Number(n) = outcome {
+        put_number(answer, n)?;
     }
+    answer.extend_from_slice(outcome_line(outcome))
 }
 
 fn put_cas<A: Allocator>(

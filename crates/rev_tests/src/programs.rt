@@ -11,104 +11,135 @@ struct Case {
     status: u8,
 }
 
-static CASES: [Case; 14] = [
+// What a case has that says no other: words at fault, for which no line is read.
+const CASE: Case = Case {
+    words: &[],
+    input: b":at\r\n",
+    output: "",
+    errors: "",
+    status: 2,
+};
+
+static CASES: [Case; 22] = [
     Case {
         words: &["run"],
         input: b"",
-        output: "",
-        errors: "",
         status: 0,
+        ..CASE
     },
     Case {
         words: &["run", "--pages", "+7", "--page-size=1024"],
         input: b"set a 0 0 1\r\nx\r\n:pages\r\n",
         output: "STORED\r\nPAGE 0 1\r\nEND\r\n",
-        errors: "",
         status: 0,
+        ..CASE
     },
     Case {
         words: &["run", "--now=7", "--temp-ttl=0"],
         input: b":globals\n",
         output: "GLOBALS now 7 cas 0 mark 0 flush - mover - bump 0\r\n",
-        errors: "",
         status: 0,
+        ..CASE
     },
     Case {
         words: &["run", "--page-size", "1001"],
-        input: b":at\r\n",
-        output: "",
         errors: "lrudb: bad configuration: page\n",
-        status: 2,
+        ..CASE
     },
     Case {
         words: &["run", "--num=1", "--den=1", "--now=0"],
-        input: b":at\r\n",
-        output: "",
         errors: "lrudb: bad configuration: factor\n",
-        status: 2,
+        ..CASE
     },
     Case {
         words: &["run", "--num=21", "--den=20"],
-        input: b":at\r\n",
-        output: "",
         errors: "lrudb: bad configuration: classes\n",
-        status: 2,
+        ..CASE
     },
     Case {
         words: &["run", "--now", "0"],
-        input: b":at\r\n",
-        output: "",
         errors: "lrudb: bad configuration: limit\n",
-        status: 2,
+        ..CASE
     },
     Case {
         words: &["run", "--pages", "1", "--pages", "2"],
-        input: b":at\r\n",
-        output: "",
         errors: "error: the argument '--pages <COUNT>' cannot be used multiple times\n",
-        status: 2,
+        ..CASE
     },
     Case {
         words: &["rum"],
-        input: b":at\r\n",
-        output: "",
         errors: "error: unrecognized subcommand 'rum'\n",
-        status: 2,
+        ..CASE
     },
     Case {
         words: &["run", "--page", "5"],
-        input: b":at\r\n",
-        output: "",
         errors: "error: unexpected argument '--page' found\n",
-        status: 2,
+        ..CASE
     },
     Case {
         words: &["run", "--pages", "x"],
-        input: b":at\r\n",
-        output: "",
         errors: "error: invalid value 'x' for '--pages <COUNT>': ",
-        status: 2,
+        ..CASE
     },
     Case {
         words: &["--help"],
-        input: b":at\r\n",
-        output: "",
         errors: "Replays memcached's storage commands",
-        status: 2,
+        ..CASE
     },
     Case {
         words: &["run", "--help"],
-        input: b":at\r\n",
-        output: "",
         errors: "Runs a script from the standard input",
-        status: 2,
+        ..CASE
     },
     Case {
         words: &[],
-        input: b":at\r\n",
-        output: "",
         errors: "Replays memcached's storage commands",
-        status: 2,
+        ..CASE
+    },
+    Case {
+        words: &["record"],
+        errors: "error: the following required arguments were not provided:\n  <FILE>...\n",
+        ..CASE
+    },
+    Case {
+        words: &["record", "1", "2", "3", "4", "5", "6", "7", "8", "9"],
+        errors: "error: ",
+        ..CASE
+    },
+    Case {
+        words: &["record", "--num", "1", "--den", "1", "no such file"],
+        errors: "lrudb: bad configuration: factor\n",
+        ..CASE
+    },
+    Case {
+        words: &["record", "--now=7", "no such file", "nor this"],
+        errors: "lrudb: no such file: cannot read\n",
+        status: 4,
+        ..CASE
+    },
+    // A folder can be opened, and not read.
+    Case {
+        words: &["record", "/"],
+        errors: "lrudb: /: cannot read\n",
+        status: 4,
+        ..CASE
+    },
+    // All files are opened before one is read.
+    Case {
+        words: &["record", "/", "no such file"],
+        errors: "lrudb: no such file: cannot read\n",
+        status: 4,
+        ..CASE
+    },
+    Case {
+        words: &["record", "--pages", "1", "--pages", "2", "no such file"],
+        errors: "error: the argument '--pages <COUNT>' cannot be used multiple times\n",
+        ..CASE
+    },
+    Case {
+        words: &["record", "--help"],
+        errors: "Plays the scripts of files at once",
+        ..CASE
     },
 ];
 

@@ -1,7 +1,7 @@
 //! A place where a way leaves a run.
 
 /// How much of a run a way takes, and by which fork it leaves.
-#[derive(Clone, Copy, Default, PartialEq, Drop)]
+#[derive(Clone, Copy, Default, PartialEq, Eq, Drop)]
 pub struct Junction {
     pub taken: usize,
     pub fork: usize,

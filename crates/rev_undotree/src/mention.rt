@@ -1,5 +1,5 @@
 /// A hash, and the node that mentions it.
-#[derive(Clone, Copy, PartialEq)]
+#[derive(Clone, Copy, PartialEq, Eq)]
 pub struct Mention {
     pub hash: u32,
     pub node: u32,

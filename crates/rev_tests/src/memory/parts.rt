@@ -69,7 +69,7 @@ impl Trial for Part {
     fn attempt<R: Abort>(&self, rt: &R, alloc: Global, heap: &LocalHeap, left: usize) -> bool {
         let _ballast = fill(rt, alloc, heap, left);
         let is_made = has_memory(rt, heap, *self);
-        assert_eq!(rt; heap.free(), left, "{left} bytes left");
+        assert!(rt; heap.free() == left, "{left} bytes left");
         is_made
     }
 }
@@ -116,9 +116,9 @@ impl Trial for Text {
         drop(ballast);
         let is_read = line == Ok(true);
         if !is_read {
-            assert_eq!(rt; line, Err(LineFault::Memory), "{left} bytes left");
+            assert!(rt; line == Err(LineFault::Memory), "{left} bytes left");
             let again = has_next(&mut lines);
-            assert_eq!(rt; again, Err(LineFault::Memory), "{left} bytes left");
+            assert!(rt; again == Err(LineFault::Memory), "{left} bytes left");
         }
         is_read
     }

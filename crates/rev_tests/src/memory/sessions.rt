@@ -193,17 +193,13 @@ impl Trial for Case {
         let refusal = try_play(rt, alloc, heap, &mut session, self.command, left);
         let after = session_picture(rt, alloc, &session);
         drop(session);
+        let is_refused = refusal == Some((PlayFault::Memory, true));
         let name = self.name;
-        let is_same = before.is_same(&after);
-        assert!(rt; is_same == refusal.is_some(), "{name}: {left} bytes left");
-        if let Some(refusal) = refusal {
-            assert_eq!(rt;
-                refusal,
-                (PlayFault::Memory, true),
-                "{name}: {left} bytes left"
-            );
-        }
-        refusal.is_none()
+        assert!(rt;
+            before.is_same(&after) == is_refused && refusal.is_some() == is_refused,
+            "{name}: {left} bytes left"
+        );
+        !is_refused
     }
 }
 
@@ -247,8 +243,7 @@ impl Trial for Life {
         let session = session_after(rt, heap, &LIFE);
         let free = heap.free();
         let length = story_length(rt, alloc, heap, &session, left);
-        assert_eq!(rt; heap.free(), free);
-        assert_eq!(rt; length.unwrap_or(LIFE.len()), LIFE.len());
+        assert!(rt; heap.free() == free && length.unwrap_or(LIFE.len()) == LIFE.len());
         drop(session);
         length.is_some()
     }
@@ -319,7 +314,7 @@ impl<'a> Trial for Script<'a> {
             written.as_slice() == answers.as_slice(),
             "{left} bytes left: line {line}"
         );
-        assert_eq!(rt; heap.free(), left);
+        assert!(rt; heap.free() == left);
         is_done
     }
 }

@@ -28,8 +28,10 @@ impl Trial for Opening {
                 true
             }
             Err(fault) => {
-                assert_eq!(rt; fault, ConfigFault::Memory, "{left} bytes left");
-                assert_eq!(rt; heap.free(), left);
+                assert!(rt;
+                    fault == ConfigFault::Memory && heap.free() == left,
+                    "{left} bytes left"
+                );
                 false
             }
         }
@@ -61,7 +63,7 @@ impl Trial for Room {
         let store = Store::open(heap, SMALL).expect(rt, "no store");
         let ballast = fill(rt, alloc, heap, left);
         let has_room = has_room(heap, &store, *self);
-        assert_eq!(rt; heap.free(), left);
+        assert!(rt; heap.free() == left);
         drop(ballast);
         drop(store);
         has_room
@@ -348,6 +350,21 @@ fn try_apply<'a, R: Abort>(
     has_applied(store, &step)
 }
 
+// Applies a command's step, for which there is memory.
+fn apply_command<'a, R: Abort>(
+    rt: &R,
+    heap: &'a LocalHeap,
+    store: &mut Store<&'a LocalHeap>,
+    command: Command,
+)
+    requires { Sound store.old }
+    ensures { Sound store.new }
+{
+    let step = step_of(rt, heap, command);
+    assert!(rt; has_applied(store, &step), "no memory");
+    drop(step);
+}
+
 // A store to which these commands were applied.
 fn store_after<'a, R: Abort>(
     rt: &R,
@@ -360,8 +377,7 @@ fn store_after<'a, R: Abort>(
     let config = Config { pages, ..SMALL };
     let mut store = Store::open(heap, config).expect(rt, "no store");
     for command in commands {
-        let step = step_of(rt, heap, *command);
-        assert!(rt; has_applied(&mut store, &step), "no memory");
+        apply_command(rt, heap, &mut store, *command);
     }
     store
 }
@@ -373,14 +389,14 @@ impl Trial for Case {
         let before = picture_of(rt, alloc, &store);
         let free = heap.free();
         let is_done = try_apply(rt, alloc, heap, &mut store, self.command, left);
-        let name = self.name;
-        if !is_done {
-            assert_eq!(rt; heap.free(), free, "{name}: {left} bytes left");
-        }
+        let is_given_back = is_done || heap.free() == free;
         let after = picture_of(rt, alloc, &store);
         drop(store);
-        let is_same = before.is_same(&after);
-        assert!(rt; is_same != is_done, "{name}: {left} bytes left");
+        let name = self.name;
+        assert!(rt;
+            is_given_back && before.is_same(&after) != is_done,
+            "{name}: {left} bytes left"
+        );
         is_done
     }
 }
@@ -413,8 +429,10 @@ impl Trial for Copied {
         let step = step_of(rt, heap, self.0);
         let _ballast = fill(rt, alloc, heap, left);
         let is_same = is_copy_same(heap, &step);
-        assert!(rt; is_same != Some(false), "{left} bytes left");
-        assert_eq!(rt; heap.free(), left, "{left} bytes left");
+        assert!(rt;
+            is_same != Some(false) && heap.free() == left,
+            "{left} bytes left"
+        );
         is_same.is_some()
     }
 }

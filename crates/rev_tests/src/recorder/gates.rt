@@ -193,7 +193,7 @@ fn all_played(actors: usize) -> Ending
 fn no_hands(rt: HostRuntime) {
     let (recorder, hands) = open(&rt, rt.alloc(), 1, SEAL);
     let done = run(&rt, &recorder, Vec::new(rt.alloc()), &Open);
-    assert_eq!(rt; done.len(), 0);
+    assert!(rt; done.len() == 0);
     drop(done);
     assert_eq!(rt; end(recorder, hands), Ending::Settled { rows: 0, nodes: 0 });
 }

@@ -161,7 +161,7 @@ fn calls_of(hands: &[Hand]) -> usize {
 fn actors(rt: HostRuntime) {
     let (recorder, hands) = open(&rt, rt.alloc(), 3, SEAL);
     let hands = run_hands(&rt, rt.alloc(), &recorder, hands);
-    assert_eq!(rt; hands.len(), 3);
+    assert!(rt; hands.len() == 3);
     let calls = calls_of(hands.as_slice());
     assert!(rt; 6 <= calls && calls <= 9);
     let wanted = Ending::Settled {
