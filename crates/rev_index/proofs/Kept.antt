@@ -37,7 +37,7 @@ some_cell items x h = go (get_or items x.page []) x.slot h
     go (y ∷ ys) zero k = refl
     go (y ∷ ys) (suc s) k = go ys s k
 
-bounded : (ends : List ChainLink) (links : List (List ChainLink)) (items : List (List (Option PlainItem))) → IsChained ends links items → Bounded links
+pub bounded : (ends : List ChainLink) (links : List (List ChainLink)) (items : List (List (Option PlainItem))) → IsChained ends links items → Bounded links
 bounded ends links items h = record { pages = h.pages; slots_below = h.slots_below }
 
 pub bucket_below : (n : ℕ) (k : List ℕ) → 0 < n → bucket_of n k < n

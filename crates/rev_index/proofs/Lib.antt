@@ -5,3 +5,4 @@ pub mod Kept
 pub mod Moves
 pub mod Fills
 pub mod Ends
+pub mod Widening

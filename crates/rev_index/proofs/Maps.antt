@@ -80,7 +80,7 @@ module _ (item : ChunkRef → Option PlainItem) (k : List ℕ) where
       go false t ih = ap (cond (is_named k (item y)) (Some y)) ih
 
 module _ (chain : ℕ → List ChunkRef) (item : ChunkRef → Option PlainItem) (k : List ℕ) where
-  none_below : (n : ℕ) → ((b : ℕ) (x : ChunkRef) → b < n → In x (chain b) → is_named k (item x) ≡ true → ⊥) → map.get (bound_below chain item n) k ≡ None
+  pub none_below : (n : ℕ) → ((b : ℕ) (x : ChunkRef) → b < n → In x (chain b) → is_named k (item x) ≡ true → ⊥) → map.get (bound_below chain item n) k ≡ None
   none_below zero none = map.get-empty (slice_cmp nat_cmp) k
   none_below (suc n) none =
       get-bound_all item k (chain n) (bound_below chain item n)

@@ -1,5 +1,5 @@
 -- The items of chunks and the chunk of each key, as two finite maps; and when the chains stand for them.
-use Rattle.std.specs.Prelude.{◌≡◌, ℕ, zero, suc, ◌<◌, ◌≤◌, ◌^◌, Bool, true, false, cond, Option, Some, None, List, [], ◌∷◌, length, map as map_list, slice_index, slice_index_or, slice_get, replicate}
+use Rattle.std.specs.Prelude.{◌≡◌, ℕ, zero, suc, ◌<◌, ◌≤◌, ◌^◌, Bool, true, false, cond, Option, Some, None, List, [], ◌∷◌, ◌++◌, length, map as map_list, slice_index, slice_index_or, slice_get, replicate}
 use Rattle.std.specs.Ordering.{nat_cmp, eq_by_cmp}
 use Rattle.std.specs.Cmp.Lexicographic.{slice_cmp}
 use Rattle.std.specs.FinMap as map
@@ -39,6 +39,16 @@ bound_all item (x ∷ xs) m = bound x (item x) (bound_all item xs m)
 abbrev pub bound_below : (ℕ → List ChunkRef) → (ChunkRef → Option PlainItem) → ℕ → Keys
 bound_below chain item zero = map.empty
 bound_below chain item (suc n) = bound_all item (chain n) (bound_below chain item n)
+
+-- the chunks of the first n buckets, those of the last bucket first
+abbrev pub members_below : (ℕ → List ChunkRef) → ℕ → List ChunkRef
+members_below chain zero = []
+members_below chain (suc n) = chain n ++ members_below chain n
+
+-- each of these chunks has an item whose key is neither in the map nor that of a chunk behind it
+abbrev pub AreNew : (ChunkRef → Option PlainItem) → Keys → List ChunkRef → Type 0
+AreNew item m [] = Unit {0}
+AreNew item m (x ∷ xs) = ((i : PlainItem) × (item x ≡ Some i) × (map.get (bound_all item xs m) i.key ≡ None)) × AreNew item m xs
 
 -- the chunk of each key
 unfoldable pub keys_of : List ChainLink → List (List ChainLink) → List (List (Option PlainItem)) → Keys

@@ -9,13 +9,13 @@ ghost use Rattle.rev_model.specs.Words.{header_of};
 ghost use Rattle.rev_index.specs.Index.{PlainIndex, bound, unbound, empty_index};
 
 use crate::chains::Chains;
+use crate::growth::{enter, grow, is_crowded};
 use crate::item_table::ItemTable;
 use crate::making::empty_chains;
 use crate::parts::Slots;
-use crate::seek::{home, seek};
+use crate::seek::seek;
 use rev_classes::{ClassTable, Config, MAX_CLASSES};
 use rev_items::{Item, Key};
-use rev_links::Place;
 use rev_model::{ChunkRef, ItemHeader, Touched};
 use std::alloc::{AllocError, Allocator};
 use std::marker::Model;
@@ -25,6 +25,8 @@ use std::marker::Model;
 pub struct Index<A: Allocator> {
     chains: Chains<A>,
     items: ItemTable<A>,
+    // how many keys are bound, for `widen` alone
+    bound: usize,
 }
 
 impl<A: Allocator> Model for Index<A> {
@@ -71,8 +73,8 @@ impl<A: Allocator> Index<A> {
         ensures { let item = map.get self.old.content chunk in
             self.new ≡ record self.old { keys = bound chunk item self.old.keys } }
     {
-        let bucket = home(&self.chains, &self.items, chunk);
-        self.chains.insert(chunk, Place::End(bucket));
+        enter(&mut self.chains, &self.items, chunk);
+        self.bound = self.bound.wrapping_add(1);
     }
 
     /// Takes the key of a chunk's item out. It takes no memory.
@@ -84,6 +86,7 @@ impl<A: Allocator> Index<A> {
             self.new ≡ record self.old { keys = unbound item self.old.keys } }
     {
         self.chains.remove(chunk);
+        self.bound = self.bound.wrapping_sub(1);
     }
 
     /// What a chunk holds: nothing too where its page or its slot is not there.
@@ -162,6 +165,21 @@ impl<A: Allocator + Clone> Index<A> {
         let pages = config.pages as usize + MAX_CLASSES;
         let chains = empty_chains(alloc.clone()?, pages, config.hash_power)?;
         let items = ItemTable::open(alloc, pages)?;
-        Ok(Index { chains, items })
+        Ok(Index {
+            chains,
+            items,
+            bound: 0,
+        })
+    }
+
+    /// Gives the index four times as many buckets where they hold more than two keys each, on average, and 2^20 are not
+    /// exceeded. Where memory is refused it stays as it is. Nothing that is seen of the index depends on its buckets.
+    pub fn widen(&mut self, alloc: &A)
+        ensures { self.new ≡ self.old }
+    {
+        if is_crowded(self.bound, self.chains.ends.len()) {
+            // without memory the buckets stay as they are
+            let _ = grow(&mut self.chains, &self.items, self.bound, alloc);
+        }
     }
 }

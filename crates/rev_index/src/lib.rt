@@ -1,8 +1,9 @@
 //! The items of chunks and the chunk of each key: hash chains that run through the slots of pages. After `open` only
-//! `slots` takes memory.
+//! `slots` takes memory, and `widen` where the chains are long.
 #![tactic(auto)]
 
 mod chains;
+mod growth;
 mod index;
 mod item_table;
 mod making;

@@ -51,8 +51,10 @@ fn buckets(hash_power: u32) -> u32
     1 << hash_power
 }
 
-// The ends of so many buckets, each before and behind itself.
-fn empty_ends<A: Allocator>(alloc: A, n: u32) -> Result<Vec<ChainLink, A>, AllocError>
+/// The ends of so many buckets, each before and behind itself.
+///
+/// The one error is that there is no memory.
+pub fn empty_ends<A: Allocator>(alloc: A, n: u32) -> Result<Vec<ChainLink, A>, AllocError>
     ensures count { IfOk result (λ v. length v.items ≡ n) }
     ensures empty { IfOk result (λ v. AreEmpty v.items) }
 {

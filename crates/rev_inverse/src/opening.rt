@@ -105,7 +105,7 @@ fn open_parts<A: Allocator + Clone>(
 
 impl<A: Allocator + Clone> Store<A> {
     /// A store without pages and items. All that it will ever need is reserved here, but for the slots of pages, which
-    /// `parts` takes.
+    /// `parts` takes, and more buckets for the index, which `widen` takes.
     ///
     /// The fault is the first limit that the configuration breaks, or `Memory` where there is no memory.
     pub fn open(alloc: A, config: Config) -> Result<Store<A>, ConfigFault>
@@ -145,7 +145,7 @@ impl<A: Allocator + Clone> Store<A> {
         })
     }
 
-    /// The slots for a page of a class, which `Move::Lay` takes. This and `open` are all that takes memory.
+    /// The slots for a page of a class, which `Move::Lay` takes. This, `widen` and `open` are all that takes memory.
     pub fn parts(&self, class: usize) -> Result<Parts<A>, AllocError>
         requires class { IsClass self.now.fixed class }
         ensures { IfOk result (λ parts. parts ≡ per_page self.now.fixed class) }
@@ -156,6 +156,14 @@ impl<A: Allocator + Clone> Store<A> {
         let queues = rev_queues::slots(self.alloc.clone()?, count)?;
         let index = rev_index::slots(self.alloc.clone()?, count)?;
         Ok(shelf.fill(pages, queues, index))
+    }
+
+    /// Gives the index more buckets where they hold many keys each and there is memory for more. No value and no answer
+    /// depends on how many there are.
+    pub fn widen(&mut self)
+        ensures { self.new ≡ self.old }
+    {
+        self.index.widen(&self.alloc);
     }
 
     /// Memory for what a page leaves when `Move::Lift` lifts it.

@@ -44,6 +44,7 @@ pub fn apply<A: Allocator + Clone>(
     ensures err { OnErr result (store.new ≡ store.old) }
     ensures told { IfOk result (λ p. TellsAll p.1 store.new (step_removals store.old (plain_step step.now))) }
 {
+    store.widen();
     match step {
         Step::Client(step) => client(store, step),
         Step::Actor(step) => act(store, *step),
