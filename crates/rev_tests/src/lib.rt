@@ -1,5 +1,5 @@
 //! The tests that cross crates: worked scripts, cut input, failing readers and writers, the class table, the program's words,
-//! want of memory, recordings on threads and over files.
+//! want of memory, recordings on threads and over files; and fast paths beside plain ones.
 #![tactic(auto)]
 
 #[cfg(test)]
@@ -9,9 +9,13 @@ mod actor_scripts;
 #[cfg(test)]
 mod actors;
 #[cfg(test)]
+mod buckets;
+#[cfg(test)]
 mod classes;
 #[cfg(test)]
 mod memory;
+#[cfg(test)]
+mod mentions;
 #[cfg(test)]
 mod owned;
 #[cfg(test)]

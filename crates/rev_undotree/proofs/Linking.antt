@@ -87,7 +87,7 @@ linked_same heads ms ns links links' n s t l =
     }
 
 abbrev pub no_entry : Entry
-no_entry = record { hash = 0; node = 0; earlier = 0 }
+no_entry = record { hash = 0; node = 0; earlier = 0; skip = 0; height = 0 }
 
 -- the entry n gets the link of its bucket's head, and becomes the head
 module _ (heads : List ℕ) (es : List Entry) (n p : ℕ) (e : Entry) (same : mention_of e ≡ mention_of (get_or es n no_entry)) where

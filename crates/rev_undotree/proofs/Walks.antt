@@ -1,5 +1,5 @@
 -- The walk along the links of one bucket.
-use Rattle.std.proofs.Common.{◌≡◌, ℕ, ◌-◌, ◌%◌, ◌<◌, ◌≤◌, List, Some, ◌⊎◌, length, inl, inr, sym, ◌∙◌, ap, subst, arith, get_or}
+use Rattle.std.proofs.Common.{◌≡◌, ℕ, ◌-◌, ◌%◌, ◌<◌, ◌≤◌, List, Some, ◌⊎◌, length, inl, inr, sym, ◌∙◌, ap, subst, arith, get_or, slice_get}
 use Rattle.std.proofs.Math.ListN.{get_or-map}
 use Rattle.std.proofs.lemmas.List.{length-map}
 use Rattle.std.proofs.lemmas.Bool.{cases_lt}
@@ -7,7 +7,7 @@ use Rattle.std.proofs.lemmas.Option.{get_or_from_slice_get, slice_get_within, sl
 use Rattle.rev_undotree.specs.declared.mention.Mention.{Mention}
 use Rattle.rev_undotree.specs.declared.links.Entry.{Entry}
 use Rattle.rev_undotree.specs.Mentions.{Holds}
-use Rattle.rev_undotree.specs.Links.{mention_of, mentions_of, links_of, bucket_at, node_at, Linked, IsSound, no_mention, Rises}
+use Rattle.rev_undotree.specs.Links.{mention_of, mentions_of, links_of, bucket_at, node_at, Linked, LeadsPast, IsSound, no_mention, Rises}
 use Rattle.rev_undotree.proofs.Linking.{no_entry}
 
 -- the link c leads into the bucket of the hash h, and no mention of h up to node d lies past it
@@ -34,6 +34,35 @@ seek_more heads ms links h d c e l s p n f =
         | inr v ↦ let w : i < c = s.last i k t u in let z : c - 1 ≡ i = omega arith in
             absurd (n (ap (λ x. (get_or ms x no_mention).hash) z ∙ t) (subst (λ x. node_at ms x ≤ d) (sym z) u))
       ];
+    }
+
+-- the link e leads past nodes over d alone
+pub seek_past : (ms : List Mention) (m h d c e b : ℕ) → Rises ms → b ≡ h % m → Seeks ms m h d c → LeadsPast ms m b d c e → Seeks ms m h d e
+seek_past ms m h d c e b r f s p =
+    let sb : c ≤ length ms = s.below in
+    let before : e < c = p.before in
+    record {
+      below = omega arith;
+      home = λ _. p.home ∙ f;
+      last = λ i k t u. elim (cases_lt i e) [
+        | inl v ↦ v
+        | inr v ↦
+            let w : e - 1 ≤ i = omega arith in
+            let x : node_at ms (e - 1) ≤ node_at ms i = r (e - 1) i w k in
+            let y : d < node_at ms (e - 1) = p.past in
+            absurd (omega arith)
+      ];
+    }
+
+-- the link c leads past them to the entry e where its tests hold
+pub leads_past_it : (es : List Entry) (e : Entry) (m b d a c p : ℕ) → (0 < c) × (slice_get es (c - 1) ≡ Some e) → (c < a) × (d < e.node) → p ≡ e.hash % m → p ≡ b → LeadsPast (mentions_of es) m b d a c
+leads_past_it es e m b d a c p at past is same =
+    let f : get_or (mentions_of es) (c - 1) no_mention ≡ mention_of e = get_or-map mention_of es (c - 1) no_entry ∙ ap mention_of (get_or_from_slice_get es (c - 1) e no_entry at.1) in
+    record {
+      some = at.0;
+      before = past.0;
+      home = ap (λ (x : Mention). x.hash % m) f ∙ (sym is ∙ same);
+      past = subst (λ (x : Mention). d < x.node) (sym f) past.1;
     }
 
 -- what is held stands at a place

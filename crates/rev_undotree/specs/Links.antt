@@ -39,6 +39,13 @@ pub record Linked (heads : List ℕ) (ms : List Mention) (links : List ℕ) (k :
   pub at_head : (b : ℕ) → b < length heads → Leads ms (length heads) k b (get_or heads b 0)
   pub at_link : (j : ℕ) → j < k → Leads ms (length heads) j (bucket_at ms (length heads) j) (get_or links j 0)
 
+-- the link c leads into bucket b, of m, to a mention of a node past d, before the one that the link a leads to
+pub record LeadsPast (ms : List Mention) (m b d a c : ℕ) : Type 0 where
+  pub some : 0 < c
+  pub before : c < a
+  pub home : bucket_at ms m (c - 1) ≡ b
+  pub past : d < node_at ms (c - 1)
+
 -- the first k entries are linked
 abbrev pub IsLinked : List ℕ → List Entry → ℕ → Type 0
 IsLinked heads es k = Linked heads (mentions_of es) (links_of es) k

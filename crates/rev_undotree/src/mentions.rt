@@ -14,8 +14,9 @@ const FIRST_BUCKETS: usize = 16;
 // at each entry, so that the buckets are few and the chains short.
 const ENTRIES_PER_BUCKET: usize = 4;
 
-/// Which hash was mentioned at which node, in the order of the nodes. A look-up goes back along the entries of one bucket
-/// and takes no memory; a bucket has four entries at most, on average.
+/// Which hash was mentioned at which node, in the order of the nodes. A look-up goes back along the entries of one bucket,
+/// many at a time where they are of later nodes than it asks for, and takes no memory; a bucket has four entries at most,
+/// on average.
 #[derive(Drop)]
 pub struct Mentions<A: Allocator> {
     heads: Vec<u32, A>,
@@ -127,6 +128,8 @@ impl<A: Allocator> Mentions<A> {
             hash,
             node,
             earlier: 0,
+            skip: 0,
+            height: 0,
         })?;
         link(&mut self.heads, &mut self.entries, at);
         Ok(())

@@ -8,14 +8,14 @@ use crate::memory::pictures::{Picture, picture_of, session_picture};
 use crate::memory::steps::{Command, step_of};
 use crate::owned::session_over;
 use linked_list_allocator::LocalHeap;
-use rev_classes::fault_of;
+use rev_classes::{Config, fault_of};
 use rev_explain::story;
 use rev_inverse::Store;
 use rev_items::Key;
 use rev_output::ToWrite;
 use rev_script::source::FromRead;
 use rev_shell::run::{RunFault, Summary, run};
-use rev_steps::{KeyCommand, Step, StoreVerb};
+use rev_steps::{ActorStep, KeyCommand, Step, StoreVerb};
 use rev_undotree::{PlayFault, Session};
 use std::alloc::Global;
 use std::process::Abort;
@@ -208,6 +208,92 @@ fn plays(rt: HostRuntime) {
     for case in &CASES {
         refuse_in_turn(&rt, rt.alloc(), case.name, case);
     }
+}
+
+// More keys than an index of 16 buckets holds before it wants more buckets.
+static CROWD: [&str; 33] = [
+    "a0", "a1", "a2", "a3", "a4", "a5", "a6", "a7", "a8", "a9", "b0", "b1", "b2", "b3", "b4", "b5",
+    "b6", "b7", "b8", "b9", "c0", "c1", "c2", "c3", "c4", "c5", "c6", "c7", "c8", "c9", "d0", "d1",
+    "d2",
+];
+
+// Bytes of the buckets that an index of 16 would grow to have.
+const BUCKETS: usize = 1024;
+
+// Bytes of a heap in which it has them.
+const ROOM: usize = 65536;
+
+// A session that holds all of the keys.
+fn crowded<'a, R: Abort>(rt: &R, heap: &'a LocalHeap) -> Session<&'a LocalHeap> {
+    let config = Config { pages: 4, ..SMALL };
+    let store = Store::open(heap, config).expect(rt, "no store");
+    let mut session = session_over(rt, heap, store);
+    for name in &CROWD {
+        let set = Command::Store(StoreVerb::Set, *name, 1);
+        take_turn(rt, heap, &mut session, Turn::Play(set));
+    }
+    session
+}
+
+fn holds<'a, R: Abort>(
+    rt: &R,
+    heap: &'a LocalHeap,
+    session: &Session<&'a LocalHeap>,
+    name: &str,
+) -> bool {
+    let key = Key::new(heap, name.as_bytes()).expect(rt, "no key");
+    session.store().find(&key).is_some()
+}
+
+// Whether the session holds all of the keys.
+fn holds_all<'a, R: Abort>(rt: &R, heap: &'a LocalHeap, session: &Session<&'a LocalHeap>) -> bool {
+    for name in &CROWD {
+        if !holds(rt, heap, session, *name) {
+            return false;
+        }
+    }
+    true
+}
+
+// A play at which the index wants more buckets.
+#[derive(Clone, Copy)]
+struct Crowd;
+
+impl Trial for Crowd {
+    // Without memory for them the play goes on, and the index is as good as before.
+    fn attempt<R: Abort>(&self, rt: &R, alloc: Global, heap: &LocalHeap, left: usize) -> bool {
+        let mut session = crowded(rt, heap);
+        let command = Command::Actor(ActorStep::Clock(1));
+        let refusal = try_play(rt, alloc, heap, &mut session, command, left);
+        assert!(rt;
+            left < BUCKETS && holds_all(rt, heap, &session),
+            "{left} bytes left"
+        );
+        drop(session);
+        refusal.is_none()
+    }
+}
+
+// Bytes that the play takes where there are more than enough.
+fn taken_with_room<R: Abort>(rt: &R, alloc: Global) -> usize {
+    let heap = LocalHeap::new(alloc, ROOM).expect(rt, "no memory");
+    let mut session = crowded(rt, &heap);
+    let free = heap.free();
+    take_turn(
+        rt,
+        &heap,
+        &mut session,
+        Turn::Play(Command::Actor(ActorStep::Clock(1))),
+    );
+    let taken = free.saturating_sub(heap.free());
+    drop(session);
+    taken
+}
+
+#[test]
+fn more_buckets(rt: HostRuntime) {
+    refuse_in_turn(&rt, rt.alloc(), "a play", &Crowd);
+    assert!(rt; taken_with_room(&rt, rt.alloc()) >= BUCKETS / 2);
 }
 
 // A key's story that has three events.

@@ -1,10 +1,13 @@
-use Rattle.std.proofs.Common.{refl}
+use Rattle.std.proofs.Common.{◌%◌, length, ◌∙◌, ap}
+use Rattle.rev_undotree.specs.declared.mention.Mention.{Mention}
 use Rattle.rev_undotree.proofs.Linking.{mentions_kept, entry_linked}
 use Rattle.rev_undotree.proofs.links.link.Goals as goal
 
 pub returns-clause-mentions : goal.returns-clause-mentions
-returns-clause-mentions c = mentions_kept c.args.heads.now c.args.entries.now c.args.at c.bucket-place.result _ refl
+returns-clause-mentions c =
+    mentions_kept c.args.heads.now c.args.entries.now c.args.at c.bucket-place.result c.behind.result (c.behind.ensures.mention ∙ c.mention-mention.ensures)
 
 pub returns-clause-linked : goal.returns-clause-linked
 returns-clause-linked c =
-    entry_linked c.args.heads.now c.args.entries.now c.args.at c.bucket-place.result _ refl c.requires.linked c.requires.within c.bucket-place.ensures.value c.bucket-place.ensures.within refl
+    entry_linked c.args.heads.now c.args.entries.now c.args.at c.bucket-place.result c.behind.result (c.behind.ensures.mention ∙ c.mention-mention.ensures)
+    c.requires.linked c.requires.within (c.bucket-place.ensures.value ∙ ap (λ (m : Mention). m.hash % length c.args.heads.now) c.mention-mention.ensures) c.bucket-place.ensures.within c.behind.ensures.earlier

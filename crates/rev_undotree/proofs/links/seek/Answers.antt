@@ -1,11 +1,15 @@
-use Rattle.std.proofs.Common.{length}
+use Rattle.std.proofs.Common.{length, refl}
 use Rattle.rev_undotree.specs.Links.{mentions_of}
-use Rattle.rev_undotree.proofs.Walks.{goes_on, finds, holds_found, seek_end}
+use Rattle.rev_undotree.proofs.Walks.{goes_on, seek_past, finds, holds_found, seek_end}
 use Rattle.rev_undotree.proofs.links.seek.Goals as goal
 
 pub walk-preserved : goal.walk-preserved
 walk-preserved c =
     goes_on c.args.heads.now c.args.entries.now c.requires c.args.hash c.args.bound c.walk.cursor c.walk.invariant c.walk-test.true c.else-entry-hash.either
+
+pub walk-preserved-then-leads_past : goal.walk-preserved-then-leads_past
+walk-preserved-then-leads_past c =
+    seek_past (mentions_of c.args.entries.now) (length c.args.heads.now) c.args.hash c.args.bound c.walk.cursor _ c.bucket-place.result c.requires.rises c.bucket-place.ensures.value c.walk.invariant (c.if-leads_past.ensures refl)
 
 pub returns-then-entry-bound-clause-latest : goal.returns-then-entry-bound-clause-latest
 returns-then-entry-bound-clause-latest c =

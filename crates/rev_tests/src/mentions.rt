@@ -1,0 +1,109 @@
+//! Look-ups of the nodes that mention a key, beside a plain scan of all that was played.
+use crate::classes::DEFAULTS;
+use crate::owned::session_over;
+use rev_inverse::Store;
+use rev_items::Key;
+use rev_steps::{ClientStep, Payload, Step, StoreVerb};
+use rev_undotree::Session;
+use std::alloc::Global;
+use std::process::Abort;
+
+// The first three keys have hashes that end with the same twelve bits, so they share a bucket; the last is never set.
+const NAMES: [&str; 6] = ["k0", "k350", "k5986", "k1", "k2", "k3"];
+
+// How many sets each order has. Their nodes are numbered from 1 on, and lie one below another.
+const SETS: usize = 2401;
+
+// Keys are looked up at one in so many depths.
+const STEP: usize = 7;
+
+/// Which key is set at a node.
+#[derive(Clone, Copy)]
+enum Order {
+    /// The first one.
+    Hot,
+    /// Three of one bucket in turn.
+    Turns,
+    /// Three of one bucket, each many times one after another.
+    Phases,
+    /// One, and now and then one of the others.
+    Strewn,
+    /// One, two times at once, and then long nothing of it.
+    Rare,
+}
+
+const ORDERS: [Order; 5] = [
+    Order::Hot,
+    Order::Turns,
+    Order::Phases,
+    Order::Strewn,
+    Order::Rare,
+];
+
+fn set_at(order: Order, node: usize) -> usize {
+    match order {
+        Order::Hot => 0,
+        Order::Turns => node % 3,
+        Order::Phases => node / 90 % 3,
+        Order::Rare => { if node % 1100 < 2 { 0 } else { 3 + node % 2 } }
+        Order::Strewn => { if node % 37 == 0 { node / 37 % 5 } else { 0 } }
+    }
+}
+
+fn key_of<R: Abort>(rt: &R, alloc: Global, place: usize) -> Key<Global> {
+    let name = NAMES.get(place).expect(rt, "no such key");
+    Key::new(alloc, name.as_bytes()).expect(rt, "no key")
+}
+
+fn set<R: Abort>(rt: &R, session: &mut Session<Global>, alloc: Global, place: usize) {
+    let data = Payload::from_vec(Vec::new(alloc)).expect(rt, "no memory");
+    let step = Step::Client(ClientStep::Store {
+        verb: StoreVerb::Set,
+        key: key_of(rt, alloc, place),
+        flags: 0,
+        exptime: 0,
+        data,
+    });
+    match session.play(step) {
+        Ok(_) => (),
+        Err(_) => panic!(rt; "a set was refused"),
+    }
+}
+
+// The last node up to `depth` at which the key was set, or 0.
+fn last_set(order: Order, place: usize, depth: usize) -> usize {
+    (1..depth.saturating_add(1))
+        .rev()
+        .find(|node| set_at(order, *node) == place)
+        .unwrap_or(0)
+}
+
+// Each key is looked up at depths up to the last.
+fn look_up<R: Abort>(rt: &R, session: &Session<Global>, alloc: Global, order: Order) {
+    for place in 0..NAMES.len() {
+        let key = key_of(rt, alloc, place);
+        for round in 0..SETS / STEP + 1 {
+            let depth = round.saturating_mul(STEP);
+            let found = session.last_mention(&key, depth);
+            let wanted = last_set(order, place, depth);
+            assert!(rt;
+                found == wanted,
+                "key {place} up to {depth}: {found} for {wanted}"
+            );
+        }
+    }
+}
+
+#[test]
+fn mentions_are_found(rt: HostRuntime) {
+    let alloc = rt.alloc();
+    for order in ORDERS {
+        let store = Store::open(alloc, DEFAULTS).expect(&rt, "no store");
+        let mut session = session_over(&rt, alloc, store);
+        for node in 1..SETS + 1 {
+            set(&rt, &mut session, alloc, set_at(order, node));
+        }
+        look_up(&rt, &session, alloc, order);
+        drop(session);
+    }
+}
