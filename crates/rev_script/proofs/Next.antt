@@ -12,7 +12,7 @@ use Rattle.std.specs.Io.BufRead.{ends_with_byte}
 use Rattle.rev_script.specs.Commands.{command, asked, longest}
 use Rattle.rev_script.specs.Words.{words, word}
 use Rattle.rev_script.specs.declared.command.StorageCommand.{StorageCommand}
-use Rattle.std.proofs.Common.{ℤ, ◌||◌}
+use Rattle.std.proofs.Common.{ℤ, ◌||◌, Result, Ok, Err, IfErr}
 use Rattle.rev_script.specs.Script.{StorageLine, payload_of, has_lf, ScriptLine, BadLine, line_of, storage_line_of, block_size, IsWhole, IsLast}
 use Rattle.rev_script.specs.Line.{IsNext, IsFault, IsStorageLine}
 use Rattle.rev_script.specs.Source.{Told}
@@ -127,3 +127,14 @@ fault_block {S} {told} {old} {mid} {new} {raw} {kept} {storage} {flags} {exptime
     let both : Took told old new (t.text ++ 10 ∷ s.taken) = subst (λ l. Took told old new l) (append_assoc t.text (10 ∷ []) s.taken) (Took-then first s.took) in
     let short : e ≢ faults.Memory → length s.taken < block_size (asked (strip_last 13 t.text)) = λ other. omega (arith, s.short other, ap block_size c) in
     (t.text ++ 10 ∷ s.taken, both, (λ other. none_whole (t.text ++ 10 ∷ s.taken) _ (last_block t.text s.taken t.no_lf (short other))), stop)
+
+-- a fault before any byte of the line
+pub fault_none : {S : Type 0} {told : S → Told} {old new : ByteReader S} (e : LineFault) →
+    Took told old new [] → StoppedBy told new e → IsFault told old new e
+fault_none e k s = ([], k, (λ _. none_whole-text [] refl), s)
+
+-- a fault behind a look at the piece
+pub fault_after : {S A : Type 0} {told : S → Told} {old mid : ByteReader S} (new : ByteReader S) (r : Result A LineFault) →
+    Took told old mid [] → IfErr r (λ e. IsFault told mid new e) → IfErr r (λ e. IsFault told old new e)
+fault_after new (Ok a) k f = tt
+fault_after new (Err e) k f = (f.0, Took-then k f.1, f.2, f.3)

@@ -1,5 +1,5 @@
 -- A line's text, piece by piece.
-use Rattle.std.proofs.Common.{◌≡◌, ℕ, ◌+◌, ◌-◌, ◌<◌, ◌≤◌, true, false, List, [], ◌∷◌, ◌++◌, length, take, drop, Option, None, Some, IfSome, IfNone, sym, ◌∙◌, ap, subst, arith, add-one, length-append, length-take, append_assoc, append-nil, take_all, take-add}
+use Rattle.std.proofs.Common.{◌≡◌, ℕ, ◌+◌, ◌-◌, ◌<◌, ◌≤◌, true, false, List, [], ◌∷◌, ◌++◌, length, take, drop, Option, None, Some, IfSome, IfNone, refl, sym, ◌∙◌, ap, subst, arith, add-one, length-append, length-take, append_assoc, append-nil, take_all, take-add}
 use Rattle.std.proofs.Math.Seq.{take-append_seam, drop-append_seam}
 use Rattle.memchr.specs.Find.{IsFirstByte, is_byte}
 use Rattle.rev_script.specs.Script.{has_lf}
@@ -65,3 +65,28 @@ pub text_stop : {S : Type 0} {told : S → Told} {old b m : ByteReader S} {size 
     IsSoFar told old b size kept → Took told b m [] → IsPart told old m
 text_stop {S} {told} {old} {b} {m} {size} {kept} s k =
     record { text = s.text; no_lf = s.no_lf; took = subst (λ l. Took told old m l) (append-nil s.text) (Took-then s.took k) }
+
+-- a line whose LF stands in the piece, looked at where it lies
+pub hand_size : (i : ℕ) (xs : List ℕ) → i < length xs → length (take i xs) ≡ i
+hand_size i xs h = omega (arith, length-take i xs)
+
+pub hand_took : {S : Type 0} {told : S → Told} {m new : ByteReader S} (i : ℕ) →
+    take (i + 1) (front m) ≡ take i (front m) ++ 10 ∷ [] → Took told m new (take (i + 1) (front m)) → Took told m new (take i (front m) ++ 10 ∷ [])
+hand_took {S} {told} {m} {new} i e p = subst (λ l. Took told m new l) e p
+
+pub hand_fed : {End : Type 0} → true ≡ false → End
+hand_fed e = absurd (cc)
+
+abbrev pub text_at_hand : {S : Type 0} {told : S → Told} {m new : ByteReader S} (i : ℕ) →
+    (i < length (front m)) × (has_lf (take i (front m)) ≡ false) × (take (i + 1) (front m) ≡ take i (front m) ++ 10 ∷ []) →
+    Took told m new (take (i + 1) (front m)) →
+    IsText told m new (record { feed = true; length = i }) (take 65537 (take i (front m)))
+text_at_hand {S} {told} {m} {new} i f p =
+    record {
+      text = take i (front m);
+      no_lf = f.1;
+      size = hand_size i (front m) f.0;
+      kept_is = refl;
+      took = hand_took i f.2 p;
+      at_end = hand_fed;
+    }

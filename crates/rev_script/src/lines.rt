@@ -1,5 +1,5 @@
 //! The lines of a script, one after another.
-ghost use Rattle.std.specs.Prelude.{◌≡◌, ◌≢◌, [], ◌∷◌, ◌≤◌, ◌<◌, ◌+◌, ◌^◌, ℕ, List, length, IfOk, IfErr, OnErr, IfSome, Some, None, Err, Ok, true, nat_lt, if◌then◌else◌};
+ghost use Rattle.std.specs.Prelude.{◌≡◌, ◌≢◌, [], ◌∷◌, ◌++◌, false, take, ◌≤◌, ◌<◌, ◌+◌, ◌^◌, ℕ, List, length, IfOk, IfErr, OnErr, IfSome, Some, None, Err, Ok, true, nat_lt, if◌then◌else◌};
 ghost use Rattle.std.specs.Prelude.{map, drop};
 ghost use Rattle.std.specs.Option.{option_map};
 ghost use Rattle.std.specs.List.{list_all};
@@ -8,18 +8,22 @@ ghost use Rattle.rev_items.specs.Keys.{is_key};
 ghost use Rattle.rev_model.specs.Client.{Bytes, Skipped};
 ghost use Rattle.rev_requests.specs.Plain.{plain_payload};
 ghost use Rattle.rev_script.specs.Commands.{asked};
+ghost use Rattle.rev_script.specs.declared.command.Command.TheVariants.{Retrieval, Update, Query, Bookmark};
 ghost use Rattle.rev_script.specs.Keyed.{HasKeys};
-ghost use Rattle.rev_script.specs.Words.{words};
+ghost use Rattle.rev_script.specs.Words.{words, word};
+ghost use Rattle.rev_script.specs.Script.{line_of, has_lf};
 ghost use Rattle.rev_script.specs.Line.{view, IsAsked, IsNext, IsFault, IsStorageLine};
-ghost use Rattle.rev_script.specs.ByteReader.{StoppedBy, IsEnded};
+ghost use Rattle.rev_script.specs.ByteReader.{StoppedBy, IsEnded, front};
 ghost use Rattle.rev_script.specs.DataBlock.{IsBroken};
 
 use crate::byte_reader::{ByteReader, LineFault};
-use crate::command::{BadAnswer, Command, StorageCommand};
+use crate::command::{
+    BadAnswer, BookmarkCommand, Command, KeyQuery, StorageCommand, UpdateCommand,
+};
 use crate::data_block::{MOST_DATA, take_block};
 use crate::grammar::{asked, body};
 use crate::line::{Asked, ClientLine, DebugLine, Line};
-use crate::raw_line::{MOST_KEPT, read_text};
+use crate::raw_line::{MOST_KEPT, first_feed, read_text};
 use crate::source::Source;
 use crate::words::{few_words, word, words};
 use arrayvec::ArrayVec;
@@ -44,6 +48,92 @@ fn behind_first<'a, 'b>(words: &'b [&'a [u8]]) -> &'b [&'a [u8]]
     ensures { result.now ≡ drop 1 words.now }
 {
     if words.is_empty() { words } else { &words[1..] }
+}
+
+// A retrieval line. (Like the other kinds of lines with parts of their own it is made in a function of its own: a line is large,
+// and where all kinds were made in one place, each cleared what only the others have.)
+#[inline(never)]
+fn retrieval_line<A: Allocator + Clone>(
+    alloc: A,
+    with_cas: bool,
+    words: &[&[u8]],
+) -> Result<Line<A>, AllocError>
+    requires { list_all is_key (drop 1 (map (λ x. x.now) words.now)) ≡ true }
+    ensures { IfOk result (λ line. view line ≡ line_of (Retrieval with_cas) (map (λ x. x.now) words.now) []) }
+{
+    let keys = keys_of(alloc, behind_first(words))?;
+    Ok(Line::Client(ClientLine::Retrieval { keys, with_cas }))
+}
+
+#[inline(never)]
+fn update_line<A: Allocator>(
+    alloc: A,
+    command: UpdateCommand,
+    noreply: bool,
+    words: &[&[u8]],
+) -> Result<Line<A>, AllocError>
+    requires { is_key (word (map (λ x. x.now) words.now) 1) ≡ true }
+    ensures { IfOk result (λ line. view line ≡ line_of (Update command noreply) (map (λ x. x.now) words.now) []) }
+{
+    let key = Key::of(alloc, word(words, 1))?;
+    Ok(Line::Client(ClientLine::Update {
+        command,
+        key,
+        noreply,
+    }))
+}
+
+#[inline(never)]
+fn query_line<A: Allocator>(
+    alloc: A,
+    query: KeyQuery,
+    words: &[&[u8]],
+) -> Result<Line<A>, AllocError>
+    requires { is_key (word (map (λ x. x.now) words.now) 1) ≡ true }
+    ensures { IfOk result (λ line. view line ≡ line_of (Query query) (map (λ x. x.now) words.now) []) }
+{
+    let key = Key::of(alloc, word(words, 1))?;
+    Ok(Line::Debug(DebugLine::Query { query, key }))
+}
+
+#[inline(never)]
+fn bookmark_line<A: Allocator>(
+    alloc: A,
+    command: BookmarkCommand,
+    words: &[&[u8]],
+) -> Result<Line<A>, AllocError>
+    ensures { IfOk result (λ line. view line ≡ line_of (Bookmark command) (map (λ x. x.now) words.now) []) }
+{
+    let name = Vec::from_slice(alloc, word(words, 1))?;
+    Ok(Line::Debug(DebugLine::Bookmark { command, name }))
+}
+
+// The line of a command and its words, with no data block: a storage line without one is cut off.
+fn plain_line<A: Allocator + Clone>(
+    alloc: A,
+    command: Command,
+    words: &[&[u8]],
+) -> Result<Line<A>, AllocError>
+    requires { HasKeys command (map (λ x. x.now) words.now) }
+    ensures { IfOk result (λ line. view line ≡ line_of command (map (λ x. x.now) words.now) []) }
+{
+    match command {
+        Command::Storage { .. } => Ok(Line::Bad {
+            answer: BadAnswer::BadChunk,
+        }),
+        Command::Retrieval { with_cas } => retrieval_line(alloc, with_cas, words),
+        Command::Update { command, noreply } => update_line(alloc, command, noreply, words),
+        Command::FlushAll { delay, noreply } => Ok(Line::Client(ClientLine::FlushAll {
+            delay,
+            noreply,
+        })),
+        Command::Actor(command) => Ok(Line::Actor(command)),
+        Command::Clock(now) => Ok(Line::Clock(now)),
+        Command::Debug(command) => Ok(Line::Debug(DebugLine::Plain(command))),
+        Command::Query(query) => query_line(alloc, query, words),
+        Command::Bookmark(command) => bookmark_line(alloc, command, words),
+        Command::Bad(answer) => Ok(Line::Bad { answer }),
+    }
 }
 
 // What a command and the words of its line ask for.
@@ -73,34 +163,7 @@ fn asked_by<A: Allocator + Clone>(
                 noreply,
             })
         }
-        Command::Retrieval { with_cas } => {
-            let keys = keys_of(alloc, behind_first(words))?;
-            Ok(Asked::Done(Line::Client(ClientLine::Retrieval { keys, with_cas })))
-        }
-        Command::Update { command, noreply } => {
-            let key = Key::of(alloc, word(words, 1))?;
-            Ok(Asked::Done(Line::Client(ClientLine::Update {
-                command,
-                key,
-                noreply,
-            })))
-        }
-        Command::FlushAll { delay, noreply } => Ok(Asked::Done(Line::Client(ClientLine::FlushAll {
-            delay,
-            noreply,
-        }))),
-        Command::Actor(command) => Ok(Asked::Done(Line::Actor(command))),
-        Command::Clock(now) => Ok(Asked::Done(Line::Clock(now))),
-        Command::Debug(command) => Ok(Asked::Done(Line::Debug(DebugLine::Plain(command)))),
-        Command::Query(query) => {
-            let key = Key::of(alloc, word(words, 1))?;
-            Ok(Asked::Done(Line::Debug(DebugLine::Query { query, key })))
-        }
-        Command::Bookmark(command) => {
-            let name = Vec::from_slice(alloc, word(words, 1))?;
-            Ok(Asked::Done(Line::Debug(DebugLine::Bookmark { command, name })))
-        }
-        Command::Bad(answer) => Ok(Asked::Done(Line::Bad { answer })),
+        other => Ok(Asked::Done(plain_line(alloc, other, words)?)),
     }
 }
 
@@ -180,8 +243,8 @@ fn two_handles<A: Allocator + Clone>(text: &Vec<u8, A>) -> Result<(A, A), AllocE
     Ok((text.allocator().clone()?, text.allocator().clone()?))
 }
 
-// Reads the next line, through its data block.
-fn next_line<S: Source, A: Allocator + Clone>(
+// Reads a line whose LF is perhaps not read yet, through its data block.
+fn copied_line<S: Source, A: Allocator + Clone>(
     bytes: &mut ByteReader<S>,
     text: &mut Vec<u8, A>,
 ) -> Result<Option<Line<A>>, LineFault>
@@ -229,6 +292,80 @@ fn next_line<S: Source, A: Allocator + Clone>(
                 Ok(line) => Ok(Some(line)),
             }
         }
+    }
+}
+
+// Takes a line whose LF stands at this place of the bytes at the front, and its data block. A line of few words is looked at
+// where it lies.
+fn line_at_hand<S: Source, A: Allocator + Clone>(
+    bytes: &mut ByteReader<S>,
+    text: &mut Vec<u8, A>,
+    i: usize,
+) -> Result<Option<Line<A>>, LineFault>
+    requires { (i < length (front bytes.old)) × (has_lf (take i (front bytes.old)) ≡ false)
+        × (take (i + 1) (front bytes.old) ≡ take i (front bytes.old) ++ 10 ∷ []) }
+    ensures ok { IfOk result (λ line. IsNext S.told bytes.old bytes.new (option_map view line)) }
+    ensures err { IfErr result (λ e. IsFault S.told bytes.old bytes.new e) }
+{
+    let body = body(&bytes.front()[..i]);
+    let mut few = ArrayVec::new();
+    if !few_words(&mut few, body) {
+        return copied_line(bytes, text);
+    }
+    let parts = few.as_slice();
+    let (alloc, other) = match two_handles(text) {
+        Err(_) => return Err(LineFault::Memory),
+        Ok(pair) => pair,
+    };
+    match asked(body, parts) {
+        Command::Storage {
+            command,
+            flags,
+            exptime,
+            size,
+            noreply,
+        } => {
+            let key = Key::of(alloc, word(parts, 1));
+            bytes.pass(i + 1);
+            let key = match key {
+                Err(_) => return Err(LineFault::Memory),
+                Ok(key) => key,
+            };
+            match storage_line(bytes, other, command, key, flags, exptime, size, noreply) {
+                Err(e) => Err(e),
+                Ok(line) => Ok(Some(line)),
+            }
+        }
+        other => {
+            let line = plain_line(alloc, other, parts);
+            bytes.pass(i + 1);
+            match line {
+                Err(_) => Err(LineFault::Memory),
+                Ok(line) => Ok(Some(line)),
+            }
+        }
+    }
+}
+
+// Reads the next line, through its data block. One that was read whole, as most are, is not copied.
+fn next_line<S: Source, A: Allocator + Clone>(
+    bytes: &mut ByteReader<S>,
+    text: &mut Vec<u8, A>,
+) -> Result<Option<Line<A>>, LineFault>
+    ensures ok { IfOk result (λ line. IsNext S.told bytes.old bytes.new (option_map view line)) }
+    ensures err { IfErr result (λ e. IsFault S.told bytes.old bytes.new e) }
+    ensures stays { IsEnded S.told bytes.old → result ≡ Ok None }
+{
+    let some = match bytes.more() {
+        Err(e) => return Err(e),
+        Ok(some) => some,
+    };
+    if !some {
+        return Ok(None);
+    }
+    match first_feed(bytes.front()) {
+        Some(i) => line_at_hand(bytes, text, i),
+        None => copied_line(bytes, text),
     }
 }
 

@@ -20,8 +20,8 @@ pub struct RawLine {
     pub length: u64,
 }
 
-// Where the first LF stands.
-fn first_feed(front: &[u8]) -> Option<usize>
+/// Where the first LF stands.
+pub fn first_feed(front: &[u8]) -> Option<usize>
     ensures some { IfSome result (λ i. (i < length front.now) × (has_lf (take i front.now) ≡ false)
         × (take (i + 1) front.now ≡ take i front.now ++ 10 ∷ [])) }
     ensures none { IfNone result (has_lf front.now ≡ false) }
