@@ -4,9 +4,9 @@ ghost use Rattle.rev_script.specs.Commands.{storage_of, storage, storage_command
 ghost use Rattle.rev_script.specs.Keyed.{HasKeys};
 
 use crate::command::{BadAnswer, Command, StorageCommand, UpdateCommand};
+use crate::keys::is_key;
 use crate::number::{number, number_u32, signed};
 use crate::words::{are_keys, are_words, is_word, word};
-use rev_items::is_key;
 
 /// The storage command of this name, but for `cas`.
 #[tactic(auto, unfolding(crate::specs::Commands::storage_of))]

@@ -5,9 +5,9 @@ ghost use Rattle.rev_script.specs.Keyed.{IsKeyed, HasKeys};
 
 use crate::actor::queue_of;
 use crate::command::{BadAnswer, BookmarkCommand, Command, DebugCommand, KeyQuery};
+use crate::keys::is_key;
 use crate::number::number_u32;
 use crate::words::{is_name, is_word, word};
-use rev_items::is_key;
 
 // A command that stands alone.
 #[tactic(auto, unfolding(crate::specs::Commands::bare_debug))]

@@ -14,6 +14,7 @@ pub mod command;
 mod data_block;
 mod debug;
 mod grammar;
+mod keys;
 pub mod line;
 pub mod lines;
 mod number;

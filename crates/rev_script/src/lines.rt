@@ -52,7 +52,7 @@ fn behind_first<'a, 'b>(words: &'b [&'a [u8]]) -> &'b [&'a [u8]]
 
 // A retrieval line. (Like the other kinds of lines with parts of their own it is made in a function of its own: a line is large,
 // and where all kinds were made in one place, each cleared what only the others have.)
-#[inline(never)]
+#[inline(always)]
 fn retrieval_line<A: Allocator + Clone>(
     alloc: A,
     with_cas: bool,
@@ -65,7 +65,7 @@ fn retrieval_line<A: Allocator + Clone>(
     Ok(Line::Client(ClientLine::Retrieval { keys, with_cas }))
 }
 
-#[inline(never)]
+#[inline(always)]
 fn update_line<A: Allocator>(
     alloc: A,
     command: UpdateCommand,
@@ -83,7 +83,7 @@ fn update_line<A: Allocator>(
     }))
 }
 
-#[inline(never)]
+#[inline(always)]
 fn query_line<A: Allocator>(
     alloc: A,
     query: KeyQuery,
@@ -96,7 +96,7 @@ fn query_line<A: Allocator>(
     Ok(Line::Debug(DebugLine::Query { query, key }))
 }
 
-#[inline(never)]
+#[inline(always)]
 fn bookmark_line<A: Allocator>(
     alloc: A,
     command: BookmarkCommand,
@@ -109,6 +109,7 @@ fn bookmark_line<A: Allocator>(
 }
 
 // The line of a command and its words, with no data block: a storage line without one is cut off.
+#[inline(always)]
 fn plain_line<A: Allocator + Clone>(
     alloc: A,
     command: Command,

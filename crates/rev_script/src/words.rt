@@ -5,8 +5,8 @@ ghost use Rattle.std.specs.Str.{bytes_eq};
 ghost use Rattle.rev_script.specs.Words.{words, word, is_name, are_words};
 ghost use Rattle.rev_items.specs.Keys.{is_key};
 
+use crate::keys::is_key;
 use arrayvec::ArrayVec;
-use rev_items::is_key;
 use std::alloc::{AllocError, Allocator};
 
 /// For how many words a list has room at first (this project's own figure): a line that stores an item has at most seven.
