@@ -9,3 +9,4 @@ pub mod Data
 pub mod Cuts
 pub mod Next
 pub mod Each
+pub mod Split

@@ -1,6 +1,6 @@
 -- The next line, from what was read of it.
 use Rattle.std.proofs.Common.{◌≡◌, ◌≢◌, ℕ, ◌+◌, ◌-◌, ◌<◌, ◌≤◌, ◌⊎◌, inl, inr, Bool, true, false, cond, nat_lt, List, [], ◌∷◌, ◌++◌, length, take, drop, Some, refl, sym, ◌∙◌, ap, subst, arith, append_assoc, append-nil, take_all}
-use Rattle.std.proofs.lemmas.List.{nil_from_length}
+use Rattle.std.proofs.lemmas.List.{nil_from_length, take-take}
 use Rattle.std.proofs.lemmas.Bool.Decides.{nat_tests}
 use Rattle.std.specs.Io.BufRead.{strip_last}
 use Rattle.rev_script.specs.ByteReader.{Took, AtEnd, StoppedBy}
@@ -138,3 +138,19 @@ pub fault_after : {S A : Type 0} {told : S → Told} {old mid : ByteReader S} (n
     Took told old mid [] → IfErr r (λ e. IsFault told mid new e) → IfErr r (λ e. IsFault told old new e)
 fault_after new (Ok a) k f = tt
 fault_after new (Err e) k f = (f.0, Took-then k f.1, f.2, f.3)
+
+-- the line's bytes without their ending are a front of the piece
+stripped : (b : Bool) (text : List ℕ) → take (length (cond b (take (length text - 1) text) text)) text ≡ cond b (take (length text - 1) text) text
+stripped true text = ap (λ n. take n text) (omega (arith, length-take (length text - 1) text))
+stripped false text = take_all (length text) text (omega arith)
+
+shorter : (b : Bool) (text : List ℕ) → length (cond b (take (length text - 1) text) text) ≤ length text
+shorter true text = omega (arith, length-take (length text - 1) text)
+shorter false text = omega arith
+
+pub front_body : (i : ℕ) (front : List ℕ) → strip_last 13 (take i front) ≡ take (length (strip_last 13 (take i front))) front
+front_body i front =
+    let text = take i front in
+    let b = ends_with_byte 13 text in
+    let few : length (strip_last 13 text) ≤ i = omega (arith, shorter b text, length-take i front) in
+    sym (stripped b text) ∙ take-take (length (strip_last 13 text)) i front few

@@ -1,5 +1,5 @@
 -- The words of a line.
-use Rattle.std.specs.Prelude.{ℕ, ◌+◌, ◌==◌, Bool, not, ◌&&◌, ◌||◌, nat_le, List, [], length, slice_index_or, codes}
+use Rattle.std.specs.Prelude.{ℕ, ◌+◌, ◌==◌, Bool, not, ◌&&◌, ◌||◌, nat_le, List, [], ◌∷◌, length, slice_index_or, codes, if◌then◌else◌}
 use Rattle.std.specs.List.{filter, slice_split}
 use Rattle.std.specs.Str.{bytes_eq}
 use Rattle.rev_items.specs.Keys.{is_key}
@@ -7,6 +7,10 @@ use Rattle.rev_items.specs.Keys.{is_key}
 -- the words of a line, parted by runs of spaces; only the space parts words
 abbrev pub words : List ℕ → List (List ℕ)
 words text = filter (λ w. not (length w == 0)) (slice_split (λ b. b == 32) text)
+
+-- a word as a list, and none where it is empty
+abbrev pub word_or_none : List ℕ → List (List ℕ)
+word_or_none w = if length w == 0 then [] else w ∷ []
 
 -- a word by its place from 0, empty where there is none
 abbrev pub word : List (List ℕ) → ℕ → List ℕ

@@ -17,6 +17,7 @@ mod grammar;
 mod keys;
 pub mod line;
 pub mod lines;
+mod marks;
 mod number;
 mod raw_line;
 pub mod source;

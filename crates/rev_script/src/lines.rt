@@ -25,7 +25,7 @@ use crate::grammar::{asked, body};
 use crate::line::{Asked, ClientLine, DebugLine, Line};
 use crate::raw_line::{MOST_KEPT, first_feed, read_text};
 use crate::source::Source;
-use crate::words::{few_words, word, words};
+use crate::words::{few_words, few_words_in, word, words};
 use arrayvec::ArrayVec;
 use rev_items::Key;
 use rev_requests::Payload;
@@ -308,9 +308,10 @@ fn line_at_hand<S: Source, A: Allocator + Clone>(
     ensures ok { IfOk result (λ line. IsNext S.told bytes.old bytes.new (option_map view line)) }
     ensures err { IfErr result (λ e. IsFault S.told bytes.old bytes.new e) }
 {
-    let body = body(&bytes.front()[..i]);
+    let front = bytes.front();
+    let body = body(&front[..i]);
     let mut few = ArrayVec::new();
-    if !few_words(&mut few, body) {
+    if !few_words_in(&mut few, body, front) {
         return copied_line(bytes, text);
     }
     let parts = few.as_slice();

@@ -1,11 +1,13 @@
 //! The words of a line.
-ghost use Rattle.std.specs.Prelude.{◌≡◌, map, length, true, [], IsTrue, ◌≤◌, ◌<◌, ◌+◌, IfOk};
+ghost use Rattle.std.specs.Prelude.{◌≡◌, ◌↔◌, ◌++◌, ℕ, get_or, map, take, length, true, [], IsTrue, ◌≤◌, ◌<◌, ◌+◌, IfOk};
+ghost use Rattle.std.specs.Int.{bit_at};
 ghost use Rattle.std.specs.List.{list_all};
 ghost use Rattle.std.specs.Str.{bytes_eq};
-ghost use Rattle.rev_script.specs.Words.{words, word, is_name, are_words};
+ghost use Rattle.rev_script.specs.Words.{words, word, word_or_none, is_name, are_words};
 ghost use Rattle.rev_items.specs.Keys.{is_key};
 
 use crate::keys::is_key;
+use crate::marks::{MARKED, first_mark, spaces, without};
 use arrayvec::ArrayVec;
 use std::alloc::{AllocError, Allocator};
 
@@ -31,6 +33,65 @@ pub fn few_words<'a>(few: &mut ArrayVec<&'a [u8], USUAL_WORDS>, text: &'a [u8]) 
         Ok(()) => true,
         Err(_) => false,
     }
+}
+
+// Puts a word behind others, if it is not empty. At `false` there is no room for it.
+#[inline(always)]
+fn keep_word<'a>(few: &mut ArrayVec<&'a [u8], USUAL_WORDS>, word: &'a [u8]) -> bool
+    ensures { IsTrue result → map (λ x. x.now) few.new.items ≡ map (λ x. x.now) few.old.items ++ word_or_none word.now }
+{
+    if word.is_empty() {
+        return true;
+    }
+    match few.try_push(word) {
+        Ok(()) => true,
+        Err(_) => false,
+    }
+}
+
+// The same, for a text whose spaces are marked: from one mark to the next no byte is looked at.
+#[inline(always)]
+fn few_words_by<'a>(
+    few: &mut ArrayVec<&'a [u8], USUAL_WORDS>,
+    text: &'a [u8],
+    spaces: u64,
+) -> bool
+    requires empty { few.old.items ≡ [] }
+    requires short { length text.now ≤ MARKED }
+    requires marks { (k : ℕ) → k < length text.now → ((bit_at spaces k ≡ 1) ↔ (get_or text.now k 0 ≡ 32)) }
+    ensures { IsTrue result → map (λ x. x.now) few.new.items ≡ words text.now }
+{
+    let mut from = 0usize;
+    let mut left = spaces;
+    'words: loop {
+        let end = first_mark(left, text.len());
+        if !keep_word(few, &text[from..end]) {
+            return false;
+        }
+        if end == text.len() {
+            return true;
+        }
+        left = without(left, end);
+        from = end + 1;
+    }
+}
+
+/// The same as `few_words`, for a text that more bytes may stand behind: where there are enough of them, its spaces are told
+/// all at once.
+#[inline(always)]
+pub fn few_words_in<'a>(
+    few: &mut ArrayVec<&'a [u8], USUAL_WORDS>,
+    text: &'a [u8],
+    front: &[u8],
+) -> bool
+    requires empty { few.old.items ≡ [] }
+    requires begins { text.now ≡ take (length text.now) front.now }
+    ensures { IsTrue result → map (λ x. x.now) few.new.items ≡ words text.now }
+{
+    if text.len() <= MARKED && MARKED <= front.len() {
+        return few_words_by(few, text, spaces(front));
+    }
+    few_words(few, text)
 }
 
 /// A word by its place from 0, empty where there is none.

@@ -1,23 +1,28 @@
-use Rattle.std.proofs.Common.{rules, w32, SFits, ◌≡◌, refl, map, take, [], sym, ◌∙◌, ap}
+use Rattle.std.proofs.Common.{rules, w32, SFits, ◌≡◌, refl, ℕ, List, length, subst, map, take, [], sym, ◌∙◌, ap}
 use Rattle.std.proofs.lemmas.Int.{to_z-of_z}
 use Rattle.std.specs.Io.BufRead.{strip_last}
 use Rattle.rev_script.specs.Words.{words, word}
 use Rattle.rev_script.specs.Commands.{asked}
 use Rattle.rev_script.specs.Script.{block_size, line_of}
 use Rattle.rev_script.proofs.Pieces.{text_at_hand}
-use Rattle.rev_script.proofs.Next.{next_done, next_block, fault_block}
+use Rattle.rev_script.proofs.Next.{next_done, next_block, fault_block, front_body}
 use Rattle.rev_script.proofs.lines.line_at_hand.Goals as goal
+
+pub few_words_in-requires-clause-begins : goal.few_words_in-requires-clause-begins
+few_words_in-requires-clause-begins g c =
+    let P : List ℕ → Type 0 = λ b. b ≡ take (length b) c.front-front.result.now in
+    subst P (sym c.body-body.ensures) (front_body c.args.i c.front-front.result.now)
 
 pub returns-in-Err-storage_line-clause-err : goal.returns-in-Err-storage_line-clause-err
 returns-in-Err-storage_line-clause-err g c =
     let t = text_at_hand c.args.i c.requires c.pass.ensures in
-    let is : c.body-body.result.now ≡ strip_last 13 t.text = c.body-body.ensures ∙ ap (λ x. strip_last 13 (take c.args.i x)) c.front.ensures in
+    let is : c.body-body.result.now ≡ strip_last 13 t.text = c.body-body.ensures ∙ ap (λ x. strip_last 13 (take c.args.i x)) c.front-front.ensures in
     fault_block c.in-Err-storage_line.e t refl (ap asked (sym is) ∙ sym c.in-Storage.ensures.value) c.in-Err-storage_line.ensures.err.0 c.in-Err-storage_line.ensures.err.1
 
 pub returns-in-Storage-clause-ok : goal.returns-in-Storage-clause-ok
 returns-in-Storage-clause-ok g c =
     let t = text_at_hand c.args.i c.requires c.pass.ensures in
-    let is : c.body-body.result.now ≡ strip_last 13 t.text = c.body-body.ensures ∙ ap (λ x. strip_last 13 (take c.args.i x)) c.front.ensures in
+    let is : c.body-body.result.now ≡ strip_last 13 t.text = c.body-body.ensures ∙ ap (λ x. strip_last 13 (take c.args.i x)) c.front-front.ensures in
     let ws : map (λ x. x.now) c.as_slice-parts.result.now ≡ words c.body-body.result.now = search rules in
     let fits : SFits w32 c.in-Storage.exptime = search rules in
     let e = to_z-of_z w32 c.in-Storage.exptime fits in
@@ -28,7 +33,7 @@ returns-in-Storage-clause-ok g c =
 pub returns-clause-ok : goal.returns-clause-ok
 returns-clause-ok g c =
     let t = text_at_hand c.args.i c.requires c.pass-in_default.ensures in
-    let is : c.body-body.result.now ≡ strip_last 13 t.text = c.body-body.ensures ∙ ap (λ x. strip_last 13 (take c.args.i x)) c.front.ensures in
+    let is : c.body-body.result.now ≡ strip_last 13 t.text = c.body-body.ensures ∙ ap (λ x. strip_last 13 (take c.args.i x)) c.front-front.ensures in
     let ws : map (λ x. x.now) c.as_slice-parts.result.now ≡ words c.body-body.result.now = search rules in
     let n : block_size c.asked.result ≡ 0 = search rules in
     let v : c.asked.result ≡ asked c.body-body.result.now = c.asked.ensures.value in

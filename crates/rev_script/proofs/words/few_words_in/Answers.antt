@@ -1,0 +1,12 @@
+use Rattle.std.proofs.Common.{◌≡◌, ◌↔◌, ℕ, ◌<◌, ◌≤◌, List, length, get_or, take, sym, ◌∙◌, ap, arith}
+use Rattle.std.proofs.lemmas.List.{get_or-take}
+use Rattle.rev_script.proofs.words.few_words_in.Goals as goal
+
+told_of : (text front : List ℕ) (k bit : ℕ) → text ≡ take (length text) front → k < length text → (bit ≡ 1) ↔ (get_or front k 0 ≡ 32) → (bit ≡ 1) ↔ (get_or text k 0 ≡ 32)
+told_of text front k bit e l t =
+    let at : get_or text k 0 ≡ get_or front k 0 = ap (λ x. get_or x k 0) e ∙ get_or-take (length text) front k 0 l in
+    (λ h. at ∙ t.0 h, λ h. t.1 (sym at ∙ h))
+
+pub few_words_by-requires-clause-marks : goal.few_words_by-requires-clause-marks
+few_words_by-requires-clause-marks c k l =
+    told_of c.args.text.now c.args.front.now k _ c.requires.begins l (c.spaces.ensures k (omega (arith, c.if-text-le-MARKED.true)))
