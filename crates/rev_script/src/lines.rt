@@ -338,6 +338,23 @@ fn line_at_hand<S: Source, A: Allocator + Clone>(
                 Ok(line) => Ok(Some(line)),
             }
         }
+        // (the two kinds that most lines are have ways out of their own, where nothing of another kind is cleared or copied)
+        Command::Retrieval { with_cas } => {
+            let line = retrieval_line(alloc, with_cas, parts);
+            bytes.pass(i + 1);
+            match line {
+                Err(_) => Err(LineFault::Memory),
+                Ok(line) => Ok(Some(line)),
+            }
+        }
+        Command::Update { command, noreply } => {
+            let line = update_line(alloc, command, noreply, parts);
+            bytes.pass(i + 1);
+            match line {
+                Err(_) => Err(LineFault::Memory),
+                Ok(line) => Ok(Some(line)),
+            }
+        }
         other => {
             let line = plain_line(alloc, other, parts);
             bytes.pass(i + 1);

@@ -4,6 +4,7 @@ use Rattle.std.specs.Io.BufRead.{strip_last}
 use Rattle.rev_script.specs.Words.{words, word}
 use Rattle.rev_script.specs.Commands.{asked}
 use Rattle.rev_script.specs.Script.{block_size, line_of}
+use Rattle.rev_script.specs.declared.command.Command.TheVariants.{Retrieval, Update}
 use Rattle.rev_script.proofs.Pieces.{text_at_hand}
 use Rattle.rev_script.proofs.Next.{next_done, next_block, fault_block, front_body}
 use Rattle.rev_script.proofs.lines.line_at_hand.Goals as goal
@@ -38,4 +39,22 @@ returns-clause-ok g c =
     let n : block_size c.asked.result ≡ 0 = search rules in
     let v : c.asked.result ≡ asked c.body-body.result.now = c.asked.ensures.value in
     next_done t c.body-body.result.now is _ (λ f. absurd (cc)) (ap block_size (sym v) ∙ n)
-    (c.in-Ok-line.ensures ∙ ap (λ l. line_of c.asked.result l []) ws ∙ ap (λ a. line_of a (words c.body-body.result.now) []) v)
+    (c.in-Ok-line-3.ensures ∙ ap (λ l. line_of c.asked.result l []) ws ∙ ap (λ a. line_of a (words c.body-body.result.now) []) v)
+
+pub returns-in-Retrieval-clause-ok : goal.returns-in-Retrieval-clause-ok
+returns-in-Retrieval-clause-ok g c =
+    let t = text_at_hand c.args.i c.requires c.pass-in-Retrieval.ensures in
+    let is : c.body-body.result.now ≡ strip_last 13 t.text = c.body-body.ensures ∙ ap (λ x. strip_last 13 (take c.args.i x)) c.front-front.ensures in
+    let ws : map (λ x. x.now) c.as_slice-parts.result.now ≡ words c.body-body.result.now = search rules in
+    let v : Retrieval c.in-Retrieval.with_cas ≡ asked c.body-body.result.now = c.in-Retrieval.ensures.value in
+    next_done t c.body-body.result.now is _ (λ f. absurd (cc)) (ap block_size (sym v))
+    (c.in-Ok-line.ensures ∙ ap (λ l. line_of (Retrieval c.in-Retrieval.with_cas) l []) ws ∙ ap (λ a. line_of a (words c.body-body.result.now) []) v)
+
+pub returns-in-Update-clause-ok : goal.returns-in-Update-clause-ok
+returns-in-Update-clause-ok g c =
+    let t = text_at_hand c.args.i c.requires c.pass-in-Update.ensures in
+    let is : c.body-body.result.now ≡ strip_last 13 t.text = c.body-body.ensures ∙ ap (λ x. strip_last 13 (take c.args.i x)) c.front-front.ensures in
+    let ws : map (λ x. x.now) c.as_slice-parts.result.now ≡ words c.body-body.result.now = search rules in
+    let v : Update c.in-Update.command c.in-Update.noreply ≡ asked c.body-body.result.now = c.in-Update.ensures.value in
+    next_done t c.body-body.result.now is _ (λ f. absurd (cc)) (ap block_size (sym v))
+    (c.in-Ok-line-2.ensures ∙ ap (λ l. line_of (Update c.in-Update.command c.in-Update.noreply) l []) ws ∙ ap (λ a. line_of a (words c.body-body.result.now) []) v)
