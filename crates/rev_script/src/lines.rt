@@ -180,7 +180,15 @@ fn asked_of<A: Allocator + Clone>(
     asked_by(alloc, asked(body, parts), parts)
 }
 
-// What a line asks for, by its bytes without their ending. A line of few words takes no memory for their list.
+// What a line of any number of words asks for, by its bytes without their ending.
+fn asked_of_many<A: Allocator + Clone>(alloc: A, body: &[u8]) -> Result<Asked<A>, AllocError>
+    ensures { IfOk result (λ a. IsAsked a (asked body.now) (words body.now)) }
+{
+    let words = words(alloc.clone()?, body)?;
+    asked_of(alloc, body, words.as_slice())
+}
+
+// The same. A line of few words takes no memory for their list.
 fn asked_line<A: Allocator + Clone>(alloc: A, body: &[u8]) -> Result<Asked<A>, AllocError>
     ensures { IfOk result (λ a. IsAsked a (asked body.now) (words body.now)) }
 {
@@ -188,8 +196,7 @@ fn asked_line<A: Allocator + Clone>(alloc: A, body: &[u8]) -> Result<Asked<A>, A
     if few_words(&mut few, body) {
         return asked_of(alloc, body, few.as_slice());
     }
-    let words = words(alloc.clone()?, body)?;
-    asked_of(alloc, body, words.as_slice())
+    asked_of_many(alloc, body)
 }
 
 // The data of a storage line, from what was kept of its data block.
@@ -296,11 +303,48 @@ fn copied_line<S: Source, A: Allocator + Clone>(
     }
 }
 
+// Takes a line whose LF stands at this place of the bytes at the front, and its data block: a line of any number of words.
+fn many_at_hand<S: Source, A: Allocator + Clone>(
+    bytes: &mut ByteReader<S>,
+    text: &Vec<u8, A>,
+    i: usize,
+) -> Result<Option<Line<A>>, LineFault>
+    requires { (i < length (front bytes.old)) × (has_lf (take i (front bytes.old)) ≡ false)
+        × (take (i + 1) (front bytes.old) ≡ take i (front bytes.old) ++ 10 ∷ []) }
+    ensures ok { IfOk result (λ line. IsNext S.told bytes.old bytes.new (option_map view line)) }
+    ensures err { IfErr result (λ e. IsFault S.told bytes.old bytes.new e) }
+{
+    let (alloc, other) = match two_handles(text) {
+        Err(_) => return Err(LineFault::Memory),
+        Ok(pair) => pair,
+    };
+    let asked = asked_of_many(alloc, body(&bytes.front()[..i]));
+    bytes.pass(i + 1);
+    let asked = match asked {
+        Err(_) => return Err(LineFault::Memory),
+        Ok(asked) => asked,
+    };
+    match asked {
+        Asked::Done(line) => Ok(Some(line)),
+        Asked::Storage {
+            command,
+            key,
+            flags,
+            exptime,
+            size,
+            noreply,
+        } => match storage_line(bytes, other, command, key, flags, exptime, size, noreply) {
+            Err(e) => Err(e),
+            Ok(line) => Ok(Some(line)),
+        },
+    }
+}
+
 // Takes a line whose LF stands at this place of the bytes at the front, and its data block. A line of few words is looked at
 // where it lies.
 fn line_at_hand<S: Source, A: Allocator + Clone>(
     bytes: &mut ByteReader<S>,
-    text: &mut Vec<u8, A>,
+    text: &Vec<u8, A>,
     i: usize,
 ) -> Result<Option<Line<A>>, LineFault>
     requires { (i < length (front bytes.old)) × (has_lf (take i (front bytes.old)) ≡ false)
@@ -312,7 +356,7 @@ fn line_at_hand<S: Source, A: Allocator + Clone>(
     let body = body(&front[..i]);
     let mut few = ArrayVec::new();
     if !few_words_in(&mut few, body, front) {
-        return copied_line(bytes, text);
+        return many_at_hand(bytes, text, i);
     }
     let parts = few.as_slice();
     let (alloc, other) = match two_handles(text) {
