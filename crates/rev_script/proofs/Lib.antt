@@ -10,3 +10,4 @@ pub mod Cuts
 pub mod Next
 pub mod Each
 pub mod Split
+pub mod Usual

@@ -93,7 +93,7 @@ fn other_command(name: &[u8], words: &[&[u8]]) -> Command
 }
 
 #[tactic(auto, unfolding(crate::specs::Commands::command))]
-fn command_of(words: &[&[u8]]) -> Command
+fn any_command(words: &[&[u8]]) -> Command
     ensures value { result ≡ command (map (λ x. x.now) words.now) }
     ensures keyed { HasKeys result (map (λ x. x.now) words.now) }
 {
@@ -108,6 +108,18 @@ fn command_of(words: &[&[u8]]) -> Command
         Some(command) => storage_command(command, words),
         None => other_command(name, words),
     }
+}
+
+// The same. A line that asks for items, as most lines do, is told by one comparison.
+#[inline(always)]
+fn command_of(words: &[&[u8]]) -> Command
+    ensures value { result ≡ command (map (λ x. x.now) words.now) }
+    ensures keyed { HasKeys result (map (λ x. x.now) words.now) }
+{
+    if is_word(word(words, 0), b"get") {
+        return retrieval_command(false, words);
+    }
+    any_command(words)
 }
 
 // How many bytes such a line may have without its ending.

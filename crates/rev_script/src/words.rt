@@ -51,11 +51,7 @@ fn keep_word<'a>(few: &mut ArrayVec<&'a [u8], USUAL_WORDS>, word: &'a [u8]) -> b
 
 // The same, for a text whose spaces are marked: from one mark to the next no byte is looked at.
 #[inline(always)]
-fn few_words_by<'a>(
-    few: &mut ArrayVec<&'a [u8], USUAL_WORDS>,
-    text: &'a [u8],
-    spaces: u64,
-) -> bool
+fn few_words_by<'a>(few: &mut ArrayVec<&'a [u8], USUAL_WORDS>, text: &'a [u8], spaces: u64) -> bool
     requires empty { few.old.items ≡ [] }
     requires short { length text.now ≤ MARKED }
     requires marks { (k : ℕ) → k < length text.now → ((bit_at spaces k ≡ 1) ↔ (get_or text.now k 0 ≡ 32)) }

@@ -20,7 +20,7 @@ words-preserved c =
     let l : end < length text = omega (arith, c.first_mark-end.ensures.bound, c.if-end-text.false) in (
       left_of end c.without-left.result s c.requires.short l o c.first_mark-end.ensures.below c.without-left.ensures.gone c.without-left.ensures.kept,
       ap (λ ws. ws ++ words (drop (end + 1) text)) (c.keep_word.ensures c.if-not-keep_word.false)
-      ∙ append_assoc (map (λ x. x.now) c.words.few.items) (word_or_none (take (end - c.words.from) (drop c.words.from text))) (words (drop (end + 1) text))
-      ∙ ap (λ ws. map (λ x. x.now) c.words.few.items ++ ws) (sym (part end s l o c.first_mark-end.ensures.below (c.first_mark-end.ensures.set l)))
-      ∙ c.words.invariant.1,
+          ∙ append_assoc (map (λ x. x.now) c.words.few.items) (word_or_none (take (end - c.words.from) (drop c.words.from text))) (words (drop (end + 1) text))
+          ∙ ap (λ ws. map (λ x. x.now) c.words.few.items ++ ws) (sym (part end s l o c.first_mark-end.ensures.below (c.first_mark-end.ensures.set l)))
+          ∙ c.words.invariant.1,
     )
