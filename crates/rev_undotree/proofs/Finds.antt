@@ -7,6 +7,8 @@ use Rattle.std.proofs.lemmas.Bool.Decides.{nat_tests}
 use Rattle.rev_undotree.specs.Tree.{PlainNode, PlainBranch, Forks, bare, fork, fork_at, count}
 use Rattle.rev_undotree.specs.Ways.{reach, no_node}
 use Rattle.rev_undotree.specs.Rows.{number_after, start_at, or_else, find_run, find_forks, row}
+use Rattle.rev_undotree.specs.Children.{next_number}
+use Rattle.std.specs.Option.{option_eq}
 use Rattle.rev_undotree.specs.Paths.{IsPath}
 use Rattle.rev_undotree.specs.Finds.{RisesFrom, RisesRun, RisesForks, Rises, head_number, bar, IsFirst, Fitted, Found, IsMissing}
 use Rattle.rev_undotree.specs.declared.junction.Junction.{Junction}
@@ -28,6 +30,17 @@ rises_run [] i j h l m = absurd (omega arith)
 rises_run (e ∷ es) i zero h l m = absurd (omega arith)
 rises_run (e ∷ es) zero (suc j) h l m = rises_from e.number es j h (omega arith)
 rises_run (e ∷ es) (suc i) (suc j) h l m = rises_run es i j (rises_tail e.number es h) (omega arith) (omega arith)
+
+rises_from_by : (p : ℕ) (run : List PlainNode) (i : ℕ) → RisesFrom p run → i < length run → p + suc i ≤ number_of run i
+rises_from_by p [] i h l = absurd (omega arith)
+rises_from_by p (e ∷ es) zero h l = let a = h.0 in omega (arith, a)
+rises_from_by p (e ∷ es) (suc i) h l = let k = rises_from_by e.number es i h.1 (omega arith) in let a = h.0 in omega (arith, k, a)
+
+-- along a run, the numbers rise by one at least
+pub rises_by : (run : List PlainNode) (i : ℕ) → RisesRun run → i < length run → number_of run 0 + i ≤ number_of run i
+rises_by [] i h l = absurd (omega arith)
+rises_by (e ∷ es) zero h l = omega arith
+rises_by (e ∷ es) (suc i) h l = rises_from_by e.number es i h (omega arith)
 
 pub less_or_same : (i m : ℕ) → i ≤ m → (i < m) ⊎ (i ≡ m)
 less_or_same zero zero h = inr refl
@@ -140,6 +153,38 @@ missing n b h k p c = ap (λ z. or_else z (find_forks n p b.run b.forks)) (h p c
 
 pub missing_more : (n i : ℕ) (f : Forks) (c : PlainBranch) → c ≡ fork_at f i → IsMissing n c → ((j : ℕ) → j < i → IsMissing n (fork_at f j)) → (j : ℕ) → j < i + 1 → IsMissing n (fork_at f j)
 missing_more n i f c e h k j l = ⊎_elim (λ z. k j z) (λ z. subst (λ y. IsMissing n y) (e ∙ ap (λ y. fork_at f y) (sym z)) h) (less_or_same j i (omega arith))
+
+-- a run's first node, and where a number stands at most
+pub next_read : (run : List PlainNode) (k n : ℕ) → next_number k run ≡ Some n → (k < length run) × (number_of run k ≡ n)
+next_read [] k n h = cc
+next_read (e ∷ es) zero n h = (omega arith, cc)
+next_read (e ∷ es) (suc k) n h = let r = next_read es k n h in let l = r.0 in (omega (arith, l), r.1)
+
+pub none_first : (run : List PlainNode) → next_number 0 run ≡ None → (n p : ℕ) (c : Bool) → find_run n p c run ≡ None
+none_first [] h n p c = refl
+none_first (e ∷ es) h n p c = cc
+
+next_there : (run : List PlainNode) (k : ℕ) → k < length run → next_number k run ≡ Some (number_of run k)
+next_there [] k l = absurd (omega arith)
+next_there (e ∷ es) zero l = refl
+next_there (e ∷ es) (suc k) l = next_there es k (omega arith)
+
+-- behind the furthest place where a number can stand, and there too if that place has another, the numbers are over it
+pub over_furthest : (run : List PlainNode) (n first : ℕ) → RisesRun run → next_number 0 run ≡ Some first → (next_number (n - first) run ≡ Some n → ⊥) → (i : ℕ) → n - first ≤ i → i < length run → n < number_of run i
+over_furthest run n first rises h apart i a l =
+    let f = (next_read run 0 first h).1 in
+    let r = rises_by run i rises l in
+    let there : number_of run i ≡ n → n - first ≡ i → ⊥ = λ o m. apart (ap (λ z. next_number z run) m ∙ next_there run i l ∙ ap (λ z. Some z) o) in
+    ⊎_elim (λ m. omega (arith, f, r, m)) (λ m. ⊎_elim (λ o. o) (λ o. absurd (there (sym o) m)) (less_or_same n (number_of run i) (omega (arith, f, r, m)))) (less_or_same (n - first) i a)
+
+-- what `==` says of a number that may be there
+pub same_number : (o : Option ℕ) (n : ℕ) → option_eq eqb o (Some n) ≡ true → o ≡ Some n
+same_number None n h = cc
+same_number (Some m) n h = let e : m ≡ n = grind (arith, nat_tests) in ap (λ z. Some z) e
+
+pub number_same : (o : Option ℕ) (n : ℕ) → o ≡ Some n → option_eq eqb o (Some n) ≡ true
+number_same None n h = cc
+number_same (Some m) n h = let e : m ≡ n = cc in grind (arith, nat_tests)
 
 pub middle_low : (low high : ℕ) → low < high → low + (high - low) / 2 < high
 middle_low low high h = omega (arith, h)

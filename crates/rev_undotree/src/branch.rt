@@ -116,14 +116,36 @@ impl<A: Allocator> Branch<A> {
     }
 
     /// Where the node `number` stands in the run.
+    ///
+    /// Numbers rise along a run, so a node stands at most as far in as its number is above the first one's, and just there
+    /// where all before it were played in a row. That place is looked at first.
     fn seek(&self, number: u32) -> Option<usize>
         requires { RisesRun self.now.run }
         ensures some { IfSome result (λ k. (k < length self.now.run) × ((get_or self.now.run k no_node).number ≡ number)) }
         ensures none { IfNone result ((p : ℕ) (c : Bool) → find_run number p c self.now.run ≡ None) }
         ensures small { length self.now.run < 2 ^ 63 }
     {
+        let len = self.len();
+        let Some(first) = self.next_at(0) else {
+            return None;
+        };
+        let furthest = number.saturating_sub(first) as usize;
+        if self.next_at(furthest) == Some(number) {
+            return Some(furthest);
+        }
+        self.bisect(number, furthest.min(len))
+    }
+
+    // Where the node `number` stands in the run, behind whose first `end` nodes the numbers are over it.
+    fn bisect(&self, number: u32, end: usize) -> Option<usize>
+        requires rises { RisesRun self.now.run }
+        requires within { end ≤ length self.now.run }
+        requires over { (i : ℕ) → end ≤ i → i < length self.now.run → number < (get_or self.now.run i no_node).number }
+        ensures some { IfSome result (λ k. (k < length self.now.run) × ((get_or self.now.run k no_node).number ≡ number)) }
+        ensures none { IfNone result ((p : ℕ) (c : Bool) → find_run number p c self.now.run ≡ None) }
+    {
         let mut low = 0;
-        let mut high = self.len();
+        let mut high = end;
         'narrow: while low < high {
             let middle = low + (high - low) / 2;
             let found = self.number(middle);

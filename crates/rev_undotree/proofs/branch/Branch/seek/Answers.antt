@@ -1,38 +1,20 @@
-use Rattle.std.proofs.Common.{◌<◌, ◌-◌, length, ◌+◌, ◌/◌, arith, sym, ◌∙◌}
-use Rattle.rev_undotree.proofs.Finds.{seek_low, seek_high, sought, middle_low, number_of}
+use Rattle.std.proofs.Common.{sym, ap, ◌∙◌, arith}
+use Rattle.std.proofs.lemmas.Bool.{false≢true}
+use Rattle.rev_undotree.specs.Children.{next_number}
+use Rattle.rev_undotree.proofs.Finds.{next_read, none_first, over_furthest, same_number, number_same}
 use Rattle.rev_undotree.proofs.branch.Branch.seek.Goals as goal
 
-pub narrow-init : goal.narrow-init
-narrow-init g c = let e = c.len-high.ensures.value in (omega (arith, e), λ i h. absurd (omega (arith, h)), λ i h l. absurd (omega (arith, e, h, l)))
+pub returns-in_default-clause-none : goal.returns-in_default-clause-none
+returns-in_default-clause-none g c = λ p d. none_first c.args.self.now.run (sym c.next_at.ensures ∙ c.in_default.is) c.args.number p d
 
-pub number-found-requires : goal.number-found-requires
-number-found-requires g c = let m = middle_low c.narrow.low c.narrow.high c.narrow-test.true in let h = c.narrow.invariant.0 in omega (arith, m, h)
+pub returns-then-eq-clause-some : goal.returns-then-eq-clause-some
+returns-then-eq-clause-some g c = next_read _ _ c.args.number (sym c.next_at-2.ensures ∙ same_number c.next_at-2.result c.args.number (sym c.eq.ensures ∙ c.if-eq.true))
 
-pub returns-then-found-number-clause-some : goal.returns-then-found-number-clause-some
-returns-then-found-number-clause-some g c =
-    let m = middle_low c.narrow.low c.narrow.high c.narrow-test.true in
-    let h = c.narrow.invariant.0 in
-    (omega (arith, m, h), sym c.number-found.ensures ∙ c.if-found-number.true)
-
-pub narrow-preserved-then-found-number-2 : goal.narrow-preserved-then-found-number-2
-narrow-preserved-then-found-number-2 g c =
-    let m = middle_low c.narrow.low c.narrow.high c.narrow-test.true in
-    let h = c.narrow.invariant.0 in
-    let k : c.narrow.low + (c.narrow.high - c.narrow.low) / 2 < length c.args.self.now.run = omega (arith, m, h) in
-    let e = c.number-found.ensures in
-    let t = c.if-found-number-2.true in
-    let l : number_of c.args.self.now.run (c.narrow.low + (c.narrow.high - c.narrow.low) / 2) < c.args.number = omega (arith, e, t) in
-    (h, seek_low c.args.self.now.run _ c.args.number c.requires k l, c.narrow.invariant.2)
-
-pub narrow-preserved : goal.narrow-preserved
-narrow-preserved g c =
-    let m = middle_low c.narrow.low c.narrow.high c.narrow-test.true in
-    let h = c.narrow.invariant.0 in
-    let e = c.number-found.ensures in
-    let t = c.if-found-number-2.false in
-    let u = c.if-found-number.false in
-    let l : c.args.number < number_of c.args.self.now.run (c.narrow.low + (c.narrow.high - c.narrow.low) / 2) = omega (arith, e, t, u) in
-    (omega (arith, m, h), c.narrow.invariant.1, seek_high c.args.self.now.run _ c.args.number c.requires l)
-
-pub returns-clause-none : goal.returns-clause-none
-returns-clause-none g c = let t = c.narrow-test.false in sought c.args.self.now.run c.args.number c.narrow.low c.narrow.high (omega (arith, t)) c.narrow.invariant.1 c.narrow.invariant.2
+pub bisect-requires-clause-over : goal.bisect-requires-clause-over
+bisect-requires-clause-over g c = λ i a l.
+    let s = c.saturating_sub-furthest.ensures in
+    let m = c.min.ensures in
+    let n = c.len-len.ensures.value in
+    over_furthest c.args.self.now.run c.args.number c.in-Some.first c.requires (sym c.next_at.ensures ∙ c.in-Some.is)
+    (λ e. false≢true (sym c.if-eq.false ∙ c.eq.ensures ∙ number_same c.next_at-2.result c.args.number (c.next_at-2.ensures ∙ ap (λ z. next_number z c.args.self.now.run) s ∙ e)))
+    i (omega (arith, a, l, m, n, s)) l

@@ -1,6 +1,6 @@
 use Rattle.std.proofs.Common.{◌-◌, ◌<◌, ◌≤◌, ℕ, length, get_or}
 use Rattle.rev_undotree.specs.Ways.{no_node}
-use Rattle.rev_undotree.proofs.branch.Branch.seek.Given as goal
+use Rattle.rev_undotree.proofs.branch.Branch.bisect.Given as goal
 
 abbrev pub invariant-narrow : goal.invariant-narrow
 invariant-narrow g l =
