@@ -94,10 +94,7 @@ fn put_row<A: Allocator + Clone>(
 ) -> Result<(), AllocError>
     ensures { OnOk result (out.new.items ≡ out.old.items ++ row_text session.now node.0 (row_of session.now.rows node.0)) }
 {
-    let Some((step, outcome)) = session.row(node) else {
-        return Ok(());
-    };
-    let Some(parent) = session.parent(node) else {
+    let Some((parent, step, outcome)) = session.row_with_parent(node) else {
         return Ok(());
     };
     put_number(out, node.0 as u64)?;

@@ -224,6 +224,10 @@ placed_parent rows n m b w v x j k t p l o ex e =
     let r = row_below rows b v w k j t l p.path o in
     ap Some (e ∙ ap (λ z. number_at b z k) ex ∙ sym r.2) ∙ sym (ap (λ z. option_parent z) (ap (λ z. row_of rows z) (sym p.numbered) ∙ r.1))
 
+-- the parent that is answered beside a row is the row's
+pub row_parent_is : (rows : List (Option Row)) (n m : ℕ) (r : Row) → row_of rows n ≡ Some r → Some m ≡ parent_of rows n → m ≡ r.parent
+row_parent_is rows n m r e p = let i : Some m ≡ Some r.parent = p ∙ ap (λ z. option_parent z) e in cc
+
 pub missing_row : (issued : ℕ) (b : PlainBranch) (n : ℕ) → IsMissing n b → row_of (rows_of issued b) n ≡ None
 missing_row issued b n h =
     ⊎_elim (λ (z : row_of (rows_of issued b) n ≡ None). z)

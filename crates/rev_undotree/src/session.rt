@@ -340,6 +340,27 @@ impl<A: Allocator + Clone> Session<A> {
         }
     }
 
+    /// The parent, the step and the outcome of a node that is held, none for the root: what `parent` and `row` tell, by one
+    /// search for the node.
+    pub fn row_with_parent<'a>(&'a self, node: NodeId) -> Option<(NodeId, &'a Step<A>, Outcome)>
+        ensures some { IfSome result (λ x. (r : Row) × (row_of self.now.rows node.0 ≡ Some r) × (x.0.0 ≡ r.parent) × (plain_step x.1.now ≡ r.step) × (x.2 ≡ outcome_of (at self.now.root self.now.rows r.parent) r.step)) }
+        ensures none { IfNone result (row_of self.now.rows node.0 ≡ None) }
+    {
+        if node.0 == 0 {
+            return None;
+        }
+        let mut way = ArrayVec::new();
+        match self.position.find(node.0, self.issued, &mut way) {
+            Some(at) => {
+                let (step, outcome) = self.position.base.reach(way.as_slice()).step_at(at - 1);
+                let here = above(&mut way, at);
+                let parent = self.position.number_at(way.as_slice(), here);
+                Some((NodeId(parent), step, outcome))
+            }
+            None => None,
+        }
+    }
+
     /// The child by number `index` of a node that is held, counted from 0 by rising number.
     pub fn child(&self, node: NodeId, index: usize) -> Option<NodeId>
         ensures { option_map (λ n. n.0) result ≡ slice_get (children self.now.rows node.0) index }
