@@ -27,9 +27,9 @@ run_send = sent_run.the_send Heap.the_row ghosts send sync frees
 index_send : IsSend (index.the_row Heap.the_row ghosts)
 index_send = sent_index.the_send Heap.the_row ghosts send frees
 
--- a branch, which holds branches
+-- a branch, which holds its forks, each with the place where it leaves the run and with a branch behind a box
 branch_send : IsSend (branch.the_row Heap.the_row ghosts)
-branch_send = sent_branch.send-Branch Heap.the_row ghosts (search sendable) run_send (λ h s. Vec-send _ (Box-send h s))
+branch_send = sent_branch.send-Branch Heap.the_row ghosts run_send (λ h s. Vec-send h s) (search sendable) (λ h s. Box-send h s)
 
 -- a session
 session_send : IsSend (session.the_row Heap.the_row ghosts)

@@ -12,6 +12,7 @@ pub mod Growth
 pub mod Moves
 pub mod Paths
 pub mod Finds
+pub mod Places
 pub mod Fits
 pub mod Held
 pub mod Spots

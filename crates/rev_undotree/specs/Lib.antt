@@ -3,6 +3,7 @@ pub mod Links
 pub mod Cuts
 pub mod Steps
 pub mod Tree
+pub mod Places
 pub mod Runs
 pub mod Ways
 pub mod States

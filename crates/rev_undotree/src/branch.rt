@@ -5,6 +5,7 @@ ghost use Rattle.rev_steps.specs.Plain.{plain_step};
 ghost use Rattle.rev_undotree.specs.Steps.{Fits, turned};
 ghost use Rattle.rev_undotree.specs.Ways.{IsWay, reach, undo_of, at_end, with_undo, with_node, with_fork, no_node};
 ghost use Rattle.rev_undotree.specs.Tree.{PlainNode, count, bare, fork_at};
+ghost use Rattle.rev_undotree.specs.Places.{placed};
 ghost use Rattle.rev_undotree.specs.Rows.{find_run};
 ghost use Rattle.rev_undotree.specs.Order.{head_number};
 ghost use Rattle.rev_undotree.specs.Prunes.{trimmed, cropped};
@@ -21,29 +22,42 @@ use rev_steps::Step;
 use std::alloc::{AllocError, Allocator};
 use std::marker::Model;
 
-/// A run of nodes, where it leaves its parent's run, and the branches that fork from it.
+/// A run of nodes, and the branches that fork from it. Where it leaves its parent's run is known there alone.
+#[cycle(tree)]
 #[derive(Drop)]
 pub struct Branch<A: Allocator> {
-    from: usize,
     run: Run<A>,
-    forks: Vec<Box<Branch<A>, A>, A>,
+    forks: Vec<Fork<A>, A>,
+}
+
+/// A branch that forks from a run. A run may have thousands of forks, so the place where it leaves the run stands beside the
+/// box: who looks for the forks at one place waits for no memory of the others.
+#[cycle(tree)]
+#[derive(Drop)]
+struct Fork<A: Allocator> {
+    from: usize,
+    branch: Box<Branch<A>, A>,
 }
 
 impl<A: Allocator> Model for Branch<A> {
     ghost use Rattle.std.specs.Prelude.{map};
     ghost use Rattle.std.proofs.Common.{arith};
     ghost use Rattle.std.specs.Coded.{codes};
-    ghost use Rattle.rev_undotree.specs.Tree.{PlainBranch, branch_code, forks_of, branch_size, most_le-size};
+    ghost use Rattle.rev_undotree.specs.Tree.{PlainBranch, branch_code, forks_of, branch_size};
+    ghost use Rattle.rev_undotree.specs.Places.{placed};
 
     ghost Value = { PlainBranch };
 
     ghost coded = { branch_code (Prim.hlevel codes) };
 
-    ghost view = { λ a. record { from = a.from; run = a.run; forks = forks_of (map (λ b. b.value) a.forks.items) } };
+    ghost view = { λ a. record { from = 0; run = a.run; forks = forks_of (map (λ f. placed f.from f.branch.value) a.forks.items) } };
 
     ghost size = { branch_size };
 
-    ghost size_decreases = { λ a h. omega (arith, most_le-size (λ b. b.value) a.forks.items) };
+    ghost use Rattle.rev_undotree.specs.Places.{most_le-forks};
+    ghost use Rattle.rev_undotree.specs.declared.branch.Branch.TheDeep.{deep-Fork};
+
+    ghost size_decreases = { λ a h. omega (arith, most_le-forks (deep-Fork A A.Allocator) (λ f. placed f.from f.branch.value) a.forks.items (λ f. omega arith)) };
 }
 
 impl<A: Allocator> Branch<A> {
@@ -58,8 +72,8 @@ impl<A: Allocator> Branch<A> {
         match way {
             [] => self.run.turn(at, store),
             [junction, rest @ ..] => {
-                let child = &mut self.forks[junction.fork];
-                child.turn(rest, at, store);
+                let fork = &mut self.forks[junction.fork];
+                fork.branch.turn(rest, at, store);
             }
         }
     }
@@ -67,11 +81,11 @@ impl<A: Allocator> Branch<A> {
     /// The branch at the end of `way`.
     pub fn reach<'a>(&'a self, way: &[Junction]) -> &'a Branch<A>
         requires { IsWay self.now way.now }
-        ensures { result.now ≡ reach self.now way.now }
+        ensures { result.now ≡ placed 0 (reach self.now way.now) }
     {
         match way {
             [] => self,
-            [junction, rest @ ..] => self.forks[junction.fork].reach(rest),
+            [junction, rest @ ..] => self.forks[junction.fork].branch.reach(rest),
         }
     }
 
@@ -175,11 +189,11 @@ impl<A: Allocator> Branch<A> {
                 if junction.taken > self.len() || junction.fork >= self.fork_count() {
                     return None;
                 }
-                let child = &self.forks[junction.fork];
-                if child.from != junction.taken {
+                let fork = &self.forks[junction.fork];
+                if fork.from != junction.taken {
                     return None;
                 }
-                child.spot(rest, number)
+                fork.branch.spot(rest, number)
             }
         }
     }
@@ -204,7 +218,7 @@ impl<A: Allocator> Branch<A> {
                 taken: child.from,
                 fork,
             });
-            match child.locate(number, way) {
+            match child.branch.locate(number, way) {
                 Some(at) => return Some(at),
                 None => {}
             }
@@ -233,7 +247,7 @@ impl<A: Allocator> Branch<A> {
         if child.from != here {
             return None;
         }
-        child.next_at(0)
+        child.branch.next_at(0)
     }
 
     /// The child by number `index` of the node behind the first `here` of the run, by rising number.
@@ -273,8 +287,8 @@ impl<A: Allocator> Branch<A> {
         match way {
             [] => self.run.push(node),
             [junction, rest @ ..] => {
-                let child = &mut self.forks[junction.fork];
-                child.extend(rest, node)
+                let fork = &mut self.forks[junction.fork];
+                fork.branch.extend(rest, node)
             }
         }
     }
@@ -301,21 +315,18 @@ impl<A: Allocator> Branch<A> {
         match way {
             [] => sprout(&mut self.forks, alloc, from, node),
             [junction, rest @ ..] => {
-                let child = &mut self.forks[junction.fork];
-                child.split(rest, alloc, from, node)
+                let fork = &mut self.forks[junction.fork];
+                fork.branch.split(rest, alloc, from, node)
             }
         }
     }
 
-    /// Empties the branch if it leaves its parent's run behind the first `at` nodes.
-    fn trim(&mut self, at: usize)
-        ensures { self.new ≡ trimmed at self.old }
+    /// Leaves no node.
+    fn clear(&mut self)
+        ensures { self.new ≡ record { from = 0; run = []; forks = bare } }
     {
-        if self.from > at {
-            self.from = 0;
-            self.run.truncate(0);
-            self.forks.clear();
-        }
+        self.run.truncate(0);
+        self.forks.clear();
     }
 
     /// Keeps the first `at` nodes of the run, and the forks that leave it there.
@@ -334,8 +345,8 @@ impl<A: Allocator> Branch<A> {
         match way {
             [] => self.crop(at),
             [junction, rest @ ..] => {
-                let child = &mut self.forks[junction.fork];
-                child.prune(rest, at);
+                let fork = &mut self.forks[junction.fork];
+                fork.branch.prune(rest, at);
             }
         }
     }
@@ -346,29 +357,19 @@ impl<A: Allocator> Branch<A> {
         A: Clone,
         ensures { IfOk result (λ b. b ≡ record { from = 0; run = []; forks = bare }) }
     {
-        Branch::empty(alloc, 0)
-    }
-
-    // A branch with no node that leaves its parent's run at `from`.
-    fn empty(alloc: &A, from: usize) -> Result<Branch<A>, AllocError>
-    where
-        A: Clone,
-        ensures { IfOk result (λ b. b ≡ record { from = from; run = []; forks = bare }) }
-    {
         Ok(Branch {
-            from,
             run: Run::new(alloc)?,
             forks: Vec::new(alloc.clone()?),
         })
     }
 
     // The same in a box.
-    fn boxed(alloc: &A, from: usize) -> Result<Box<Branch<A>, A>, AllocError>
+    fn boxed(alloc: &A) -> Result<Box<Branch<A>, A>, AllocError>
     where
         A: Clone,
-        ensures { IfOk result (λ b. b.value ≡ record { from = from; run = []; forks = bare }) }
+        ensures { IfOk result (λ b. b.value ≡ record { from = 0; run = []; forks = bare }) }
     {
-        match Box::new(alloc.clone()?, Branch::empty(alloc, from)?) {
+        match Box::new(alloc.clone()?, Branch::root(alloc)?) {
             Ok(branch) => Ok(branch),
             Err(refused) => {
                 drop(refused);
@@ -378,32 +379,44 @@ impl<A: Allocator> Branch<A> {
     }
 }
 
+impl<A: Allocator> Fork<A> {
+    /// Empties the branch if it leaves its run behind the first `at` nodes.
+    fn trim(&mut self, at: usize)
+        ensures { placed self.new.from self.new.branch.value ≡ trimmed at (placed self.old.from self.old.branch.value) }
+    {
+        if self.from > at {
+            self.from = 0;
+            self.branch.clear();
+        }
+    }
+}
+
 // Adds a branch of the node that is held out, which leaves its parent's run at `from`. Err: a growth was refused, and the
 // node is still there.
 fn sprout<A: Allocator + Clone>(
-    forks: &mut Vec<Box<Branch<A>, A>, A>,
+    forks: &mut Vec<Fork<A>, A>,
     alloc: &A,
     from: usize,
     node: &mut Node<A>,
 ) -> Result<(), AllocError>
     requires { IsSome node.old }
-    ensures ok { OnOk result ((n : PlainNode) → node.old ≡ Some n → map (λ b. b.value) forks.new.items ≡ map (λ b. b.value) forks.old.items ++ record { from = from; run = n ∷ []; forks = bare } ∷ []) }
+    ensures ok { OnOk result ((n : PlainNode) → node.old ≡ Some n → map (λ f. placed f.from f.branch.value) forks.new.items ≡ map (λ f. placed f.from f.branch.value) forks.old.items ++ record { from = from; run = n ∷ []; forks = bare } ∷ []) }
     ensures err { OnErr result (forks.new.items ≡ forks.old.items) }
     ensures taken { OnOk result (node.new ≡ None) }
     ensures returned { OnErr result (node.new ≡ node.old) }
 {
     forks.reserve(1)?;
-    let mut branch = Branch::boxed(alloc, from)?;
+    let mut branch = Branch::boxed(alloc)?;
     branch.run.push(node)?;
-    match forks.push(branch) {
+    match forks.push(Fork { from, branch }) {
         Ok(()) => Ok(()),
         Err(_) => unreachable!(),
     }
 }
 
 // Empties each fork that leaves its run behind the first `at` nodes.
-fn trim_forks<A: Allocator>(forks: &mut Vec<Box<Branch<A>, A>, A>, at: usize)
-    ensures items { map (λ b. b.value) forks.new.items ≡ map (λ b. trimmed at b.value) forks.old.items }
+fn trim_forks<A: Allocator>(forks: &mut Vec<Fork<A>, A>, at: usize)
+    ensures items { map (λ f. placed f.from f.branch.value) forks.new.items ≡ map (λ f. trimmed at (placed f.from f.branch.value)) forks.old.items }
     ensures length { length forks.new.items ≡ length forks.old.items }
 {
     for fork in forks.iter_mut() {

@@ -1,6 +1,8 @@
 use Rattle.std.proofs.Common.{rules, ◌≡◌, ◌<◌, ◌≤◌, length, ◌+◌, arith, ap, sym, ◌∙◌, refl, ◌++◌, ◌∷◌, [], subst, add-one}
 use Rattle.rev_undotree.specs.Tree.{count}
 use Rattle.rev_undotree.specs.declared.junction.Junction.{Junction}
+use Rattle.rev_undotree.specs.Places.{placed}
+use Rattle.rev_undotree.proofs.Places.{found_anywhere}
 use Rattle.rev_undotree.proofs.Finds.{child_at, fork_within, locate_room, locate_down, pop_back, found_here, found_below, missing, missing_more}
 use Rattle.rev_undotree.proofs.branch.Branch.+locate.Goals as goal
 
@@ -15,7 +17,7 @@ pub index-child-requires : goal.index-child-requires
 index-child-requires g t c =
     let l = c.each-test.true in
     let e = c.fork_count.ensures in
-    rw c.self.inside.forks.ok.0 (fork_within (λ b. b.value) _ c.args.self.now c.each.fork (sym (ap (λ z. z.forks) c.self.view_is)) (omega (arith, l, e)))
+    rw c.self.inside.forks.ok.0 (fork_within (λ f. placed f.from f.branch.value) _ c.args.self.now c.each.fork (sym (ap (λ z. z.forks) c.self.view_is)) (omega (arith, l, e)))
 
 pub push-requires : goal.push-requires
 push-requires g t c =
@@ -30,10 +32,10 @@ locate-requires g t c κs within =
     let l = c.each-test.true in
     let e = c.fork_count.ensures in
     let h : c.each.fork < count c.args.self.now.forks = omega (arith, l, e) in
-    let p : Junction = record { taken = c.behind-child.inside.from; fork = c.each.fork } in
-    let k = child_at (λ b. b.value) c.self.inside.forks.items c.args.self.now c.each.fork c.index-child.result.now c.deref-in-each.result.now (sym (ap (λ z. z.forks) c.self.view_is)) h c.index-child.ensures c.deref-in-each.ensures in
+    let p : Junction = record { taken = c.index-child.result.now.from; fork = c.each.fork } in
+    let k = child_at (λ f. placed f.from f.branch.value) c.self.inside.forks.items c.args.self.now c.each.fork c.index-child.result.now (placed c.index-child.result.now.from c.deref.result.now) (sym (ap (λ z. z.forks) c.self.view_is)) h c.index-child.ensures (ap (λ z. placed c.index-child.result.now.from z) c.deref.ensures) in
     let w = c.push.ensures.items ∙ ap (λ z. z ++ p ∷ []) c.each.invariant.0 in
-    let d = locate_down c.args.self.now c.deref-in-each.result.now c.args.way.now.items c.push.new.self.items p c.each.fork c.requires.room h c.requires.rises c.requires.fitted k w in
+    let d = locate_down c.args.self.now (placed c.index-child.result.now.from c.deref.result.now) c.args.way.now.items c.push.new.self.items p c.each.fork c.requires.room h c.requires.rises c.requires.fitted k w in
     let m = d.3 in
     (search rules, (search rules, (d.0, (d.1, d.2))))
 
@@ -42,24 +44,23 @@ returns-in-Some-locate-clause-some g t c =
     let l = c.each-test.true in
     let e = c.fork_count.ensures in
     let h : c.each.fork < count c.args.self.now.forks = omega (arith, l, e) in
-    let p : Junction = record { taken = c.behind-child.inside.from; fork = c.each.fork } in
-    let k = child_at (λ b. b.value) c.self.inside.forks.items c.args.self.now c.each.fork c.index-child.result.now c.deref-in-each.result.now (sym (ap (λ z. z.forks) c.self.view_is)) h c.index-child.ensures c.deref-in-each.ensures in
+    let p : Junction = record { taken = c.index-child.result.now.from; fork = c.each.fork } in
+    let k = child_at (λ f. placed f.from f.branch.value) c.self.inside.forks.items c.args.self.now c.each.fork c.index-child.result.now (placed c.index-child.result.now.from c.deref.result.now) (sym (ap (λ z. z.forks) c.self.view_is)) h c.index-child.ensures (ap (λ z. placed c.index-child.result.now.from z) c.deref.ensures) in
     let w = c.push.ensures.items ∙ ap (λ z. z ++ p ∷ []) c.each.invariant.0 in
-    let d = locate_down c.args.self.now c.deref-in-each.result.now c.args.way.now.items c.push.new.self.items p c.each.fork c.requires.room h c.requires.rises c.requires.fitted k w in
-    let f : c.deref-in-each.result.now.from ≡ c.behind-child.inside.from = ap (λ z. z.from) (c.deref-in-each.ensures ∙ sym c.deref.ensures ∙ sym c.behind-child.view_is) in
-    found_below c.args.number c.args.self.now c.deref-in-each.result.now c.args.way.now.items c.push.new.self.items c.locate.new.way.items p c.in-Some-locate.at h (subst (λ z. z ≤ length c.args.self.now.run) f d.4) k f w c.in-Some-locate.ensures.some
+    let d = locate_down c.args.self.now (placed c.index-child.result.now.from c.deref.result.now) c.args.way.now.items c.push.new.self.items p c.each.fork c.requires.room h c.requires.rises c.requires.fitted k w in
+    found_below c.args.number c.args.self.now (placed c.index-child.result.now.from c.deref.result.now) c.args.way.now.items c.push.new.self.items c.locate.new.way.items p c.in-Some-locate.at h d.4 k refl w (found_anywhere c.args.number c.index-child.result.now.from c.deref.result.now c.push.new.self.items c.locate.new.way.items c.in-Some-locate.at c.in-Some-locate.ensures.some)
 
 pub each-preserved : goal.each-preserved
 each-preserved g t c =
     let l = c.each-test.true in
     let e = c.fork_count.ensures in
     let h : c.each.fork < count c.args.self.now.forks = omega (arith, l, e) in
-    let p : Junction = record { taken = c.behind-child.inside.from; fork = c.each.fork } in
-    let k = child_at (λ b. b.value) c.self.inside.forks.items c.args.self.now c.each.fork c.index-child.result.now c.deref-in-each.result.now (sym (ap (λ z. z.forks) c.self.view_is)) h c.index-child.ensures c.deref-in-each.ensures in
+    let p : Junction = record { taken = c.index-child.result.now.from; fork = c.each.fork } in
+    let k = child_at (λ f. placed f.from f.branch.value) c.self.inside.forks.items c.args.self.now c.each.fork c.index-child.result.now (placed c.index-child.result.now.from c.deref.result.now) (sym (ap (λ z. z.forks) c.self.view_is)) h c.index-child.ensures (ap (λ z. placed c.index-child.result.now.from z) c.deref.ensures) in
     let w = c.push.ensures.items ∙ ap (λ z. z ++ p ∷ []) c.each.invariant.0 in (
       pop_back c.pop.new.self.items c.locate.new.way.items c.args.way.now.items p (c.in-None-locate.ensures.way ∙ w) c.pop.ensures.rest,
       omega (arith, h),
-      missing_more c.args.number c.each.fork c.args.self.now.forks c.deref-in-each.result.now k c.in-None-locate.ensures.none c.each.invariant.2,
+      missing_more c.args.number c.each.fork c.args.self.now.forks (placed c.index-child.result.now.from c.deref.result.now) k c.in-None-locate.ensures.none c.each.invariant.2,
     )
 
 pub returns-clause-none : goal.returns-clause-none

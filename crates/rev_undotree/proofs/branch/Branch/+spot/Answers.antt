@@ -1,20 +1,22 @@
-use Rattle.std.proofs.Common.{rules, ◌+◌, ◌<◌, get_or, arith, ap, sym, ◌∙◌, subst, add-one}
+use Rattle.std.proofs.Common.{rules, [], ◌+◌, ◌<◌, get_or, arith, ap, sym, ◌∙◌, subst, add-one}
 use Rattle.rev_undotree.specs.Tree.{count}
 use Rattle.rev_undotree.specs.Finds.{Rises}
 use Rattle.rev_undotree.specs.declared.junction.Junction.{Junction}
+use Rattle.rev_undotree.specs.Places.{placed}
+use Rattle.rev_undotree.proofs.Places.{found_anywhere}
 use Rattle.rev_undotree.proofs.Finds.{child_at, fork_within, rises_child, found_end, found_behind}
 use Rattle.rev_undotree.proofs.Held.{if_some_weaker}
-use Rattle.rev_undotree.proofs.Walk.{length_behind}
+use Rattle.rev_undotree.proofs.Walk.{length_behind, behind}
 use Rattle.rev_undotree.proofs.branch.Branch.+spot.Goals as goal
 
 abbrev none : Junction
 none = record { taken = 0; fork = 0 }
 
-pub index-child-requires : goal.index-child-requires
-index-child-requires g t c =
+pub index-fork-requires : goal.index-fork-requires
+index-fork-requires g t c =
     let l = c.if-junction-fork_count.false in
     let e = c.fork_count.ensures in
-    rw c.self.inside.forks.ok.0 (fork_within (λ b. b.value) _ c.args.self.now (get_or c.args.way.now 0 none).fork (sym (ap (λ z. z.forks) c.self.view_is)) (omega (arith, l, e)))
+    rw c.self.inside.forks.ok.0 (fork_within (λ f. placed f.from f.branch.value) _ c.args.self.now (get_or c.args.way.now 0 none).fork (sym (ap (λ z. z.forks) c.self.view_is)) (omega (arith, l, e)))
 
 pub spot-requires : goal.spot-requires
 spot-requires g t c κs within =
@@ -22,21 +24,21 @@ spot-requires g t c κs within =
     let e = c.fork_count.ensures in
     let fork = (get_or c.args.way.now 0 none).fork in
     let h : fork < count c.args.self.now.forks = omega (arith, l, e) in
-    let k = child_at (λ b. b.value) c.self.inside.forks.items c.args.self.now fork c.index-child.result.now c.deref-in-len1-up.result.now (sym (ap (λ z. z.forks) c.self.view_is)) h c.index-child.ensures c.deref-in-len1-up.ensures in
+    let k = child_at (λ f. placed f.from f.branch.value) c.self.inside.forks.items c.args.self.now fork c.index-fork.result.now (placed c.index-fork.result.now.from c.deref.result.now) (sym (ap (λ z. z.forks) c.self.view_is)) h c.index-fork.ensures (ap (λ z. placed c.index-fork.result.now.from z) c.deref.ensures) in
     let n = length_behind c.args.way.now c.in-len1-up.len_at_least in
     (search (rules, length_behind), (search rules, subst (λ z. Rises z) (sym k) (rises_child c.args.self.now.forks fork c.requires.1 h)))
 
 pub returns-in-Some : goal.returns-in-Some
 returns-in-Some g t c = found_end c.args.number c.args.self.now c.args.way.now c.in-Some.at (c.in-Some.at + 1) c.in-empty.len_below (add-one c.in-Some.at) (c.in-Some.ensures.some).0 (c.in-Some.ensures.some).1
 
-pub returns-else-deref-junction : goal.returns-else-deref-junction
-returns-else-deref-junction g t c =
+pub returns-else-fork-junction : goal.returns-else-fork-junction
+returns-else-fork-junction g t c =
     let l = c.if-junction-fork_count.false in
     let e = c.fork_count.ensures in
     let fork = (get_or c.args.way.now 0 none).fork in
     let h : fork < count c.args.self.now.forks = omega (arith, l, e) in
-    let k = child_at (λ b. b.value) c.self.inside.forks.items c.args.self.now fork c.index-child.result.now c.deref-in-len1-up.result.now (sym (ap (λ z. z.forks) c.self.view_is)) h c.index-child.ensures c.deref-in-len1-up.ensures in
-    let f = ap (λ z. z.from) (c.deref-in-len1-up.ensures ∙ sym c.deref.ensures ∙ sym c.behind-child.view_is) ∙ c.if-deref-junction.false in
+    let k = child_at (λ f. placed f.from f.branch.value) c.self.inside.forks.items c.args.self.now fork c.index-fork.result.now (placed c.index-fork.result.now.from c.deref.result.now) (sym (ap (λ z. z.forks) c.self.view_is)) h c.index-fork.ensures (ap (λ z. placed c.index-fork.result.now.from z) c.deref.ensures) in
+    let f = c.if-fork-junction.false in
     let m = c.if-junction-len.false in
     let n = c.len.ensures.value in
-    if_some_weaker c.spot.result _ _ (λ at found. found_behind c.args.number c.args.self.now c.deref-in-len1-up.result.now c.args.way.now none at c.in-len1-up.len_at_least h (omega (arith, m, n)) k f found) c.spot.ensures
+    if_some_weaker c.spot.result _ _ (λ at found. found_behind c.args.number c.args.self.now (placed c.index-fork.result.now.from c.deref.result.now) c.args.way.now none at c.in-len1-up.len_at_least h (omega (arith, m, n)) k f (found_anywhere c.args.number c.index-fork.result.now.from c.deref.result.now [] (behind c.args.way.now) at found)) c.spot.ensures

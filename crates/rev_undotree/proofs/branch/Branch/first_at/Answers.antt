@@ -1,19 +1,22 @@
-use Rattle.std.proofs.Common.{arith, ap, sym, ◌∙◌}
+use Rattle.std.proofs.Common.{arith, refl, ap, sym, ◌∙◌}
+use Rattle.rev_undotree.specs.Places.{placed}
 use Rattle.rev_undotree.proofs.Finds.{child_at, fork_within}
 use Rattle.rev_undotree.specs.Children.{next_number}
 use Rattle.rev_undotree.proofs.Children.{first_no, first_yes}
 use Rattle.rev_undotree.proofs.branch.Branch.first_at.Goals as goal
 
 pub index-child-requires : goal.index-child-requires
-index-child-requires g c = rw c.self.inside.forks.ok.0 (fork_within (λ b. b.value) _ c.args.self.now c.args.fork (sym (ap (λ z. z.forks) c.self.view_is)) c.requires)
+index-child-requires g c = rw c.self.inside.forks.ok.0 (fork_within (λ f. placed f.from f.branch.value) _ c.args.self.now c.args.fork (sym (ap (λ z. z.forks) c.self.view_is)) c.requires)
 
-pub returns-then-deref-here : goal.returns-then-deref-here
-returns-then-deref-here g c =
-    let k = child_at (λ b. b.value) c.self.inside.forks.items c.args.self.now c.args.fork c.index-child.result.now c.deref.result.now (sym (ap (λ z. z.forks) c.self.view_is)) c.requires c.index-child.ensures c.deref.ensures in
-    first_no c.deref.result.now _ c.behind-child.inside.from c.args.here k (ap (λ z. z.from) (sym c.behind-child.view_is)) c.if-deref-here.true
+pub returns-then-child-here : goal.returns-then-child-here
+returns-then-child-here g c =
+    let x = c.index-child.result.now in
+    let k = child_at (λ f. placed f.from f.branch.value) c.self.inside.forks.items c.args.self.now c.args.fork x (placed x.from x.branch.value) (sym (ap (λ z. z.forks) c.self.view_is)) c.requires c.index-child.ensures refl in
+    first_no (placed x.from x.branch.value) _ x.from c.args.here k refl c.if-child-here.true
 
 pub returns : goal.returns
 returns g c =
-    let k = child_at (λ b. b.value) c.self.inside.forks.items c.args.self.now c.args.fork c.index-child.result.now c.deref.result.now (sym (ap (λ z. z.forks) c.self.view_is)) c.requires c.index-child.ensures c.deref.ensures in
-    let h = c.if-deref-here.false in
-    first_yes c.deref.result.now _ c.behind-child.inside.from c.args.here c.next_at.result k (ap (λ z. z.from) (sym c.behind-child.view_is)) (omega (arith, h)) (c.next_at.ensures ∙ ap (λ z. next_number 0 z.run) (c.deref-2.ensures ∙ sym c.deref.ensures))
+    let x = c.index-child.result.now in
+    let k = child_at (λ f. placed f.from f.branch.value) c.self.inside.forks.items c.args.self.now c.args.fork x (placed x.from x.branch.value) (sym (ap (λ z. z.forks) c.self.view_is)) c.requires c.index-child.ensures refl in
+    let h = c.if-child-here.false in
+    first_yes (placed x.from x.branch.value) _ x.from c.args.here c.next_at.result k refl (omega (arith, h)) (c.next_at.ensures ∙ ap (λ z. next_number 0 z.run) c.deref.ensures)

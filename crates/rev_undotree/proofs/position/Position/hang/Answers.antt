@@ -14,7 +14,7 @@ returns-then-is_last-clause-ok g c = λ node held root before s n l o.
 pub returns-clause-ok : goal.returns-clause-ok
 returns-clause-ok g c = λ node held root before s n l o.
     grown_split_code root before c.args.self.now.store c.args.self.now.base c.split.new.self (record { from = c.args.self.now.here; run = node ∷ []; forks = bare }) c.args.self.now.way.items c.as_slice-3.result.now c.push.new.self.items c.args.self.now.here c.fork_count-fork.result node n refl (c.in_ok-split.ensures.ok node held) c.as_slice-3.ensures.value c.push.ensures.items
-    (c.fork_count-fork.ensures ∙ ap (λ z. count z.forks) (c.reach.ensures ∙ ap (λ z. reach c.args.self.now.base z) c.as_slice-2.ensures.value)) c.requires.proper (⊎_elim (λ i. let y = c.is_last.ensures.value.1 i in cc) (λ i. i) c.requires.room) (let n = stands_within _ _ _ _ _ s in ⊎_elim (λ i. i) (λ i. let y = c.is_last.ensures.value.1 i in cc) (less_or_same c.args.self.now.here (length (reach c.args.self.now.base c.args.self.now.way.items).run) n)) s l o
+    (c.fork_count-fork.ensures ∙ ap (λ z. count z.forks) c.reach.ensures ∙ ap (λ z. count (reach c.args.self.now.base z).forks) c.as_slice-2.ensures.value) c.requires.proper (⊎_elim (λ i. let y = c.is_last.ensures.value.1 i in cc) (λ i. i) c.requires.room) (let n = stands_within _ _ _ _ _ s in ⊎_elim (λ i. i) (λ i. let y = c.is_last.ensures.value.1 i in cc) (less_or_same c.args.self.now.here (length (reach c.args.self.now.base c.args.self.now.way.items).run) n)) s l o
 
 pub overflow_add-self : goal.overflow_add-self
 overflow_add-self g c = next_fits _ _ (c.if-is_last.ensures.value.0 refl) c.if-is_last.ensures.small
