@@ -11,6 +11,7 @@ use Rattle.rev_undotree.specs.Prunes.{trimmed_forks, cropped}
 use Rattle.rev_undotree.proofs.States.{fork_at-put, count-put, from-at_end}
 use Rattle.rev_undotree.proofs.Finds.{fitted_child}
 use Rattle.rev_undotree.proofs.Spots.{junction_eq}
+use Rattle.rev_undotree.proofs.Stays.{put_other, same_or}
 use Rattle.rev_undotree.proofs.Subs.{SubForks, Sub}
 use Rattle.rev_undotree.specs.declared.junction.Junction.{Junction}
 
@@ -105,19 +106,6 @@ count-trim (fork f r x m) j = elim (cases_Bool (nat_lt j f)) [
   | inl e ↦ ap (λ t. count (cond t (fork 0 [] bare (trimmed_forks j m)) (fork f r x (trimmed_forks j m)))) e ∙ ap suc (count-trim m j)
   | inr e ↦ ap (λ t. count (cond t (fork 0 [] bare (trimmed_forks j m)) (fork f r x (trimmed_forks j m)))) e ∙ ap suc (count-trim m j)
 ]
-
-put_other : (f : Forks) (i j : ℕ) (x : PlainBranch) → (i ≡ j → ⊥) → fork_at (put_fork f i x) j ≡ fork_at f j
-put_other bare i j x n = refl
-put_other (fork f r y m) zero zero x n = absurd (n refl)
-put_other (fork f r y m) zero (suc j) x n = refl
-put_other (fork f r y m) (suc i) zero x n = refl
-put_other (fork f r y m) (suc i) (suc j) x n = put_other m i j x (λ e. n (ap suc e))
-
-same_or : (i j : ℕ) → (i ≡ j) ⊎ (i ≡ j → ⊥)
-same_or zero zero = inl refl
-same_or zero (suc j) = inr (λ e. omega (arith, e))
-same_or (suc i) zero = inr (λ e. omega (arith, e))
-same_or (suc i) (suc j) = ⊎_elim (λ e. inl (ap suc e)) (λ n. inr (λ e. n (omega (arith, e)))) (same_or i j)
 
 either : (i j : ℕ) → (i ≤ j) ⊎ (j < i)
 either zero j = inl (omega arith)

@@ -1,16 +1,16 @@
 -- How a numbered node is found.
-use Rattle.std.proofs.Common.{◌≡◌, ℕ, suc, zero, ◌+◌, ◌-◌, ◌/◌, ◌<◌, ◌≤◌, Bool, true, false, cond, eqb, List, [], ◌∷◌, ◌++◌, length, get_or, refl, ap, sym, ◌∙◌, subst, arith, append_assoc, take, Option, Some, None, ◌⊎◌, inl, inr, ⊎_elim, map}
-use Rattle.std.proofs.lemmas.List.{append-nil, length_push, take-append-le, take_all}
+use Rattle.std.proofs.Common.{◌≡◌, ℕ, suc, zero, ◌+◌, ◌-◌, ◌/◌, ◌<◌, ◌≤◌, Bool, true, false, cond, eqb, List, [], ◌∷◌, length, get_or, refl, ap, sym, ◌∙◌, subst, arith, Option, Some, None, ◌⊎◌, inl, inr, ⊎_elim, map}
+use Rattle.std.proofs.lemmas.List.{append-nil}
 use Rattle.rev_undotree.specs.Tree.{forks_of}
 use Rattle.rev_undotree.proofs.Walk.{fork_at-map, count-map, behind, way_split}
 use Rattle.std.proofs.lemmas.Bool.Decides.{nat_tests}
 use Rattle.rev_undotree.specs.Tree.{PlainNode, PlainBranch, Forks, bare, fork, fork_at, count}
 use Rattle.rev_undotree.specs.Ways.{reach, no_node}
-use Rattle.rev_undotree.specs.Rows.{number_after, start_at, or_else, find_run, find_forks, row}
+use Rattle.rev_undotree.specs.Rows.{number_after, start_at, find_run, row}
 use Rattle.rev_undotree.specs.Children.{next_number}
 use Rattle.std.specs.Option.{option_eq}
 use Rattle.rev_undotree.specs.Paths.{IsPath}
-use Rattle.rev_undotree.specs.Finds.{RisesFrom, RisesRun, RisesForks, Rises, head_number, bar, IsFirst, Fitted, Found, IsMissing}
+use Rattle.rev_undotree.specs.Finds.{RisesFrom, RisesRun, RisesForks, Rises, head_number, bar, IsFirst, Fitted, Found}
 use Rattle.rev_undotree.specs.declared.junction.Junction.{Junction}
 
 abbrev pub number_of : List PlainNode → ℕ → ℕ
@@ -113,16 +113,6 @@ found_here n b w v k j ej l e ev = record {
   numbered = λ p. ap (λ z. number_after p z b.run) ej ∙ number_after-get p k b.run l ∙ e;
 }
 
--- found in a fork
-pub found_below : (n : ℕ) (b c : PlainBranch) (w x v : List Junction) (p : Junction) (at : ℕ) → p.fork < count b.forks → p.taken ≤ length b.run → c ≡ fork_at b.forks p.fork → c.from ≡ p.taken → x ≡ w ++ p ∷ [] → Found n c x v at → Found n b w v at
-found_below n b c w x v p at l m e ef ex h = record {
-  more = p ∷ h.more;
-  way = h.way ∙ ap (λ z. z ++ h.more) ex ∙ append_assoc w (p ∷ []) h.more;
-  path = (m, l, ap (λ z. z.from) (sym e) ∙ ef, subst (λ z. IsPath z h.more at) e h.path);
-  inside = h.inside;
-  numbered = λ q. ap (λ z. number_after (start_at (number_after q p.taken b.run) z h.more) at (reach z h.more).run) (sym e) ∙ h.numbered (number_after q p.taken b.run);
-}
-
 -- found at the end of a way
 no_way : (w : List Junction) → length w < 1 → w ≡ []
 no_way [] h = refl
@@ -141,18 +131,6 @@ found_behind n b c w d at o m l e ef h =
       inside = h.inside;
       numbered = λ q. ap (λ z. number_after (start_at (number_after q p.taken b.run) z h.more) at (reach z h.more).run) (sym e) ∙ h.numbered (number_after q p.taken b.run);
     }
-
--- found nowhere
-missing_forks : (n p : ℕ) (run : List PlainNode) (f : Forks) → ((i : ℕ) → i < count f → IsMissing n (fork_at f i)) → find_forks n p run f ≡ None
-missing_forks n p run bare h = refl
-missing_forks n p run (fork f r i m) h =
-    ap (λ z. or_else z (find_forks n p run m)) (h 0 (omega arith) (number_after p f run) false) ∙ missing_forks n p run m (λ j l. h (suc j) (omega (arith, l)))
-
-pub missing : (n : ℕ) (b : PlainBranch) → ((p : ℕ) (c : Bool) → find_run n p c b.run ≡ None) → ((i : ℕ) → i < count b.forks → IsMissing n (fork_at b.forks i)) → IsMissing n b
-missing n b h k p c = ap (λ z. or_else z (find_forks n p b.run b.forks)) (h p c) ∙ missing_forks n p b.run b.forks k
-
-pub missing_more : (n i : ℕ) (f : Forks) (c : PlainBranch) → c ≡ fork_at f i → IsMissing n c → ((j : ℕ) → j < i → IsMissing n (fork_at f j)) → (j : ℕ) → j < i + 1 → IsMissing n (fork_at f j)
-missing_more n i f c e h k j l = ⊎_elim (λ z. k j z) (λ z. subst (λ y. IsMissing n y) (e ∙ ap (λ y. fork_at f y) (sym z)) h) (less_or_same j i (omega arith))
 
 -- a run's first node, and where a number stands at most
 pub next_read : (run : List PlainNode) (k n : ℕ) → next_number k run ≡ Some n → (k < length run) × (number_of run k ≡ n)
@@ -197,27 +175,3 @@ child_at v bs b i x c e h r s =
 
 pub fork_within : {X : Type 0} (v : X → PlainBranch) (bs : List X) (b : PlainBranch) (i : ℕ) → b.forks ≡ forks_of (map v bs) → i < count b.forks → i < length bs
 fork_within v bs b i e h = let n : count b.forks ≡ length bs = ap count e ∙ count-map v bs in omega (arith, h, n)
-
--- there is room for one more place, where there is a fork
-pub locate_room : (b : PlainBranch) (w : List Junction) (i : ℕ) → length w ≤ 64 → i < count b.forks → Fitted b.forks b.run (64 - length w) 0 0 → length w < 64
-locate_room b w i l h f = let k = (fitted_child b.forks b.run (64 - length w) 0 0 i f h).0 in omega (arith, k, l)
-
-pub locate_down : (b c : PlainBranch) (w v : List Junction) (p : Junction) (i : ℕ) → length w ≤ 64 → i < count b.forks → Rises b → Fitted b.forks b.run (64 - length w) 0 0 → c ≡ fork_at b.forks i → v ≡ w ++ p ∷ [] →
-    (length v ≤ 64) × Rises c × Fitted c.forks c.run (64 - length v) 0 0 × (64 - length v < 64 - length w) × (c.from ≤ length b.run)
-locate_down b c w v p i l h r f e ev =
-    let k = fitted_child b.forks b.run (64 - length w) 0 0 i f h in
-    let n : length v ≡ length w + 1 = ap length ev ∙ length_push w p in
-    let k0 = k.0 in
-    let m : 64 - length w - 1 ≡ 64 - length v = omega (arith, n) in (
-      omega (arith, n, k0, l),
-      subst (λ z. Rises z) (sym e) (rises_child b.forks i r.1 h),
-      subst (λ z. Fitted z.forks z.run (64 - length v) 0 0) (sym e) (subst (λ z. Fitted (fork_at b.forks i).forks (fork_at b.forks i).run z 0 0) m (fitted_weaker (fork_at b.forks i).forks (fork_at b.forks i).run (64 - length w - 1) 0 0 1 0 (omega arith) (omega arith) k.2)),
-      omega (arith, n, k0, l),
-      subst (λ z. z.from ≤ length b.run) (sym e) k.1,
-    )
-
-pub pop_back : (u v w : List Junction) (p : Junction) → v ≡ w ++ p ∷ [] → u ≡ take (length v - 1) v → u ≡ w
-pop_back u v w p e h =
-    let n : length v ≡ length w + 1 = ap length e ∙ length_push w p in
-    let m : length v - 1 ≡ length w = omega (arith, n) in
-    h ∙ ap (λ z. take z v) m ∙ ap (λ z. take (length w) z) e ∙ take-append-le (length w) w (p ∷ []) (omega arith) ∙ take_all (length w) w (omega arith)

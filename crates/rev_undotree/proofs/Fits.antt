@@ -98,7 +98,7 @@ inner_positive : (w : List Junction) (k : ℕ) → Inner w k → 0 < k
 inner_positive [] k h = h
 inner_positive (p ∷ ps) k h = inner_positive ps k h.1
 
-fitted_way : (b : PlainBranch) (w : List Junction) (k l z : ℕ) → IsWay b w → Fitted b.forks b.run k l z → length w ≤ k
+pub fitted_way : (b : PlainBranch) (w : List Junction) (k l z : ℕ) → IsWay b w → Fitted b.forks b.run k l z → length w ≤ k
 fitted_way b [] k l z y h = omega arith
 fitted_way b (p ∷ ps) k l z y h =
     let q = fitted_child b.forks b.run k l z p.fork h y.0 in

@@ -12,6 +12,7 @@ use Rattle.rev_undotree.proofs.States.{ends_push, Holds-at_end, state_at-at_end,
 use Rattle.rev_undotree.proofs.Turns.{leads_sound}
 use Rattle.rev_undotree.proofs.Rows.{find-at_end, find-new, find_run-other, find_run-new, find_forks-over, number_after-append, Known-at_end, Known-reach, Known-down, KnownRun-push, KnownForks-over, KnownForks-add, find_forks-add_other, find_forks-add_new, KnownRun-more, KnownForks-more, goes_on, goes_on-true, or_else-none}
 use Rattle.rev_undotree.proofs.Positions.{Proper-at, Proper-fork, stands_way, stands_root}
+use Rattle.rev_undotree.proofs.Stays.{stays, covers_node, covers_fork}
 use Rattle.rev_undotree.proofs.Fits.{fitted_push, fitted_split, row_of-within}
 use Rattle.rev_undotree.specs.declared.junction.Junction.{Junction}
 
@@ -72,6 +73,7 @@ grown_push root t b w k e h q l r o =
       });
       proper = Proper-at w k (suc k) (omega arith) q;
       below = along;
+      stays = λ x i v. stays (with_node e) (covers_node e) b w x i 0 y v;
       fitted = λ rows x m g. fitted_push b w k e y q l g;
       numbered = ap (λ z. number_after z (suc k) (reach (at_end (with_node e) b w) w).run) (start_at-at_end (with_node e) 0 b w y)
           ∙ ap (λ z. number_after (start_at 0 b w) (suc k) z.run) (reach-at_end (with_node e) b w y)
@@ -133,6 +135,7 @@ grown_split root t b w k e p lw qw et ef h q r o =
       };
       proper = q;
       below = subst (λ z. Below w z (w ++ p ∷ []) 1) et (fork_off p);
+      stays = λ v i z. stays f (covers_fork x) b w v i 0 y z;
       fitted = λ rows z m g. fitted_split rows b w k e.number (start_at 0 b w) x y qw a.0 lw (Known-reach rows root 0 true b w h.holds.context z).1 m refl refl refl g;
       numbered = ap (λ z. number_after (start_at 0 (at_end f b w) (w ++ p ∷ [])) 1 z.run) there;
       others = λ m z. find-at_end f m 0 true b w (λ d. refl) (λ i d.

@@ -114,8 +114,10 @@ none_forks_behind n p q run (fork f r i m) h =
     (none_run_behind n (number_after p f run) (number_after q f run) false false r b.0) (none_forks_behind n (number_after p f run) (number_after q f run) r i b.1))
     (none_forks_behind n p q run m a.1)
 
-pub kept_fewer : (root t : State) (b : PlainBranch) (w : List Junction) (k issued n : ℕ) → Kept root t b w k issued → issued < n → IsMissing n b
-kept_fewer root t b w k issued n h l = λ p c.
-    let e = length_rows issued b in
-    let a = or_else-none (find_run n 0 true b.run) (find_forks n 0 b.run b.forks) (none_above (rows_of issued b) n 0 true b (omega (arith, e, l)) h.known) in
+pub missing_anywhere : (b : PlainBranch) (n : ℕ) → find_in n 0 true b ≡ None → IsMissing n b
+missing_anywhere b n h = λ p c.
+    let a = or_else-none (find_run n 0 true b.run) (find_forks n 0 b.run b.forks) h in
     or_else_both (find_run n p c b.run) (find_forks n p b.run b.forks) (none_run_behind n 0 p true c b.run a.0) (none_forks_behind n 0 p b.run b.forks a.1)
+
+pub kept_fewer : (root t : State) (b : PlainBranch) (w : List Junction) (k issued n : ℕ) → Kept root t b w k issued → issued < n → IsMissing n b
+kept_fewer root t b w k issued n h l = let e = length_rows issued b in missing_anywhere b n (none_above (rows_of issued b) n 0 true b (omega (arith, e, l)) h.known)

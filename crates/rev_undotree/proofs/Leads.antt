@@ -51,6 +51,7 @@ refill_same xs ws h =
     ap (λ z. take (length xs) (ws ++ z)) (ap (λ z. drop z xs) h ∙ drop-length xs) ∙ ap (λ z. take (length xs) z) (append-nil ws) ∙ ap (λ z. take z ws) (sym h) ∙ take-length ws
 
 pub turned_over : (i : PlainIndex) (n first : ℕ) (xs ys ws : List Junction) → first ≡ branch_of i n → ys ≡ xs → ws ≡ reverse ys → length ws ≡ length ys → xs ≡ ups 64 i first → refill (length xs) xs ws ≡ way_to i n
+unfolding way_to
 turned_over i n first xs ys ws ef ey ew l e =
     refill_same xs ws (l ∙ ap length ey) ∙ ew ∙ ap (λ z. reverse z) (ey ∙ e) ∙ ap (λ z. reverse (ups 64 i z)) ef
 

@@ -29,3 +29,6 @@ pub mod Leads
 pub mod Mentioned
 pub mod Named
 pub mod Lineage
+pub mod Stays
+pub mod Elsewhere
+pub mod Indexes

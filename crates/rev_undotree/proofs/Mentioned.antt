@@ -10,6 +10,8 @@ use Rattle.rev_model.specs.Events.{event}
 use Rattle.rev_model.specs.Track.{key_place_of}
 use Rattle.rev_undotree.specs.Steps.{State, Step, Outcome, PlainRecord, next}
 use Rattle.rev_undotree.specs.Tree.{PlainBranch}
+use Rattle.rev_undotree.specs.Index.{PlainIndex}
+use Rattle.rev_undotree.specs.Leading.{IsIndex}
 use Rattle.rev_undotree.specs.Rows.{Row, RowsFall, row_of, row, rows_of, number_at, at, at_within, state_from}
 use Rattle.rev_undotree.specs.Machine.{lineage}
 use Rattle.rev_undotree.specs.Prunes.{is_among, is_below, spared, pruned}
@@ -108,16 +110,17 @@ pub mentioned_pruned : (root : State) (rows : List (Option Row)) (ms : List Ment
 mentioned_pruned root rows ms n f h m r k e = pruned_case root rows ms n f h m r k e (is_below rows n m) refl
 
 -- a session after a prune
-pub prune_noted : (root t again : State) (b c : PlainBranch) (w : List Junction) (here issued n : ℕ) (ms : List Mention) → Noted root t b w here issued ms → Kept again t c w here issued → again ≡ root → rows_of issued c ≡ pruned (rows_of issued b) n → Noted again t c w here issued ms
-prune_noted root t again b c w here issued n ms h g e f = record {
+pub prune_noted : (root t again : State) (b c : PlainBranch) (w : List Junction) (here issued n : ℕ) (ms : List Mention) (i : PlainIndex) → Noted root t b w here issued ms i → Kept again t c w here issued → again ≡ root → rows_of issued c ≡ pruned (rows_of issued b) n → IsIndex i c issued → Noted again t c w here issued ms i
+prune_noted root t again b c w here issued n ms i h g e f x = record {
   kept = g;
   mentioned = mentioned_same root again (pruned (rows_of issued b) n) (rows_of issued c) ms e f (mentioned_pruned root (rows_of issued b) ms n h.kept.falls h.mentioned);
   within = h.within;
+  indexed = x;
 }
 
 -- a session after a move
-pub moved_noted : (root t u again : State) (b c : PlainBranch) (w v : List Junction) (j k issued : ℕ) (ms : List Mention) → Noted root t b w j issued ms → Kept again u c v k issued → again ≡ root → rows_of issued c ≡ rows_of issued b → Noted again u c v k issued ms
-moved_noted root t u again b c w v j k issued ms h g e f = record { kept = g; mentioned = mentioned_same root again (rows_of issued b) (rows_of issued c) ms e f h.mentioned; within = h.within }
+pub moved_noted : (root t u again : State) (b c : PlainBranch) (w v : List Junction) (j k issued : ℕ) (ms : List Mention) (i l : PlainIndex) → Noted root t b w j issued ms i → Kept again u c v k issued → again ≡ root → rows_of issued c ≡ rows_of issued b → IsIndex l c issued → Noted again u c v k issued ms l
+moved_noted root t u again b c w v j k issued ms i l h g e f x = record { kept = g; mentioned = mentioned_same root again (rows_of issued b) (rows_of issued c) ms e f h.mentioned; within = h.within; indexed = x }
 
 -- ---- a play
 
@@ -171,9 +174,9 @@ module _ (root t u : State) (rows : List (Option Row)) (falls : RowsFall rows) (
     mentioned_more m r k e = ⊎_elim (λ a. older m r k e a) (λ a. newest m r k e a) (le_cases m (length rows))
 
 -- a session after a play
-pub play_noted : (root t u v again : State) (b c : PlainBranch) (w y : List Junction) (k j issued n : ℕ) (d : Step) (g : Bool) (o : Outcome) (x : PlainRecord) (ms l : List Mention) → Noted root t b w k issued ms → Kept again v c y j n → n ≡ suc issued →
-    again ≡ root → rows_of n c ≡ rows_of issued b ++ (Some (row (number_at b w k) d g) ∷ []) → Recalled t u d o x → ((h : ℕ) → is_named h u d o x.moves ≡ true → Holds l h n) → ((h m : ℕ) → Holds ms h m → Holds l h m) → Within l n → Noted again v c y j n l
-play_noted root t u v again b c w y k j issued n d g o x ms l h z e er ew q named kept within =
+pub play_noted : (root t u v again : State) (b c : PlainBranch) (w y : List Junction) (k j issued n : ℕ) (d : Step) (g : Bool) (o : Outcome) (x : PlainRecord) (ms l : List Mention) (f s : PlainIndex) → Noted root t b w k issued ms f → Kept again v c y j n → n ≡ suc issued →
+    again ≡ root → rows_of n c ≡ rows_of issued b ++ (Some (row (number_at b w k) d g) ∷ []) → Recalled t u d o x → ((h : ℕ) → is_named h u d o x.moves ≡ true → Holds l h n) → ((h m : ℕ) → Holds ms h m → Holds l h m) → Within l n → IsIndex s c n → Noted again v c y j n l s
+play_noted root t u v again b c w y k j issued n d g o x ms l first second h z e er ew q named kept within index =
     let rows = rows_of issued b in
     let i = length_rows issued b in
     let p = number_at_le rows root 0 k true b w h.kept.stands.holds.context (omega arith) h.kept.known in
@@ -183,6 +186,7 @@ play_noted root t u v again b c w y k j issued n d g o x ms l h z e er ew q name
       mentioned = mentioned_same root again (rows ++ Some (row (number_at b w k) d g) ∷ []) (rows_of n c) l er ew
           (mentioned_more root t u rows h.kept.falls (number_at b w k) n d g o x ms l p (omega (arith, i, e)) (stands_at root t b w k issued h.kept) h.mentioned q named kept f);
       within = λ i m f. let a = within i m f in omega (arith, a);
+      indexed = index;
     }
 
 -- a session opened
@@ -193,14 +197,15 @@ no_row_of (suc n) r e = cc
 no_mention : (i : ℕ) (m : Mention) → ◌≡◌ {A = Option Mention} None (Some m) → ⊥
 no_mention i m e = cc
 
-pub open_noted : (root t : State) (b : PlainBranch) (w : List Junction) (ms : List Mention) → Kept root t b w 0 0 → ms ≡ [] → Noted root t b w 0 0 ms
+pub open_noted : (root t : State) (b : PlainBranch) (w : List Junction) (ms : List Mention) (i : PlainIndex) → Kept root t b w 0 0 → ms ≡ [] → IsIndex i b 0 → Noted root t b w 0 0 ms i
 unfolding rows_of
-open_noted root t b w ms h e = rw e (record { kept = h; mentioned = λ n r k f. absurd (no_row_of n r f); within = λ i m f. absurd (no_mention i m f) })
+open_noted root t b w ms i h e x = rw e (record { kept = h; mentioned = λ n r k f. absurd (no_row_of n r f); within = λ i m f. absurd (no_mention i m f); indexed = x })
 
 -- a session whose play was refused: it may have more mentions
-pub noted_more : (root t : State) (b : PlainBranch) (w : List Junction) (k issued : ℕ) (ms l : List Mention) → Noted root t b w k issued ms → ((h m : ℕ) → Holds ms h m → Holds l h m) → Within l (issued + 1) → Noted root t b w k issued l
-noted_more root t b w k issued ms l h kept within = record {
+pub noted_more : (root t : State) (b : PlainBranch) (w : List Junction) (k issued : ℕ) (ms l : List Mention) (i : PlainIndex) → Noted root t b w k issued ms i → ((h m : ℕ) → Holds ms h m → Holds l h m) → Within l (issued + 1) → Noted root t b w k issued l i
+noted_more root t b w k issued ms l i h kept within = record {
   kept = h.kept;
   mentioned = λ m r k g. ⊎_elim (λ s. inl s) (λ s. inr (kept (hash_of k) m s)) (h.mentioned m r k g);
   within = within;
+  indexed = h.indexed;
 }

@@ -29,6 +29,9 @@ path_back b (p ∷ ps) h q =
     (omega (arith, l, q.0), omega (arith, n, q.1), subst (λ z. z.from ≡ p.taken) e q.2, path_back (fork_at b.forks p.fork) ps h (subst (λ z. IsPath z ps h) e q.3))
 
 -- a position of one tree is one of each tree with the same nodes
+pub path_from : (b c : PlainBranch) (t : List Junction) (h : ℕ) → Same b c → IsPath c t h → IsPath b t h
+path_from b c t h s q = path_back b t h (subst (λ z. IsPath z t h) s.shape (path_erased c t h q))
+
 pub path_same : (b c : PlainBranch) (t : List Junction) (h : ℕ) → Same b c → IsPath b t h → IsPath c t h
 path_same b c t h s q = path_back c t h (subst (λ z. IsPath z t h) (sym s.shape) (path_erased b t h q))
 

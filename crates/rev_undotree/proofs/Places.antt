@@ -36,7 +36,11 @@ path_placed : (k : ℕ) (b : PlainBranch) (w : List Junction) (at : ℕ) → IsP
 path_placed k b [] at h = h
 path_placed k b (p ∷ ps) at h = h
 
-after_placed : (k n : ℕ) (b : PlainBranch) (w : List Junction) (at : ℕ) → number_after (start_at n (placed k b) w) at (reach (placed k b) w).run ≡ number_after (start_at n b w) at (reach b w).run
+pub path_unplaced : (k : ℕ) (b : PlainBranch) (w : List Junction) (at : ℕ) → IsPath (placed k b) w at → IsPath b w at
+path_unplaced k b [] at h = h
+path_unplaced k b (p ∷ ps) at h = h
+
+pub after_placed : (k n : ℕ) (b : PlainBranch) (w : List Junction) (at : ℕ) → number_after (start_at n (placed k b) w) at (reach (placed k b) w).run ≡ number_after (start_at n b w) at (reach b w).run
 after_placed k n b [] at = refl
 after_placed k n b (p ∷ ps) at = refl
 

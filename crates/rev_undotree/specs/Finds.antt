@@ -31,3 +31,7 @@ pub record Placed (n : ℕ) (b : PlainBranch) (w : List Junction) (at : ℕ) : T
 -- no node of the branch has the number n
 abbrev pub IsMissing : ℕ → PlainBranch → Type 0
 IsMissing n b = (p : ℕ) (c : Bool) → find_in n p c b ≡ None
+
+-- no node with the number n stands in the run at the end of a way
+abbrev pub IsElsewhere : ℕ → PlainBranch → List Junction → Type 0
+IsElsewhere n b w = (p at : ℕ) → 0 < at → IsPath b w at → number_after (start_at p b w) at (reach b w).run ≡ n → ⊥

@@ -30,7 +30,7 @@ ups zero i b = []
 ups (suc k) i b = then_up (leaving_of i b) (ups k i)
 
 -- the way to the branch of node n
-abbrev pub way_to : PlainIndex → ℕ → List Junction
+unfoldable pub way_to : PlainIndex → ℕ → List Junction
 way_to i n = reverse (ups 64 i (branch_of i n))
 
 -- the branch of the next node, which is played below node p, at the end of its run or where a new branch leaves it

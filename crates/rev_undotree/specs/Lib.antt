@@ -19,6 +19,7 @@ pub mod Children
 pub mod Trails
 pub mod Prunes
 pub mod Index
+pub mod Leading
 pub mod Named
 pub mod Recalled
 pub mod Mentioned

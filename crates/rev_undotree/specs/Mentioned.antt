@@ -8,6 +8,8 @@ use Rattle.rev_model.specs.Events.{event}
 use Rattle.rev_model.specs.Track.{key_place_of}
 use Rattle.rev_undotree.specs.Steps.{State}
 use Rattle.rev_undotree.specs.Tree.{PlainBranch}
+use Rattle.rev_undotree.specs.Index.{PlainIndex}
+use Rattle.rev_undotree.specs.Leading.{IsIndex}
 use Rattle.rev_undotree.specs.Rows.{Row, row_of, rows_of, at}
 use Rattle.rev_undotree.specs.Machine.{lineage}
 use Rattle.rev_undotree.specs.Positions.{SessionState, Kept}
@@ -40,8 +42,9 @@ IsStill v k low high =
 abbrev pub IsOver : SessionState → ℕ → ℕ → Type 0
 IsOver v m d = (e n : ℕ) → d ≤ e → slice_get (lineage v.rows v.current) (e - 1) ≡ Some n → m < n
 
--- what a session keeps, its mentions among it
-pub record Noted (root t : State) (b : PlainBranch) (way : List Junction) (here issued : ℕ) (ms : List Mention) : Type 0 where
+-- what a session keeps, its mentions and its index among it
+pub record Noted (root t : State) (b : PlainBranch) (way : List Junction) (here issued : ℕ) (ms : List Mention) (i : PlainIndex) : Type 0 where
   pub kept : Kept root t b way here issued
   pub mentioned : Mentioned root (rows_of issued b) ms
   pub within : Within ms (issued + 1)
+  pub indexed : IsIndex i b issued

@@ -7,6 +7,7 @@ use Rattle.rev_undotree.specs.Ways.{no_node}
 use Rattle.rev_undotree.specs.States.{Holds, state_at}
 use Rattle.rev_undotree.specs.Rows.{Row, RowsFall, Known, row_of, row, find_in, rows_of, number_at}
 use Rattle.rev_undotree.specs.Order.{Fitted}
+use Rattle.rev_undotree.specs.Paths.{IsPath}
 use Rattle.rev_undotree.specs.declared.junction.Junction.{Junction}
 
 -- over the state root at its root, the tree stands at a position, and t is the state there
@@ -60,6 +61,7 @@ pub record Grown (root : State) (b : PlainBranch) (w : List Junction) (k : ℕ) 
   pub proper : Proper v j
   pub below : Below w k v j
   pub numbered : number_at c v j ≡ number
+  pub stays : (x : List Junction) (i : ℕ) → IsPath b x i → IsPath c x i × (number_at c x i ≡ number_at b x i)
   pub others : (n : ℕ) → eqb n number ≡ false → find_in n 0 true c ≡ find_in n 0 true b
   pub fresh : find_in number 0 true b ≡ None → find_in number 0 true c ≡ Some (row (number_at b w k) d goes_on)
   pub known : (rows : List (Option Row)) → Known rows 0 true b → row_of rows number ≡ Some (row (number_at b w k) d goes_on) → Known rows 0 true c

@@ -10,11 +10,10 @@ ghost use Rattle.rev_undotree.specs.Rows.{find_run};
 ghost use Rattle.rev_undotree.specs.Order.{head_number};
 ghost use Rattle.rev_undotree.specs.Prunes.{trimmed, cropped};
 ghost use Rattle.rev_undotree.specs.Children.{children_at, put_in, next_number};
-ghost use Rattle.rev_undotree.specs.Finds.{RisesRun, Rises, Fitted, Found, IsMissing};
+ghost use Rattle.rev_undotree.specs.Finds.{RisesRun, Rises, Found, IsElsewhere};
 
 use crate::junction::Junction;
 use crate::run::{Node, Run};
-use arrayvec::ArrayVec;
 use rev_inverse::Store;
 use rev_model::Outcome;
 use rev_moves::RecordRef;
@@ -178,7 +177,8 @@ impl<A: Allocator> Branch<A> {
     /// Where the node `number` stands in the run at the end of `way`, if `way` is one of the tree and the run has it.
     pub fn spot(&self, way: &[Junction], number: u32) -> Option<usize>
         requires { Rises self.now }
-        ensures { IfSome result (λ at. Found number self.now [] way.now at) }
+        ensures some { IfSome result (λ at. Found number self.now [] way.now at) }
+        ensures none { IfNone result (IsElsewhere number self.now way.now) }
     {
         match way {
             [] => match self.seek(number) {
@@ -196,36 +196,6 @@ impl<A: Allocator> Branch<A> {
                 fork.branch.spot(rest, number)
             }
         }
-    }
-
-    /// Where the node `number` stands below the end of `way`, which then leads there.
-    pub fn locate(&self, number: u32, way: &mut ArrayVec<Junction, 64>) -> Option<usize>
-        requires room { length way.old.items ≤ 64 }
-        requires rises { Rises self.now }
-        requires fitted { Fitted self.now.forks self.now.run (64 - length way.old.items) 0 0 }
-        ensures some { IfSome result (λ at. Found number self.now way.old.items way.new.items at) }
-        ensures none { IfNone result (IsMissing number self.now) }
-        ensures way { IfNone result (way.new.items ≡ way.old.items) }
-    {
-        match self.seek(number) {
-            Some(at) => return Some(at + 1),
-            None => {}
-        }
-        let mut fork = 0;
-        'each: while fork < self.fork_count() {
-            let child = &self.forks[fork];
-            way.push(Junction {
-                taken: child.from,
-                fork,
-            });
-            match child.branch.locate(number, way) {
-                Some(at) => return Some(at),
-                None => {}
-            }
-            way.pop();
-            fork += 1;
-        }
-        None
     }
 
     /// The number of the next node of the run.

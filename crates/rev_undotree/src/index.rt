@@ -17,8 +17,8 @@ pub struct Leaving {
 }
 
 /// The branch of each node, and where each branch leaves another: so the way to a node takes as many steps as its branch
-/// is deep, whatever the size of the tree. It still has the nodes that were taken out since: who asks it looks in the tree
-/// for what it says.
+/// is deep, whatever the size of the tree. It still has the nodes that were taken out since, so who asks it looks in the
+/// tree: a node stands where it says, or nowhere.
 #[derive(Drop)]
 pub struct Index<A: Allocator> {
     branches: Vec<usize, A>,

@@ -7,9 +7,9 @@ ghost use Rattle.rev_undotree.specs.Tree.{PlainNode, count, fork_at};
 ghost use Rattle.rev_undotree.specs.States.{rewind};
 ghost use Rattle.rev_undotree.specs.Paths.{IsPath, IsOnWay};
 ghost use Rattle.rev_undotree.specs.Finds.{Rises, Fitted, Placed, IsMissing};
+ghost use Rattle.rev_undotree.specs.Leading.{LeadsTo, Notes};
 ghost use Rattle.rev_undotree.specs.Positions.{Stands, Moved, Grown, Proper, Below, depth};
 ghost use Rattle.rev_undotree.specs.Trails.{cut};
-ghost use Rattle.rev_undotree.specs.Children.{next_number};
 ghost use Rattle.rev_undotree.specs.Trips.{Trip};
 
 use crate::branch::Branch;
@@ -40,6 +40,7 @@ impl<A: Allocator> Position<A> {
         requires below { 0 < self.old.here }
         requires proper { Proper self.old.way.items self.old.here }
         ensures moved { Moved (rewind self.old.base self.old.way.items self.old.here self.old.store) self.old.base self.new.store self.new.base self.new.way.items self.new.here }
+        ensures index { self.new.index ≡ self.old.index }
         ensures below { Below self.new.way.items self.new.here self.old.way.items self.old.here }
     {
         let at = self.here - 1;
@@ -60,6 +61,7 @@ impl<A: Allocator> Position<A> {
         requires fits { self.old.here + 1 < 2 ^ 64 }
         requires proper { Proper self.old.way.items self.old.here }
         ensures moved { Moved (rewind self.old.base self.old.way.items self.old.here self.old.store) self.old.base self.new.store self.new.base self.new.way.items self.new.here }
+        ensures index { self.new.index ≡ self.old.index }
         ensures below { Below self.old.way.items self.old.here self.new.way.items self.new.here }
         ensures way { self.new.way.items ≡ self.old.way.items }
         ensures here { self.new.here ≡ self.old.here + 1 }
@@ -78,6 +80,7 @@ impl<A: Allocator> Position<A> {
         requires node { 0 < length (fork_at (reach self.old.base self.old.way.items).forks fork).run }
         requires room { length self.old.way.items < 64 }
         ensures moved { Moved (rewind self.old.base self.old.way.items self.old.here self.old.store) self.old.base self.new.store self.new.base self.new.way.items self.new.here }
+        ensures index { self.new.index ≡ self.old.index }
         ensures below { Below self.old.way.items self.old.here self.new.way.items self.new.here }
         ensures way { self.new.way.items ≡ self.old.way.items ++ record { taken = self.old.here; fork = fork } ∷ [] }
         ensures here { self.new.here ≡ 1 }
@@ -113,8 +116,8 @@ impl<A: Allocator> Position<A> {
         self.base.reach(way).number(here - 1)
     }
 
-    /// Where node `number` stands, if the tree has it, which has no number over `issued`. The index knows where a node
-    /// stands that is held; for one that was taken out every branch is searched.
+    /// Where node `number` stands, if the tree has it, which has no number over `issued`. The index leads to each node that
+    /// stands, so one that does not stand where it leads was taken out.
     pub fn find(
         &self,
         number: u32,
@@ -125,6 +128,7 @@ impl<A: Allocator> Position<A> {
         requires empty { way.old.items ≡ [] }
         requires rises { Rises self.now.base }
         requires fitted { Fitted self.now.base.forks self.now.base.run 64 0 0 }
+        requires leads { LeadsTo self.now.index self.now.base }
         ensures some { IfSome result (λ at. Placed number self.now.base way.new.items at) }
         ensures none { IfNone result (0 < number) }
         ensures missing { IfNone result (IsMissing number self.now.base) }
@@ -136,11 +140,7 @@ impl<A: Allocator> Position<A> {
             return None;
         }
         self.index.lead(number, way);
-        match self.base.spot(way.as_slice(), number) {
-            Some(at) => return Some(at),
-            None => way.clear(),
-        }
-        self.base.locate(number, way)
+        self.base.spot(way.as_slice(), number)
     }
 
     /// How many nodes stand on the way to the position, its own included and the root left out.
@@ -201,6 +201,7 @@ impl<A: Allocator> Position<A> {
         requires { IsWay self.now.base self.now.way.items }
         ensures none { IfNone result (self.now.here ≡ length (reach self.now.base self.now.way.items).run) }
         ensures some { IfSome result (λ j. j ≡ record { taken = self.now.here; fork = count (reach self.now.base self.now.way.items).forks }) }
+        ensures amid { IfSome result (λ j. self.now.here ≡ length (reach self.now.base self.now.way.items).run → ⊥) }
     {
         if self.is_last() {
             return None;
@@ -211,19 +212,6 @@ impl<A: Allocator> Position<A> {
         })
     }
 
-    // The number of the node at the position, 0 for the root.
-    fn last_number(&self) -> u32
-        requires { IsWay self.now.base self.now.way.items }
-        ensures root { self.now.here ≡ 0 → result ≡ 0 }
-        ensures node { (n : ℕ) → 0 < self.now.here → next_number (self.now.here - 1) (reach self.now.base self.now.way.items).run ≡ Some n → result ≡ n }
-    {
-        if self.here == 0 {
-            return 0;
-        }
-        let branch = self.base.reach(self.way.as_slice());
-        branch.next_at(self.here - 1).unwrap_or(0)
-    }
-
     /// Adds the node that is held out below the position and moves to it. The store stands there already.
     ///
     /// Err: a growth was refused, and the node is still there.
@@ -232,14 +220,17 @@ impl<A: Allocator> Position<A> {
         A: Clone,
         requires way { IsWay self.old.base self.old.way.items }
         requires proper { Proper self.old.way.items self.old.here }
+        requires within { self.old.here ≤ length (reach self.old.base self.old.way.items).run }
         requires room { (self.old.here ≡ length (reach self.old.base self.old.way.items).run) ⊎ (length self.old.way.items < 64) }
         requires node { IsSome node.old }
         ensures ok { OnOk result ((n : PlainNode) → node.old ≡ Some n → (root before : State) → Stands root before self.old.base self.old.way.items self.old.here → self.old.store ≡ next before n.step → Undoes n.undo before n.step → n.outcome ≡ outcome_of before n.step → Grown root self.old.base self.old.way.items self.old.here self.new.store self.new.base self.new.way.items self.new.here n.number n.step (eqb self.old.here (length (reach self.old.base self.old.way.items).run))) }
         ensures err { OnErr result ((self.new.store ≡ self.old.store) × (self.new.base ≡ self.old.base) × (self.new.way ≡ self.old.way) × (self.new.here ≡ self.old.here)) }
+        ensures notes { OnOk result (Notes self.old.index (number_at self.old.base self.old.way.items self.old.here) self.old.way.items self.new.index self.new.way.items) }
+        ensures index { OnErr result (self.new.index ≡ self.old.index) }
         ensures taken { OnOk result (node.new ≡ None) }
         ensures returned { OnErr result (node.new ≡ node.old) }
     {
-        let parent = self.last_number();
+        let parent = self.number();
         let fork = self.next_fork();
         self.index.note(parent, fork)?;
         match self.hang(alloc, node) {
@@ -262,6 +253,9 @@ impl<A: Allocator> Position<A> {
         requires node { IsSome node.old }
         ensures ok { OnOk result ((n : PlainNode) → node.old ≡ Some n → (root before : State) → Stands root before self.old.base self.old.way.items self.old.here → self.old.store ≡ next before n.step → Undoes n.undo before n.step → n.outcome ≡ outcome_of before n.step → Grown root self.old.base self.old.way.items self.old.here self.new.store self.new.base self.new.way.items self.new.here n.number n.step (eqb self.old.here (length (reach self.old.base self.old.way.items).run))) }
         ensures err { OnErr result ((self.new.store ≡ self.old.store) × (self.new.base ≡ self.old.base) × (self.new.way ≡ self.old.way) × (self.new.here ≡ self.old.here)) }
+        ensures along { OnOk result (self.old.here ≡ length (reach self.old.base self.old.way.items).run → self.new.way.items ≡ self.old.way.items) }
+        ensures off { OnOk result ((self.old.here ≡ length (reach self.old.base self.old.way.items).run → ⊥) → self.new.way.items ≡ self.old.way.items ++ record { taken = self.old.here; fork = count (reach self.old.base self.old.way.items).forks } ∷ []) }
+        ensures index { self.new.index ≡ self.old.index }
         ensures taken { OnOk result (node.new ≡ None) }
         ensures returned { OnErr result (node.new ≡ node.old) }
     {
@@ -296,6 +290,7 @@ impl<A: Allocator> Position<A> {
         requires on { IsOnWay self.old.way.items self.old.here target.now at }
         requires apart { length target.now ≤ length self.old.way.items → self.old.here < at }
         ensures moved { Moved (rewind self.old.base self.old.way.items self.old.here self.old.store) self.old.base self.new.store self.new.base self.new.way.items self.new.here }
+        ensures index { self.new.index ≡ self.old.index }
         ensures below { Below self.old.way.items self.old.here self.new.way.items self.new.here }
         ensures on { IsOnWay self.new.way.items self.new.here target.now at }
     {
@@ -321,6 +316,7 @@ impl<A: Allocator> Position<A> {
         requires room { length target.now ≤ 64 }
         requires few { depth self.old.way.items self.old.here + depth target.now at < 2 ^ 32 }
         ensures moved { Moved (rewind self.old.base self.old.way.items self.old.here self.old.store) self.old.base self.new.store self.new.base self.new.way.items self.new.here }
+        ensures index { self.new.index ≡ self.old.index }
         ensures way { self.new.way.items ≡ target.now }
         ensures here { self.new.here ≡ at }
         ensures trip { Trip self.old.way.items self.old.here target.now at result }

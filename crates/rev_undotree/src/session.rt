@@ -3,7 +3,7 @@ ghost use Rattle.std.specs.Prelude.{◌≡◌, ◌++◌, ◌∷◌, [], ◌+◌,
 ghost use Rattle.std.specs.Option.{option_map};
 ghost use Rattle.rev_steps.specs.Plain.{plain_step};
 ghost use Rattle.rev_undotree.specs.Steps.{Sound, outcome_of};
-ghost use Rattle.rev_undotree.specs.Rows.{at, parent_of, row, row_of, Row, RowsFall};
+ghost use Rattle.rev_undotree.specs.Rows.{at, number_at, parent_of, row, row_of, Row, RowsFall};
 ghost use Rattle.rev_undotree.specs.Finds.{is_held};
 ghost use Rattle.rev_undotree.specs.Machine.{is_continued, nesting_below, lineage, distance, children};
 ghost use Rattle.rev_undotree.specs.Trails.{Trailed};
@@ -11,6 +11,7 @@ ghost use Rattle.rev_undotree.specs.Prunes.{pruned, is_below};
 ghost use Rattle.rev_undotree.specs.Faults.{IsFault, TooManyNodes, TooDeep};
 ghost use Rattle.rev_undotree.specs.Mentioned.{IsStill, IsOver, AreMentioned, Grows};
 ghost use Rattle.rev_undotree.specs.Named.{stored_keys, named};
+ghost use Rattle.rev_undotree.specs.Leading.{Notes};
 ghost use Rattle.rev_undotree.specs.Positions.{Stands, Grown, Proper};
 ghost use Rattle.rev_undotree.specs.Ways.{reach, IsWay};
 ghost use Rattle.rev_undotree.specs.Tree.{PlainNode};
@@ -113,7 +114,7 @@ impl<A: Allocator> Model for Session<A> {
 
     ghost view = { λ a. record { root = rewind a.position.base a.position.way.items a.position.here a.position.store; rows = rows_of a.issued a.position.base; current = number_at a.position.base a.position.way.items a.position.here } };
 
-    ghost invariant = { λ a. Noted (rewind a.position.base a.position.way.items a.position.here a.position.store) a.position.store a.position.base a.position.way.items a.position.here a.issued a.mentions };
+    ghost invariant = { λ a. Noted (rewind a.position.base a.position.way.items a.position.here a.position.store) a.position.store a.position.base a.position.way.items a.position.here a.issued a.mentions a.position.index };
 }
 
 impl<A: Allocator + Clone> Session<A> {
@@ -456,11 +457,14 @@ fn add<A: Allocator + Clone>(
 ) -> Result<(), AllocError>
     requires way { IsWay position.old.base position.old.way.items }
     requires proper { Proper position.old.way.items position.old.here }
+    requires within_run { position.old.here ≤ length (reach position.old.base position.old.way.items).run }
     requires room { (position.old.here ≡ length (reach position.old.base position.old.way.items).run) ⊎ (length position.old.way.items < 64) }
     requires node { IsSome held.old }
     requires within { (n : PlainNode) → held.old ≡ Some n → Within mentions.old n.number }
     ensures ok { OnOk result ((n : PlainNode) → held.old ≡ Some n → (root before : State) → Stands root before position.old.base position.old.way.items position.old.here → position.old.store ≡ next before n.step → Undoes n.undo before n.step → n.outcome ≡ outcome_of before n.step → Grown root position.old.base position.old.way.items position.old.here position.new.store position.new.base position.new.way.items position.new.here n.number n.step (eqb position.old.here (length (reach position.old.base position.old.way.items).run))) }
     ensures err { OnErr result ((position.new.store ≡ position.old.store) × (position.new.base ≡ position.old.base) × (position.new.way ≡ position.old.way) × (position.new.here ≡ position.old.here)) }
+    ensures notes { OnOk result (Notes position.old.index (number_at position.old.base position.old.way.items position.old.here) position.old.way.items position.new.index position.new.way.items) }
+    ensures index { OnErr result (position.new.index ≡ position.old.index) }
     ensures taken { OnOk result (held.new ≡ None) }
     ensures returned { OnErr result (held.new ≡ held.old) }
     ensures named { OnOk result ((n : PlainNode) → held.old ≡ Some n → AreMentioned mentions.new (stored_keys n.step n.outcome ++ named position.old.store n.undo.moves) n.number) }

@@ -1,4 +1,4 @@
-use Rattle.std.proofs.Common.{◌+◌, arith, suc, add-one}
+use Rattle.std.proofs.Common.{refl, ◌∙◌, ◌+◌, arith, suc, add-one}
 use Rattle.rev_undotree.specs.Trips.{stay, stand, down}
 use Rattle.rev_undotree.proofs.Moves.{moved_start, moved_ready, moved_on, depth_below, must_retreat}
 use Rattle.rev_undotree.proofs.Paths.{path_same, on_depth, arrived}
@@ -6,7 +6,7 @@ use Rattle.rev_undotree.proofs.Trips.{climb_depth, descent_depth, climb_more, tr
 use Rattle.rev_undotree.proofs.position.Position.go.Goals as goal
 
 pub back-init : goal.back-init
-back-init g c = (moved_start _ _ _ _ _ c.requires.stands c.requires.proper, stay)
+back-init g c = (moved_start _ _ _ _ _ c.requires.stands c.requires.proper, stay, refl)
 
 pub retreat-requires-clause-stands : goal.retreat-requires-clause-stands
 retreat-requires-clause-stands g c = moved_ready _ _ _ _ _ _ c.back.invariant.0
@@ -21,10 +21,11 @@ pub back-preserved : goal.back-preserved
 back-preserved g c = (
   moved_on _ _ _ _ _ _ _ _ _ _ c.back.invariant.0 c.retreat.ensures.moved,
   climb_more c.args.target.now c.args.at c.args.self.now.way.items c.args.self.now.here c.back.self.way.items c.as_slice.result.now c.back.self.here c.back.turns (c.back.turns + 1) c.retreat.new.self.way.items c.retreat.new.self.here c.is_on_way.result c.as_slice.ensures.value (add-one c.back.turns) c.back.invariant.1 c.is_on_way.ensures.1 c.back-test.true c.retreat.ensures.below c.retreat.ensures.moved.proper,
+  c.retreat.ensures.index ∙ c.back.invariant.2,
 )
 
 pub on-init : goal.on-init
-on-init g c = (moved_start _ _ _ _ _ (moved_ready _ _ _ _ _ _ c.back.invariant.0) c.back.invariant.0.proper, rw (← c.as_slice.ensures.value) (c.is_on_way.ensures.0 c.back-test.false), (0, omega arith, stand))
+on-init g c = (moved_start _ _ _ _ _ (moved_ready _ _ _ _ _ _ c.back.invariant.0) c.back.invariant.0.proper, rw (← c.as_slice.ensures.value) (c.is_on_way.ensures.0 c.back-test.false), (0, omega arith, stand), refl)
 
 pub follow-requires-clause-stands : goal.follow-requires-clause-stands
 follow-requires-clause-stands g c = moved_ready _ _ _ _ _ _ c.on.invariant.0
@@ -45,6 +46,7 @@ on-preserved g c =
       moved_on _ _ _ _ _ _ _ _ _ _ c.on.invariant.0 c.follow.ensures.moved,
       c.follow.ensures.on,
       (suc i.0, omega (arith, e), down c.follow.new.self.way.items c.follow.new.self.here i.2 c.follow.ensures.below c.follow.ensures.on c.follow.ensures.moved.proper),
+      c.follow.ensures.index ∙ c.on.invariant.3,
     )
 
 pub returns-clause-moved : goal.returns-clause-moved
@@ -80,3 +82,6 @@ overflow_add-turns-in-on g c =
     let o = on_depth _ _ _ _ c.follow.ensures.on in
     let f = c.requires.few in
     omega (arith, d, e, k, h, o, f)
+
+pub returns-clause-index : goal.returns-clause-index
+returns-clause-index g c = c.on.invariant.3 ∙ c.back.invariant.2

@@ -1,6 +1,7 @@
 use Rattle.std.proofs.Common.{sym, refl}
 use Rattle.std.proofs.Common.{ap}
 use Rattle.rev_undotree.proofs.Mentioned.{moved_noted}
+use Rattle.rev_undotree.proofs.Indexes.{index_moved}
 use Rattle.rev_undotree.proofs.Positions.{stands_way, number_root, moved_kept, moved_state, moved_parent}
 use Rattle.rev_undotree.proofs.session.Session.back.Goals as goal
 
@@ -15,7 +16,7 @@ invariant_of-self g c =
     let i = c.self.inside.position in
     let n = c.retreat.new.self in
     let m = moved_state _ i.store n.store i.base n.base i.way.items n.way.items i.here n.here c.self.inside.issued _ c.retreat.ensures.moved refl in
-    moved_noted _ _ _ _ _ _ _ _ _ _ _ _ c.self.invariant (moved_kept _ _ _ _ _ _ _ _ _ _ c.self.invariant.kept c.retreat.ensures.moved) (ap (λ v. v.root) m) (ap (λ v. v.rows) m)
+    moved_noted _ _ _ _ _ _ _ _ _ _ _ _ i.index n.index c.self.invariant (moved_kept _ _ _ _ _ _ _ _ _ _ c.self.invariant.kept c.retreat.ensures.moved) (ap (λ v. v.root) m) (ap (λ v. v.rows) m) (index_moved i.index n.index i.base n.base c.self.inside.issued c.self.invariant.indexed c.retreat.ensures.moved.same c.retreat.ensures.index)
 
 pub returns-clause-ok : goal.returns-clause-ok
 returns-clause-ok g c =

@@ -3,6 +3,7 @@ use Rattle.rev_undotree.specs.Paths.{IsPath}
 use Rattle.rev_undotree.specs.Positions.{Proper}
 use Rattle.std.proofs.Common.{ap}
 use Rattle.rev_undotree.proofs.Mentioned.{moved_noted}
+use Rattle.rev_undotree.proofs.Indexes.{index_moved}
 use Rattle.rev_undotree.proofs.Positions.{moved_kept, moved_state}
 use Rattle.rev_undotree.proofs.Held.{placed_held, missing_held, kept_rises, kept_fewer, went_state}
 use Rattle.rev_undotree.proofs.Trips.{depth_few, go_distance}
@@ -10,6 +11,9 @@ use Rattle.rev_undotree.proofs.session.Session.go.Goals as goal
 
 pub find-requires-clause-fewer : goal.find-requires-clause-fewer
 find-requires-clause-fewer g c = kept_fewer _ _ _ _ _ _ _ c.self.invariant.kept
+
+pub find-requires-clause-leads : goal.find-requires-clause-leads
+find-requires-clause-leads g c = c.self.invariant.indexed.leads
 
 pub find-requires-clause-rises : goal.find-requires-clause-rises
 find-requires-clause-rises g c = kept_rises _ _ _ _ _ _ c.self.invariant.kept
@@ -25,7 +29,7 @@ invariant_of-self g c =
     let i = c.self.inside.position in
     let n = c.go.new.self in
     let m = moved_state _ i.store n.store i.base n.base i.way.items n.way.items i.here n.here c.self.inside.issued _ c.go.ensures.moved refl in
-    moved_noted _ _ _ _ _ _ _ _ _ _ _ _ c.self.invariant (moved_kept _ _ _ _ _ _ _ _ _ _ c.self.invariant.kept c.go.ensures.moved) (ap (λ v. v.root) m) (ap (λ v. v.rows) m)
+    moved_noted _ _ _ _ _ _ _ _ _ _ _ _ i.index n.index c.self.invariant (moved_kept _ _ _ _ _ _ _ _ _ _ c.self.invariant.kept c.go.ensures.moved) (ap (λ v. v.root) m) (ap (λ v. v.rows) m) (index_moved i.index n.index i.base n.base c.self.inside.issued c.self.invariant.indexed c.go.ensures.moved.same c.go.ensures.index)
 
 pub returns-in-Some-clause-held : goal.returns-in-Some-clause-held
 returns-in-Some-clause-held g c = (λ _. rw (← c.self.view_is) (placed_held _ _ _ _ _ _ _ _ _ c.self.invariant.kept c.in-Some.ensures.some), λ _. refl)

@@ -11,8 +11,10 @@ use Rattle.rev_undotree.specs.Runs.{node_of}
 use Rattle.rev_steps.specs.Plain.{plain_step}
 use Rattle.rev_undotree.proofs.Turns.{step_next, step_outcome, undoes_applied}
 use Rattle.rev_undotree.specs.Ways.{reach}
+use Rattle.rev_undotree.specs.Index.{PlainIndex}
+use Rattle.rev_undotree.proofs.Indexes.{index_grown}
 use Rattle.rev_undotree.proofs.Mentioned.{play_noted, noted_more}
-use Rattle.rev_undotree.proofs.Positions.{stands_way, stands_at}
+use Rattle.rev_undotree.proofs.Positions.{stands_way, stands_within, stands_at}
 use Rattle.rev_undotree.proofs.Growth.{kept_sound, length_rows, play_kept, play_state}
 use Rattle.rev_undotree.proofs.Machine.{kept_tree, kept_path, goes_on_is, deep_is, deep_not}
 use Rattle.rev_undotree.specs.Mentions.{Within}
@@ -24,8 +26,8 @@ state_back : (t u : State) (b c : PlainBranch) (w v : List Junction) (k j issued
     ◌≡◌ {A = SessionState} (record { root = rewind c v j u; rows = rows_of issued c; current = number_at c v j }) (record { root = rewind b w k t; rows = rows_of issued b; current = number_at b w k })
 state_back t u b c w v k j issued e f g h = rw (e, f, g, h) refl
 
-noted_back : (t u : State) (b c : PlainBranch) (w v : List Junction) (k j issued : ℕ) (ms : List Mention) → u ≡ t → c ≡ b → v ≡ w → j ≡ k → Noted (rewind b w k t) t b w k issued ms → Noted (rewind c v j u) u c v j issued ms
-noted_back t u b c w v k j issued ms e f g h n = rw (e, f, g, h) n
+noted_back : (t u : State) (b c : PlainBranch) (w v : List Junction) (k j issued : ℕ) (ms : List Mention) (i l : PlainIndex) → u ≡ t → c ≡ b → v ≡ w → j ≡ k → l ≡ i → Noted (rewind b w k t) t b w k issued ms i → Noted (rewind c v j u) u c v j issued ms l
+noted_back t u b c w v k j issued ms i l e f g h x n = rw (e, f, g, h, x) n
 
 pub has_room-requires : goal.has_room-requires
 has_room-requires g c = stands_way _ _ _ _ _ c.self.invariant.kept.stands
@@ -49,10 +51,11 @@ invariant_of-self-in-Ok-add g c =
     let f = c.self.invariant.kept.few in
     let k = play_kept _ i.store n.store i.base n.base i.way.items n.way.items i.here n.here c.self.inside.issued (c.self.inside.issued + 1) (plain_step c.args.step) c.self.invariant.kept (omega (arith, f)) (add-one c.self.inside.issued) q m in
     let v = play_state _ i.store n.store i.base n.base i.way.items n.way.items i.here n.here c.self.inside.issued (c.self.inside.issued + 1) (plain_step c.args.step) c.self.invariant.kept (add-one c.self.inside.issued) q q refl m in
-    play_noted _ i.store _ n.store _ i.base n.base i.way.items n.way.items i.here n.here c.self.inside.issued (c.self.inside.issued + 1) (plain_step c.args.step) q c.in-Ok.outcome c.in-Ok.undo _ _ c.self.invariant k (add-one c.self.inside.issued)
+    play_noted _ i.store _ n.store _ i.base n.base i.way.items n.way.items i.here n.here c.self.inside.issued (c.self.inside.issued + 1) (plain_step c.args.step) q c.in-Ok.outcome c.in-Ok.undo _ _ i.index n.index c.self.invariant k (add-one c.self.inside.issued)
     (ap (λ z. z.root) v) (ap (λ z. z.rows) v)
     (record { before = kept_sound _ _ _ _ _ _ c.self.invariant.kept; sound = c.in-Ok.ensures.sound; stepped = ap (λ p. p.0) c.in-Ok.ensures.step; answered = ap (λ p. p.1) c.in-Ok.ensures.step; leads = c.in-Ok.ensures.leads; told = c.in-Ok.ensures.told.told })
     (c.in-Ok-add.ensures.named made refl) (c.add.ensures.grows made refl).kept (c.add.ensures.grows made refl).within
+    (index_grown _ i.store n.store _ i.base n.base i.way.items n.way.items i.here n.here c.self.inside.issued (c.self.inside.issued + 1) i.index n.index (plain_step c.args.step) q (add-one c.self.inside.issued) c.self.invariant.kept k m c.self.invariant.indexed c.in-Ok-add.ensures.notes)
 
 pub returns-in-Ok-add-clause-ok : goal.returns-in-Ok-add-clause-ok
 returns-in-Ok-add-clause-ok g c =
@@ -70,6 +73,9 @@ pub returns-in-Ok-add-clause-outcome : goal.returns-in-Ok-add-clause-outcome
 returns-in-Ok-add-clause-outcome g c =
     let i = c.self.inside.position in
     rw (← c.self.view_is) (step_outcome _ _ _ _ c.in-Ok.ensures.step ∙ ap (λ z. outcome_of z (plain_step c.args.step)) (stands_at _ i.store i.base i.way.items i.here c.self.inside.issued c.self.invariant.kept))
+
+pub add-requires-clause-within_run : goal.add-requires-clause-within_run
+add-requires-clause-within_run g c = stands_within _ _ _ _ _ c.self.invariant.kept.stands
 
 pub add-requires-clause-room : goal.add-requires-clause-room
 add-requires-clause-room g c = c.has_room.ensures.value.0 (let h = c.if-not-has_room.false in cc)
@@ -156,7 +162,7 @@ invariant_of-self-in-Some g c =
     let e = c.in-Err.ensures.err in
     let s : c.turn.new.self ≡ i.store = search rules steps 4000000 in
     let n = c.add.new.position in
-    noted_back i.store c.turn.new.self i.base n.base i.way.items n.way.items i.here n.here c.self.inside.issued _ s e.1 (ap (λ z. z.items) e.2) e.3 (noted_more _ _ _ _ _ _ _ _ c.self.invariant (c.add.ensures.grows made refl).kept (c.add.ensures.grows made refl).within)
+    noted_back i.store c.turn.new.self i.base n.base i.way.items n.way.items i.here n.here c.self.inside.issued _ i.index n.index s e.1 (ap (λ z. z.items) e.2) e.3 c.in-Err.ensures.index (noted_more _ _ _ _ _ _ _ _ i.index c.self.invariant (c.add.ensures.grows made refl).kept (c.add.ensures.grows made refl).within)
 
 pub invariant_of-self : goal.invariant_of-self
 invariant_of-self g c = rw c.in_default.ensures.err c.self.invariant

@@ -4,11 +4,15 @@ use Rattle.rev_undotree.proofs.Spots.{path_way}
 use Rattle.rev_undotree.proofs.Trips.{placed_inside}
 use Rattle.rev_undotree.proofs.Held.{kept_rises, kept_fewer, placed_held, missing_held}
 use Rattle.rev_undotree.proofs.Mentioned.{prune_noted}
+use Rattle.rev_undotree.proofs.Indexes.{index_cut}
 use Rattle.rev_undotree.proofs.Prunes.{below_held, below_root, held_false, true_false, prune_kept, prune_state, on_path_below, off_path_below}
 use Rattle.rev_undotree.proofs.session.Session.prune.Goals as goal
 
 pub find-requires-clause-fewer : goal.find-requires-clause-fewer
 find-requires-clause-fewer g c = kept_fewer _ _ _ _ _ _ _ c.self.invariant.kept
+
+pub find-requires-clause-leads : goal.find-requires-clause-leads
+find-requires-clause-leads g c = c.self.invariant.indexed.leads
 
 pub find-requires-clause-rises : goal.find-requires-clause-rises
 find-requires-clause-rises g c = kept_rises _ _ _ _ _ _ c.self.invariant.kept
@@ -38,9 +42,10 @@ invariant_of-self g c =
     let i = c.self.inside.position in
     let l = placed_inside c.args.node.0 _ _ _ c.if-node-eq0.false c.in-Some.ensures.some in
     let m = prune_state _ i.store i.base c.prune.new.self i.way.items c.find.new.way.items c.as_slice.result.now c.as_slice-in-Some-2.result.now c.as_slice-in-Some.result.now i.here c.in-Some.at c.self.inside.issued c.args.node.0 c.self.invariant.kept c.in-Some.ensures.some l c.as_slice.ensures.value c.as_slice-in-Some-2.ensures.value c.as_slice-in-Some.ensures.value (λ o. false≢true (c.if-is_on_way.ensures.1 o)) c.prune.ensures in
-    prune_noted _ i.store _ i.base c.prune.new.self i.way.items i.here c.self.inside.issued c.args.node.0 _ c.self.invariant
+    prune_noted _ i.store _ i.base c.prune.new.self i.way.items i.here c.self.inside.issued c.args.node.0 _ i.index c.self.invariant
     (prune_kept _ i.store i.base c.prune.new.self i.way.items c.find.new.way.items c.as_slice.result.now c.as_slice-in-Some-2.result.now c.as_slice-in-Some.result.now i.here c.in-Some.at c.self.inside.issued c.args.node.0 c.self.invariant.kept c.in-Some.ensures.some l c.as_slice.ensures.value c.as_slice-in-Some-2.ensures.value c.as_slice-in-Some.ensures.value (λ o. false≢true (c.if-is_on_way.ensures.1 o)) c.prune.ensures)
     (ap (λ v. v.root) m) (ap (λ v. v.rows) m)
+    (index_cut i.index i.base c.prune.new.self c.find.new.way.items c.as_slice-in-Some-2.result.now c.in-Some.at c.self.inside.issued c.self.invariant.indexed c.self.invariant.kept.fitted c.in-Some.ensures.some.path l c.as_slice-in-Some-2.ensures.value c.prune.ensures)
 
 pub returns-in-None-clause-missing : goal.returns-in-None-clause-missing
 returns-in-None-clause-missing g c =

@@ -10,6 +10,9 @@ use Rattle.rev_undotree.proofs.session.Session.row_with_parent.Goals as goal
 pub find-requires-clause-fewer : goal.find-requires-clause-fewer
 find-requires-clause-fewer g c = kept_fewer _ _ _ _ _ _ _ c.self.invariant.kept
 
+pub find-requires-clause-leads : goal.find-requires-clause-leads
+find-requires-clause-leads g c = c.self.invariant.indexed.leads
+
 pub find-requires-clause-rises : goal.find-requires-clause-rises
 find-requires-clause-rises g c = kept_rises _ _ _ _ _ _ c.self.invariant.kept
 
