@@ -16,11 +16,17 @@ pub fn number(word: &[u8], limit: u64) -> Option<u64>
         if *b < b'0' || *b > b'9' {
             return None;
         }
-        let next = sum as u128 * 10 + (*b - b'0') as u128;
-        if next > limit as u128 {
+        // What 64 bits do not hold is over any limit.
+        let Some(tens) = sum.checked_mul(10) else {
+            return None;
+        };
+        let Some(next) = tens.checked_add((*b - b'0') as u64) else {
+            return None;
+        };
+        if next > limit {
             return None;
         }
-        sum = next as u64;
+        sum = next;
     }
     Some(sum)
 }

@@ -16,15 +16,25 @@ returns-then-b-lt48-clause-value c =
       | then-b-lt48-via-else-b-lt48+then-b-gt57 w ↦ is_digit-no _ (inr w.if-b-gt57.true)
     ])
 
+pub returns-in_default-clause-value : goal.returns-in_default-clause-value
+returns-in_default-clause-value c =
+    let v = value-more c.args.word.now c.loop-b.b-index c.loop-b-test.true in
+    number-over c.args.limit c.args.word.now (c.loop-b.b-index + 1) (omega (arith, v, c.loop-b.invariant.0, c.in_default.ensures, c.ranges.limit.fits))
+
+pub returns-in_default-checked_add-clause-value : goal.returns-in_default-checked_add-clause-value
+returns-in_default-checked_add-clause-value c =
+    let v = value-more c.args.word.now c.loop-b.b-index c.loop-b-test.true in
+    number-over c.args.limit c.args.word.now (c.loop-b.b-index + 1) (omega (arith, v, c.loop-b.invariant.0, c.in-Some.ensures, c.in_default-checked_add.ensures, c.ranges.limit.fits))
+
 pub returns-then-next-limit-clause-value : goal.returns-then-next-limit-clause-value
 returns-then-next-limit-clause-value c =
     let v = value-more c.args.word.now c.loop-b.b-index c.loop-b-test.true in
-    number-over c.args.limit c.args.word.now (c.loop-b.b-index + 1) (omega (arith, v, c.loop-b.invariant.0, c.if-next-limit.true))
+    number-over c.args.limit c.args.word.now (c.loop-b.b-index + 1) (omega (arith, v, c.loop-b.invariant.0, c.in-Some.ensures, c.in-Some-checked_add.ensures, c.if-next-limit.true))
 
 pub loop-b-preserved : goal.loop-b-preserved
 loop-b-preserved c =
     let v = value-more c.args.word.now c.loop-b.b-index c.loop-b-test.true in (
-      omega (arith, v, c.loop-b.invariant.0),
+      omega (arith, v, c.loop-b.invariant.0, c.in-Some.ensures, c.in-Some-checked_add.ensures),
       digits-more c.args.word.now c.loop-b.b-index c.loop-b-test.true c.loop-b.invariant.1 (is_digit-yes _ c.if-b-lt48.false c.if-b-gt57.false),
       c.if-next-limit.false,
       c.loop-b.invariant.3,
