@@ -79,3 +79,8 @@ passed-known piece from to n room rest ordered within few =
 pub take-one : (l : List ℕ) → 0 < length l → take 1 l ≡ get_or l 0 0 ∷ []
 take-one [] h = absurd (omega arith)
 take-one (x ∷ xs) h = refl
+
+pub take-two : (l : List ℕ) → 2 ≤ length l → take 2 l ≡ get_or l 0 0 ∷ get_or l 1 0 ∷ []
+take-two [] h = absurd (omega arith)
+take-two (x ∷ []) h = absurd (omega arith)
+take-two (x ∷ y ∷ ys) h = refl

@@ -76,6 +76,13 @@ fn take_ending<S: Source>(bytes: &mut ByteReader<S>) -> Result<bool, LineFault>
     ensures ok { IfOk result (λ sound. IsEnding S.told bytes.old bytes.new sound) }
     ensures err { IfErr result (λ e. IsShort S.told bytes.old bytes.new 1 × StoppedBy S.told bytes.new e) }
 {
+    // Mostly both are in the piece, and then nothing is read.
+    let front = bytes.front();
+    if front.len() >= 2 {
+        let sound = is_crlf(front[0], front[1]);
+        bytes.pass(2);
+        return Ok(sound);
+    }
     let first = match bytes.byte() {
         Err(e) => return Err(e),
         Ok(None) => return Ok(false),

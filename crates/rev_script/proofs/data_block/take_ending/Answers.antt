@@ -1,5 +1,5 @@
-use Rattle.std.proofs.Common.{◌∷◌, [], inl, refl}
-use Rattle.rev_script.proofs.Known.{Took-then}
+use Rattle.std.proofs.Common.{◌∷◌, [], inl, refl, sym, ◌∙◌, ap, take, get_or}
+use Rattle.rev_script.proofs.Known.{Took-then, take-two}
 use Rattle.rev_script.proofs.data_block.take_ending.Goals as goal
 
 pub returns-clause-ok : goal.returns-clause-ok
@@ -11,4 +11,15 @@ returns-clause-ok g c =
       took = Took-then t u;
       size_is = inl refl;
       sound_is = c.is_crlf.ensures;
+    }
+
+pub returns-then-front-ge2-clause-ok : goal.returns-then-front-ge2-clause-ok
+returns-then-front-ge2-clause-ok g c =
+    let f = c.front-front.result.now in
+    let two = ap (λ l. take 2 l) (sym c.front-front.ensures) ∙ take-two f c.if-front-ge2.true in
+    record {
+      taken = get_or f 0 0 ∷ get_or f 1 0 ∷ [];
+      took = rw two at c.pass.ensures;
+      size_is = inl refl;
+      sound_is = c.is_crlf-sound.ensures;
     }
