@@ -51,19 +51,17 @@ pub struct Bits {
 #[derive(Drop)]
 pub struct Key<A: Allocator> {
     bytes: Bytes<A>,
-    hash: u32,
 }
 
 impl<A: Allocator> Model for Key<A> {
-    ghost use Rattle.std.specs.Prelude.{List, ℕ, ◌≡◌};
+    ghost use Rattle.std.specs.Prelude.{List, ℕ};
     ghost use Rattle.rev_items.specs.Keys.{IsKey};
-    ghost use Rattle.rev_items.specs.Hash.{hash_of};
 
     ghost Value = { List ℕ };
 
     ghost view = { λ k. k.bytes };
 
-    ghost invariant = { λ k. IsKey k.bytes × (k.hash ≡ hash_of k.bytes) };
+    ghost invariant = { λ k. IsKey k.bytes };
 }
 
 // What an item holds. Its data are shared with the step that brought them; their length stands here too.
@@ -182,9 +180,8 @@ impl<A: Allocator> Key<A> {
         requires rule { is_key bytes.now ≡ true }
         ensures ok { IfOk result (λ key. key ≡ bytes.now) }
     {
-        let hash = hash(bytes);
-        let bytes = Bytes::new(alloc, bytes)?;
-        Ok(Key { bytes, hash })
+        let bytes = Bytes::new(alloc, bytes, hash(bytes))?;
+        Ok(Key { bytes })
     }
 
     /// The key's bytes, 1 to 250.
@@ -199,25 +196,22 @@ impl<A: Allocator> Key<A> {
     pub fn copy<B: Allocator>(&self, alloc: B) -> Result<Key<B>, AllocError>
         ensures { IfOk result (λ key. key ≡ self.now) }
     {
-        let bytes = Bytes::new(alloc, self.bytes())?;
-        Ok(Key {
-            bytes,
-            hash: self.hash,
-        })
+        let bytes = Bytes::new(alloc, self.bytes(), self.hash())?;
+        Ok(Key { bytes })
     }
 
     /// The hash of the key's bytes.
     pub fn hash(&self) -> u32
         ensures { result ≡ hash_of self.now }
     {
-        self.hash
+        self.bytes.hash()
     }
 
     /// Whether the two keys have the same bytes.
     pub fn is_same<B: Allocator>(&self, other: &Key<B>) -> bool
         ensures { IsTrue result ↔ (self.now ≡ other.now) }
     {
-        self.hash == other.hash && self.bytes.as_slice() == other.bytes.as_slice()
+        self.hash() == other.hash() && self.bytes.is_same(&other.bytes)
     }
 }
 
@@ -279,7 +273,7 @@ impl<A: Allocator> Item<A> {
     pub fn has_key<B: Allocator>(&self, key: &Key<B>) -> bool
         ensures { IsTrue result ↔ (self.now.key ≡ key.now) }
     {
-        self.key_hash == key.hash && self.held.key.is_same(key)
+        self.key_hash == key.hash() && self.held.key.is_same(key)
     }
 
     /// The item's data.
