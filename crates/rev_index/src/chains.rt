@@ -3,6 +3,7 @@ ghost use Rattle.rev_links.specs.declared.places.Place.TheVariants.{At};
 ghost use Rattle.rev_links.specs.Rings.{SetsNext, SetsPrevious, Between, Gap};
 ghost use Rattle.rev_index.specs.Chains.{ChainPlace, link_at, next_in, previous_in, SameShape, Closes, Opens};
 
+use rev_items::bucket;
 use rev_links::{Grid, Link, Place};
 use rev_model::ChunkRef;
 use std::alloc::Allocator;
@@ -32,7 +33,7 @@ impl<A: Allocator> Chains<A> {
         ensures { result.number ≡ hash % length self.now.ends.items }
     {
         Bucket {
-            number: hash % self.ends.len() as u32,
+            number: bucket(hash, self.ends.len()) as u32,
         }
     }
 

@@ -1,4 +1,4 @@
-ghost use Rattle.std.specs.Prelude.{◌≡◌};
+ghost use Rattle.std.specs.Prelude.{◌<◌, ◌%◌, ◌≡◌};
 ghost use Rattle.rev_items.specs.Hash.{hash_of};
 
 /// What FNV-1a with 32 bits starts from.
@@ -17,4 +17,19 @@ pub fn hash(bytes: &[u8]) -> u32
         hash = (hash ^ u32::from(*byte)).wrapping_mul(PRIME);
     }
     hash
+}
+
+/// In which of `count` buckets a hash is. Where their count is a power of two it takes no division, for which the look-up
+/// would wait.
+pub fn bucket(hash: u32, count: usize) -> usize
+    requires { 0 < count }
+    ensures value { result ≡ hash % count }
+    ensures within { result < count }
+{
+    let hash = hash as usize;
+    if count == 1 << count.trailing_zeros() {
+        hash & (count - 1)
+    } else {
+        hash % count
+    }
 }

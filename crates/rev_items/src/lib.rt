@@ -12,6 +12,7 @@ mod hash;
 
 use crate::bytes::Bytes;
 use crate::hash::hash;
+pub use hash::bucket;
 use std::alloc::{AllocError, Allocator};
 use std::marker::Model;
 use std::sync::Arc;

@@ -5,6 +5,7 @@ ghost use Rattle.rev_undotree.specs.Mentions.{Holds};
 ghost use Rattle.rev_undotree.specs.Links.{mention_of, mentions_of, IsLinked, IsSound, LeadsPast};
 
 use crate::mention::Mention;
+use rev_items::bucket;
 
 // An entry that is so many back is far: a play of a key that is seldom mentioned would wait for its memory, and so looks
 // at none.
@@ -35,15 +36,6 @@ impl Entry {
             node: self.node,
         }
     }
-}
-
-// The bucket of a hash, of so many.
-fn bucket(hash: u32, count: usize) -> usize
-    requires { 0 < count }
-    ensures value { result ≡ hash % count }
-    ensures within { result < count }
-{
-    hash as usize % count
 }
 
 // The entry that the link leads to, if there is one.
