@@ -4,8 +4,11 @@ ghost use Rattle.rev_items.specs.Keys.{is_key, is_key_byte};
 
 use std::simd::prelude::*;
 
-// Bytes looked at at once.
+// How many bytes are looked at at once.
 const BLOCK: usize = 8;
+
+// The most bytes that are looked at by blocks: four of them. Few keys have more.
+const MOST_BY_BLOCKS: usize = 4 * BLOCK;
 
 // Whether these eight bytes may stand in a key.
 #[inline(always)]
@@ -30,17 +33,17 @@ fn is_clean_by_blocks(word: &[u8]) -> bool
     if !is_clean(word, 0) || !is_clean(word, last) {
         return false;
     }
-    if word.len() <= 16 {
+    if word.len() <= 2 * BLOCK {
         return true;
     }
-    is_clean(word, 8) && is_clean(word, last.min(16))
+    is_clean(word, BLOCK) && is_clean(word, last.min(2 * BLOCK))
 }
 
 /// Whether the word is a key. Of one of 8 to 32 bytes, as most are, no byte is looked at by itself.
 pub fn is_key(word: &[u8]) -> bool
     ensures { result ≡ is_key word.now }
 {
-    if BLOCK <= word.len() && word.len() <= 32 && is_clean_by_blocks(word) {
+    if BLOCK <= word.len() && word.len() <= MOST_BY_BLOCKS && is_clean_by_blocks(word) {
         return true;
     }
     rev_items::is_key(word)

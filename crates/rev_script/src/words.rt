@@ -49,7 +49,7 @@ fn keep_word<'a>(few: &mut ArrayVec<&'a [u8], USUAL_WORDS>, word: &'a [u8]) -> b
     }
 }
 
-// The same, for a text whose spaces are marked: from one mark to the next no byte is looked at.
+// Splits a text as `few_words` does, where its spaces are marked: from one mark to the next no byte is looked at.
 #[inline(always)]
 fn few_words_by<'a>(few: &mut ArrayVec<&'a [u8], USUAL_WORDS>, text: &'a [u8], spaces: u64) -> bool
     requires empty { few.old.items ≡ [] }

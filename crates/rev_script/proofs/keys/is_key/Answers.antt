@@ -17,4 +17,4 @@ clean_key w some few h =
 
 pub returns-then-is_clean_by_blocks : goal.returns-then-is_clean_by_blocks
 returns-then-is_clean_by_blocks c =
-    clean_key c.args.word.now c.if-word-ge-BLOCK.true c.if-word-le32.true (c.is_clean_by_blocks.ensures c.if-is_clean_by_blocks.true)
+    clean_key c.args.word.now c.if-word-ge-BLOCK.true c.if-word-le-MOST_BY_BLOCKS.true (c.is_clean_by_blocks.ensures c.if-is_clean_by_blocks.true)
