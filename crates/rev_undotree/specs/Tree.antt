@@ -1,9 +1,8 @@
 -- What a branch is seen as: where it leaves its parent's run, its run, and the branches that fork from it.
-use Rattle.std.specs.Prelude.{◌≡◌, ℕ, ◌+◌, ◌≤◌, List, [], ◌∷◌, ◌++◌, length, get_or, set, map, refl, Option, Some, None}
-use Rattle.std.proofs.Common.{arith, ap, ◌∙◌, suc, zero}
+use Rattle.std.specs.Prelude.{◌≡◌, ℕ, ◌+◌, List, [], ◌∷◌, ◌++◌, length, get_or, set, refl, Option, Some, None}
+use Rattle.std.proofs.Common.{ap, ◌∙◌, suc, zero}
 use Rattle.std.specs.Coded.{Coded, code_by, coded×, coded_ℕ, coded_list, coded_option}
 use Rattle.rev_undotree.specs.Steps.{Step, Outcome, PlainRecord}
-use denote.Param.Weighed.{most}
 
 -- one node of a run
 pub record PlainNode : Type 0 where
@@ -108,11 +107,6 @@ abbrev pub branch_code : Coded PlainNode → Coded PlainBranch
 branch_code node =
     code_by (ℕ × (List PlainNode × Forks)) (coded× coded_ℕ (coded× (coded_list node) (forks_code node)))
     (λ b. (b.from, (b.run, b.forks))) (λ p. record { from = p.0; run = p.1.0; forks = p.1.1 }) (λ _. refl)
-
--- no branch is deeper than all of them together
-pub most_le-size : {X : Type 0} (v : X → PlainBranch) (bs : List X) → most (λ b. size_of (v b).forks + 1) bs ≤ size_of (forks_of (map v bs))
-most_le-size v [] = omega arith
-most_le-size v (b ∷ bs) = omega (arith, most_le-size v bs)
 
 -- how many branches of a list there are, which is the i-th, and what replacing and adding one does to the list
 pub count-forks_of : (bs : List PlainBranch) → count (forks_of bs) ≡ length bs
