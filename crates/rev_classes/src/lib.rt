@@ -32,7 +32,7 @@ pub struct Config {
     pub den: u32,
     /// Entries that the bump queue holds: 1 to 4096.
     pub bump: u32,
-    /// The index has 2 to this power buckets: 4 to 20.
+    /// The index begins with 2 to this power buckets: 4 to 20. It gets more where it holds many keys.
     pub hash_power: u32,
     /// An item that expires within fewer seconds enters TEMP; negative: none does.
     pub temp_ttl: i32,
