@@ -1,6 +1,7 @@
 //! Keys, lines, and the parts of a store.
 use crate::memory::heap::{Trial, fill, refuse_in_turn};
 use crate::owned::is_made;
+use crate::streams::Stutter;
 use linked_list_allocator::LocalHeap;
 use rev_classes::{ClassTable, Config};
 use rev_index::Index;
@@ -9,7 +10,7 @@ use rev_pages::Pages;
 use rev_queues::Queues;
 use rev_script::byte_reader::LineFault;
 use rev_script::lines::Lines;
-use rev_script::source::FromRead;
+use rev_script::source::{FromRead, Source};
 use std::alloc::Global;
 use std::process::Abort;
 
@@ -94,9 +95,7 @@ static LINES: [Text; 4] = [
 ];
 
 // Whether there was a next line.
-fn has_next<'a>(
-    lines: &mut Lines<FromRead<&'static [u8]>, &'a LocalHeap>,
-) -> Result<bool, LineFault> {
+fn has_next<S: Source>(lines: &mut Lines<S, &LocalHeap>) -> Result<bool, LineFault> {
     match lines.next() {
         Ok(line) => {
             let is_some = line.is_some();
@@ -107,20 +106,31 @@ fn has_next<'a>(
     }
 }
 
+// Whether there was memory for the line. A reader that was refused memory stays refused.
+fn is_read<S: Source + Drop, R: Abort>(
+    rt: &R,
+    alloc: Global,
+    heap: &LocalHeap,
+    left: usize,
+    source: S,
+) -> bool {
+    let mut lines = Lines::over(heap, source);
+    let ballast = fill(rt, alloc, heap, left);
+    let line = has_next(&mut lines);
+    drop(ballast);
+    let is_read = line == Ok(true);
+    if !is_read {
+        assert!(rt; line == Err(LineFault::Memory), "{left} bytes left");
+        let again = has_next(&mut lines);
+        assert!(rt; again == Err(LineFault::Memory), "{left} bytes left");
+    }
+    is_read
+}
+
 impl Trial for Text {
-    // A reader that was refused memory stays refused.
     fn attempt<R: Abort>(&self, rt: &R, alloc: Global, heap: &LocalHeap, left: usize) -> bool {
-        let mut lines = Lines::over(heap, FromRead::new(self.0.as_bytes()));
-        let ballast = fill(rt, alloc, heap, left);
-        let line = has_next(&mut lines);
-        drop(ballast);
-        let is_read = line == Ok(true);
-        if !is_read {
-            assert!(rt; line == Err(LineFault::Memory), "{left} bytes left");
-            let again = has_next(&mut lines);
-            assert!(rt; again == Err(LineFault::Memory), "{left} bytes left");
-        }
-        is_read
+        let source = FromRead::new(self.0.as_bytes());
+        is_read(rt, alloc, heap, left, source)
     }
 }
 
@@ -129,4 +139,26 @@ fn lines(rt: HostRuntime) {
     for line in &LINES {
         refuse_in_turn(&rt, rt.alloc(), line.0, line);
     }
+}
+
+// A script of one line that comes byte by byte, and is copied as it comes.
+#[derive(Clone, Copy)]
+struct ByteByByte(&'static str);
+
+impl Trial for ByteByByte {
+    fn attempt<R: Abort>(&self, rt: &R, alloc: Global, heap: &LocalHeap, left: usize) -> bool {
+        let source = FromRead::new(Stutter::new(self.0.as_bytes()));
+        is_read(rt, alloc, heap, left, source)
+    }
+}
+
+// The key takes no memory, so what is refused is the copy: its first block, and its growth.
+#[test]
+fn line_byte_by_byte(rt: HostRuntime) {
+    refuse_in_turn(
+        &rt,
+        rt.alloc(),
+        "a line byte by byte",
+        &ByteByByte(":item a-key-in-place\r\n"),
+    );
 }
