@@ -1,11 +1,7 @@
-//! The tests that cross crates: worked scripts, cut input, failing readers and writers, the class table, the program's words,
+//! The tests that cross crates: cut input, failing readers and writers, the class table, the program's words,
 //! want of memory, recordings on threads and over files; and fast paths beside plain ones.
 #![tactic(auto)]
 
-#[cfg(test)]
-mod actor_rows;
-#[cfg(test)]
-mod actor_scripts;
 #[cfg(test)]
 mod actors;
 #[cfg(test)]
@@ -23,14 +19,12 @@ mod programs;
 #[cfg(test)]
 mod recorder;
 #[cfg(test)]
-mod rows;
-#[cfg(test)]
 mod scripts;
-#[cfg(test)]
-mod short_scripts;
 #[cfg(test)]
 mod stores;
 #[cfg(test)]
 mod streams;
+#[cfg(test)]
+mod summaries;
 #[cfg(test)]
 mod trees;
