@@ -107,12 +107,12 @@ impl<A: Allocator + Clone> Store<A> {
     /// A store without pages and items. All that it will ever need is reserved here, but for the slots of pages, which
     /// `parts` takes, and more buckets for the index, which `widen` takes.
     ///
-    /// The fault is the first limit that the configuration breaks, or `Memory` where there is no memory.
+    /// The fault is the first limit that the configuration breaks. `Memory` comes only where it breaks none.
     pub fn open(alloc: A, config: Config) -> Result<Store<A>, ConfigFault>
         ensures ok { IfOk result (λ store. store ≡ empty_state config) }
         ensures sound { IfOk result (λ store. Sound store) }
         ensures limits { IfOk result (λ store. fault_of config ≡ None) }
-        ensures err { IfErr result (λ fault. (fault ≡ Memory) ⊎ (fault_of config ≡ Some fault)) }
+        ensures err { IfErr result (λ fault. (fault_of config ≡ Some fault) ⊎ ((fault_of config ≡ None) × (fault ≡ Memory))) }
     {
         let table = ClassTable::build(&config)?;
         match Store::over(alloc, &config, table) {
