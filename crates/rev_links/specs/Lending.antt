@@ -5,10 +5,15 @@ use Rattle.std.specs.declared.alloc.Allocator.{Ghosts}
 use Rattle.rev_links.specs.Grids.{with_cell}
 use Rattle.rev_links.specs.contracts.cells.Cells.{the_row as cells_row}
 use Rattle.rev_links.specs.contracts.grid.Grid.{the_row as grid_row}
+use Rattle.rev_links.specs.contracts.counted.CountedGrid.{the_row as counted_row}
 
 -- once the borrow ends, the cell has the last value written through it
 abbrev pub LendsCell : (T A : RattleType) → Ghosts A.Denot → MutBor (List (List T.Denot)) → ℕ → ℕ → MutBor T.Denot → Fml
 LendsCell T A alloc g page slot r = Lends (grid_row T A alloc) T g r (with_cell g.now page slot)
+
+-- the same where each read and write is counted
+abbrev pub LendsCounted : (T A : RattleType) → Ghosts A.Denot → MutBor (List (List T.Denot)) → ℕ → ℕ → MutBor T.Denot → Fml
+LendsCounted T A alloc g page slot r = Lends (counted_row T A alloc) T g r (with_cell g.now page slot)
 
 -- the same of a value by number
 abbrev pub LendsValue : (T A : RattleType) → Ghosts A.Denot → MutBor (List T.Denot) → ℕ → MutBor T.Denot → Fml

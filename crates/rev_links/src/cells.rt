@@ -47,14 +47,14 @@ impl<T: Copy, A: Allocator> Cells<T, A> {
         self.values[at]
     }
 
-    /// The value at a number, to write to it in its place.
+    /// The value at a number, to read it and write to it in its place: two ticks.
     pub fn edit<'a, L: Ledger>(&'a mut self, at: usize, ticks: &mut Ticks<L>) -> &'a mut T
         requires { at < length self.old }
         ensures* writes_back { sem 𝓛 (LendsValue T.row A.row A.Allocator self.entry at result) }
         ensures value { slice_get self.old at ≡ Some result.now }
-        ensures cost { ticks.new ≡ ticks.old + 1 }
+        ensures cost { ticks.new ≡ ticks.old + 2 }
     {
-        ticks.tick();
+        ticks.tick_by(2);
         &mut self.values[at]
     }
 

@@ -1,13 +1,11 @@
-ghost use Rattle.std.specs.Prelude.{◌≡◌, ◌<◌, ◌+◌, ℕ, List, [], length, IfOk, IsSome, Some, slice_index_or, slice_set};
+ghost use Rattle.std.specs.Prelude.{◌≡◌, ◌<◌, ℕ, List, [], length, IfOk, IsSome, Some, slice_index_or, slice_set};
 ghost use Rattle.rev_links.specs.Grids.{cell_at, with_cell, away};
 ghost use Rattle.std.specs.Borrow.{sem};
 ghost use Rattle.std.specs.Option.Follows.{option_follows_value};
 
-use crate::ticks::Ticks;
 use std::alloc::{AllocError, Allocator};
 use std::marker::Model;
 use std::mem;
-use std::sync::ledger::Ledger;
 
 // What is there, to write to it in its place.
 fn present<T>(value: &mut Option<T>) -> &mut T
@@ -21,7 +19,8 @@ fn present<T>(value: &mut Option<T>) -> &mut T
     }
 }
 
-/// Cells by page and slot. The table of pages is made once, and a page is there or away.
+/// Cells by page and slot, where nobody counts reads and writes. The table of pages is made once, and a page is there or
+/// away.
 #[derive(Drop)]
 pub struct Grid<T, A: Allocator> {
     pages: Vec<Option<Vec<T, A>>, A>,
@@ -122,45 +121,5 @@ impl<T, A: Allocator> Grid<T, A> {
             Some(cells) => cells,
             None => unreachable!(),
         }
-    }
-}
-
-impl<T: Copy, A: Allocator> Grid<T, A> {
-    ghost use Rattle.rev_links.specs.Lending.{LendsCell};
-
-    /// What a cell holds, read in one tick.
-    pub fn read<L: Ledger>(&self, page: u16, slot: u16, ticks: &mut Ticks<L>) -> T
-        requires { IsSome (cell_at self.now page slot) }
-        ensures value { cell_at self.now page slot ≡ Some result }
-        ensures cost { ticks.new ≡ ticks.old + 1 }
-    {
-        ticks.tick();
-        *self.get(page, slot)
-    }
-
-    /// A cell, to write to it in its place, in one tick.
-    pub fn edit<'a, L: Ledger>(
-        &'a mut self,
-        page: u16,
-        slot: u16,
-        ticks: &mut Ticks<L>,
-    ) -> &'a mut T
-        requires { IsSome (cell_at self.old page slot) }
-        ensures* writes_back { sem 𝓛 (LendsCell T.row A.row A.Allocator self.entry page slot result) }
-        ensures value { cell_at self.old page slot ≡ Some result.now }
-        ensures cost { ticks.new ≡ ticks.old + 1 }
-    {
-        ticks.tick();
-        self.get_mut(page, slot)
-    }
-
-    /// Writes a cell in one tick.
-    pub fn write<L: Ledger>(&mut self, page: u16, slot: u16, value: T, ticks: &mut Ticks<L>)
-        requires { IsSome (cell_at self.old page slot) }
-        ensures value { self.new ≡ with_cell self.old page slot value }
-        ensures cost { ticks.new ≡ ticks.old + 1 }
-    {
-        ticks.tick();
-        let _old = self.replace(page, slot, value);
     }
 }

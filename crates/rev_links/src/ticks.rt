@@ -3,7 +3,8 @@ ghost use Rattle.std.specs.Prelude.{◌≡◌, ℕ, ◌+◌, ◌<◌};
 use std::marker::Model;
 use std::sync::ledger::{Blank, Book, Ledger, Share};
 
-/// How many cells were read or written. It takes no bytes, and only `tick` changes it.
+/// How many cells of `Cells` and of a `CountedGrid` were read or written. It takes no bytes, and only `tick` and `tick_by`
+/// change it.
 #[derive(Drop)]
 pub struct Ticks<L: Ledger> {
     book: Book<L>,
@@ -19,7 +20,7 @@ impl<L: Ledger> Model for Ticks<L> {
 }
 
 impl<L: Ledger> Ticks<L> {
-    /// No tick yet.
+    /// No tick yet. A bound on a caller's ticks says nothing of these: only a call that has no bound starts its own.
     pub fn start(blank: Blank) -> Ticks<L>
         requires name { blank.name ≡ L.name }
         requires parts { blank.parts ≡ L.parts }
@@ -35,5 +36,12 @@ impl<L: Ledger> Ticks<L> {
         ensures { self.new ≡ self.old + 1 }
     {
         self.book.add(&mut self.share, 1);
+    }
+
+    /// Counts so many reads and writes more.
+    pub fn tick_by(&mut self, count: usize)
+        ensures { self.new ≡ self.old + count }
+    {
+        self.book.add(&mut self.share, count as u64);
     }
 }

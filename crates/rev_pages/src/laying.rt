@@ -19,18 +19,7 @@ impl<A: Allocator> Pages<A> {
         requires empty { slice_index self.old.slots page ≡ 0 }
         ensures { self.new ≡ laid page class slots form self.old }
     {
-        let n = slots.count();
-        match form {
-            Form::Fresh => {
-                self.attach_new(page, class, slots);
-                self.carve_freely(class, page, n);
-            }
-            Form::Pool => {
-                self.attach(page, class, slots);
-                self.carve_freely(class, page, n);
-            }
-            Form::Withdrawn => self.attach(page, class, slots),
-        }
+        self.lay_by::<Brand>(page, class, slots, form, Blank::new(1));
     }
 
     /// Takes a page's slots out, the reverse of `lay`: its chunks leave the front of its class's free list, or stand in
@@ -42,19 +31,66 @@ impl<A: Allocator> Pages<A> {
         ensures value { self.new
             ≡ lifted page (slice_index self.old.owner page) (slice_index self.old.slots page) form self.old }
     {
+        self.lift_by::<Brand>(page, form, Blank::new(1))
+    }
+
+    // `lay` with ticks of its own: as many as the page's slots ask for.
+    fn lay_by<L: Ledger>(
+        &mut self,
+        page: u16,
+        class: usize,
+        slots: Slots<A>,
+        form: Form,
+        blank: Blank,
+    )
+        requires name { blank.name ≡ L.name }
+        requires parts { blank.parts ≡ L.parts }
+        requires some { 0 < L.parts }
+        requires class { class < length self.old.free }
+        requires page { CanLay form page self.old }
+        requires empty { slice_index self.old.slots page ≡ 0 }
+        ensures { self.new ≡ laid page class slots form self.old }
+    {
+        let mut ticks = Ticks::<L>::start(blank);
+        let n = slots.count();
+        match form {
+            Form::Fresh => {
+                self.attach_new(page, class, slots, &mut ticks);
+                self.carve(class, page, n, &mut ticks);
+            }
+            Form::Pool => {
+                self.attach(page, class, slots, &mut ticks);
+                self.carve(class, page, n, &mut ticks);
+            }
+            Form::Withdrawn => self.attach(page, class, slots, &mut ticks),
+        }
+    }
+
+    // `lift` with ticks of its own.
+    fn lift_by<L: Ledger>(&mut self, page: u16, form: Form, blank: Blank) -> Slots<A>
+        requires name { blank.name ≡ L.name }
+        requires parts { blank.parts ≡ L.parts }
+        requires some { 0 < L.parts }
+        requires there { 0 < slice_index self.old.slots page }
+        requires page { CanLift form page self.old }
+        ensures count { result ≡ slice_index self.old.slots page }
+        ensures value { self.new
+            ≡ lifted page (slice_index self.old.owner page) (slice_index self.old.slots page) form self.old }
+    {
+        let mut ticks = Ticks::<L>::start(blank);
         let _table = &self.table;
         let class = self.owner(usize::from(page));
         let n = self.count(page);
         match form {
             Form::Fresh => {
-                self.uncarve_freely(class, page, n);
-                self.detach_last(page)
+                self.uncarve(class, page, n, &mut ticks);
+                self.detach_last(page, &mut ticks)
             }
             Form::Pool => {
-                self.uncarve_freely(class, page, n);
-                self.detach(page)
+                self.uncarve(class, page, n, &mut ticks);
+                self.detach(page, &mut ticks)
             }
-            Form::Withdrawn => self.detach(page),
+            Form::Withdrawn => self.detach(page, &mut ticks),
         }
     }
 
@@ -67,7 +103,13 @@ impl<A: Allocator> Pages<A> {
     }
 
     // Makes the next page.
-    fn attach_new(&mut self, page: u16, class: usize, slots: Slots<A>)
+    fn attach_new<L: Ledger>(
+        &mut self,
+        page: u16,
+        class: usize,
+        slots: Slots<A>,
+        ticks: &mut Ticks<L>,
+    )
         requires class { class < length self.old.free }
         requires next { page ≡ length self.old.owner }
         requires room { page < length self.old.slots }
@@ -77,11 +119,11 @@ impl<A: Allocator> Pages<A> {
     {
         let Slots { links } = slots;
         self.push_owner(class);
-        self.table.links.lay(page, links);
+        self.table.links.lay(page, links, ticks);
     }
 
     // Gives a page of the pool to a class.
-    fn attach(&mut self, page: u16, class: usize, slots: Slots<A>)
+    fn attach<L: Ledger>(&mut self, page: u16, class: usize, slots: Slots<A>, ticks: &mut Ticks<L>)
         requires class { class < length self.old.free }
         requires there { page < length self.old.owner }
         requires empty { slice_index self.old.slots page ≡ 0 }
@@ -91,11 +133,11 @@ impl<A: Allocator> Pages<A> {
     {
         let Slots { links } = slots;
         self.set_owner(page, class);
-        self.table.links.lay(page, links);
+        self.table.links.lay(page, links, ticks);
     }
 
     // Takes the last page's slots out, and forgets the page.
-    fn detach_last(&mut self, page: u16) -> Slots<A>
+    fn detach_last<L: Ledger>(&mut self, page: u16, ticks: &mut Ticks<L>) -> Slots<A>
         requires last { page + 1 ≡ length self.old.owner }
         requires there { 0 < slice_index self.old.slots page }
         requires clear { IsClear self.old page }
@@ -103,12 +145,12 @@ impl<A: Allocator> Pages<A> {
         ensures value { self.new ≡ without_last_page self.old page }
     {
         self.pop_owner();
-        let links = self.table.links.lift(page);
+        let links = self.table.links.lift(page, ticks);
         Slots { links }
     }
 
     // Takes a page's slots out, and gives it to the pool.
-    fn detach(&mut self, page: u16) -> Slots<A>
+    fn detach<L: Ledger>(&mut self, page: u16, ticks: &mut Ticks<L>) -> Slots<A>
         requires page { page < length self.old.owner }
         requires there { 0 < slice_index self.old.slots page }
         requires clear { IsClear self.old page }
@@ -118,7 +160,7 @@ impl<A: Allocator> Pages<A> {
         // the table has a list for the pool
         let _table = &self.table;
         self.set_owner(page, 0);
-        let links = self.table.links.lift(page);
+        let links = self.table.links.lift(page, ticks);
         Slots { links }
     }
 
@@ -146,49 +188,5 @@ impl<A: Allocator> Pages<A> {
             let chunk = ChunkRef { page, slot };
             self.take(class, chunk, ticks);
         }
-    }
-
-    // `carve`, where nobody counts.
-    fn carve_freely(&mut self, class: usize, page: u16, n: u16)
-        requires class { class < length self.old.free }
-        requires slots { n ≡ slice_index self.old.slots page }
-        requires clear { IsClear self.old page }
-        ensures { self.new ≡ with_free self.old class (carved page n (free_of self.old class)) }
-    {
-        self.carve_by::<Brand>(class, page, n, Blank::new(1));
-    }
-
-    fn carve_by<L: Ledger>(&mut self, class: usize, page: u16, n: u16, blank: Blank)
-        requires name { blank.name ≡ L.name }
-        requires parts { blank.parts ≡ L.parts }
-        requires some { 0 < L.parts }
-        requires class { class < length self.old.free }
-        requires slots { n ≡ slice_index self.old.slots page }
-        requires clear { IsClear self.old page }
-        ensures { self.new ≡ with_free self.old class (carved page n (free_of self.old class)) }
-    {
-        let mut ticks = Ticks::<L>::start(blank);
-        self.carve(class, page, n, &mut ticks);
-    }
-
-    // `uncarve`, where nobody counts.
-    fn uncarve_freely(&mut self, class: usize, page: u16, n: u16)
-        requires class { class < length self.old.free }
-        requires front { free_of self.old class ≡ carved page n (drop n (free_of self.old class)) }
-        ensures { self.new ≡ with_free self.old class (drop n (free_of self.old class)) }
-    {
-        self.uncarve_by::<Brand>(class, page, n, Blank::new(1));
-    }
-
-    fn uncarve_by<L: Ledger>(&mut self, class: usize, page: u16, n: u16, blank: Blank)
-        requires name { blank.name ≡ L.name }
-        requires parts { blank.parts ≡ L.parts }
-        requires some { 0 < L.parts }
-        requires class { class < length self.old.free }
-        requires front { free_of self.old class ≡ carved page n (drop n (free_of self.old class)) }
-        ensures { self.new ≡ with_free self.old class (drop n (free_of self.old class)) }
-    {
-        let mut ticks = Ticks::<L>::start(blank);
-        self.uncarve(class, page, n, &mut ticks);
     }
 }

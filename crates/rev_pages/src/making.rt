@@ -7,7 +7,7 @@ use crate::parts::Slots;
 use crate::places::{FreeLink, FreeList};
 use crate::table::Table;
 use rev_classes::{ClassTable, Config, MAX_CLASSES};
-use rev_links::{Cells, Grid, Link, Place};
+use rev_links::{Cells, CountedGrid, Link, Place};
 use std::alloc::{AllocError, Allocator};
 
 /// Slots of a page, with links that lead nowhere. A want of memory is the only error.
@@ -52,7 +52,7 @@ impl<A: Allocator + Clone + Drop> Pages<A> {
         let owners = vec![in alloc.clone()?; 0; places]?;
         let owned = vec![in alloc.clone()?; 0; lists]?;
         let ends = empty_ends(alloc.clone()?, lists as u16)?;
-        let links = Grid::open(alloc, places)?;
+        let links = CountedGrid::open(alloc, places)?;
         let table = Table {
             ends: Cells::over(ends),
             links,

@@ -4,7 +4,7 @@ ghost use Rattle.rev_links.specs.declared.places.Place.TheVariants.{At};
 ghost use Rattle.rev_pages.specs.Tables.{FreePlace, link_at, next_in, previous_in, SameShape, Closes, Opens};
 
 use crate::places::{FreeLink, FreePlace};
-use rev_links::{Cells, Grid, Link, Place, Ticks};
+use rev_links::{Cells, CountedGrid, Link, Place, Ticks};
 use rev_model::ChunkRef;
 use std::alloc::Allocator;
 use std::sync::ledger::Ledger;
@@ -13,7 +13,7 @@ use std::sync::ledger::Ledger;
 #[derive(Drop)]
 pub struct Table<A: Allocator> {
     pub ends: Cells<FreeLink, A>,
-    pub links: Grid<FreeLink, A>,
+    pub links: CountedGrid<FreeLink, A>,
 }
 
 impl<A: Allocator> Table<A> {
@@ -50,7 +50,7 @@ impl<A: Allocator> Table<A> {
         ensures value { SetsNext (next_in self.old.ends self.old.links) (previous_in self.old.ends self.old.links)
             (next_in self.new.ends self.new.links) (previous_in self.new.ends self.new.links) place next }
         ensures shape { SameShape self.old.ends self.old.links self.new.ends self.new.links }
-        ensures cost { ticks.new ≡ ticks.old + 1 }
+        ensures cost { ticks.new ≡ ticks.old + 2 }
     {
         match place {
             Place::End(list) => self.ends.edit(usize::from(list.class), ticks).next = next,
@@ -69,7 +69,7 @@ impl<A: Allocator> Table<A> {
         ensures value { SetsPrevious (next_in self.old.ends self.old.links) (previous_in self.old.ends self.old.links)
             (next_in self.new.ends self.new.links) (previous_in self.new.ends self.new.links) place previous }
         ensures shape { SameShape self.old.ends self.old.links self.new.ends self.new.links }
-        ensures cost { ticks.new ≡ ticks.old + 1 }
+        ensures cost { ticks.new ≡ ticks.old + 2 }
     {
         match place {
             Place::End(list) => self.ends.edit(usize::from(list.class), ticks).previous = previous,
@@ -83,7 +83,7 @@ impl<A: Allocator> Table<A> {
         ensures before { previous_in self.old.ends self.old.links (At chunk) ≡ Some result }
         ensures value { Closes self.old.ends self.old.links self.new.ends self.new.links chunk }
         ensures shape { SameShape self.old.ends self.old.links self.new.ends self.new.links }
-        ensures cost { ticks.new ≡ ticks.old + 3 }
+        ensures cost { ticks.new ≡ ticks.old + 5 }
     {
         let link = self.link(Place::At(chunk), ticks);
         self.set_next(link.previous, link.next, ticks);
@@ -98,7 +98,7 @@ impl<A: Allocator> Table<A> {
         requires gap { Gap (next_in self.old.ends self.old.links) (previous_in self.old.ends self.old.links) after chunk }
         ensures value { Opens self.old.ends self.old.links self.new.ends self.new.links chunk after }
         ensures shape { SameShape self.old.ends self.old.links self.new.ends self.new.links }
-        ensures cost { ticks.new ≡ ticks.old + 4 }
+        ensures cost { ticks.new ≡ ticks.old + 6 }
     {
         let next = self.link(after, ticks).next;
         self.set_link(

@@ -4,7 +4,7 @@ ghost use Rattle.rev_links.specs.declared.places.Place.TheVariants.{At};
 ghost use Rattle.rev_queues.specs.Positions.{Position, link_at, next_in, previous_in, told, Closes, Opens, Tells, SameShape, SameStanding};
 
 use crate::members::{Member, Position, PositionLink, QueueSlot, Standing};
-use rev_links::{Cells, Grid, Link, Place, Ticks};
+use rev_links::{Cells, CountedGrid, Link, Place, Ticks};
 use std::alloc::Allocator;
 use std::sync::ledger::Ledger;
 
@@ -13,7 +13,7 @@ use std::sync::ledger::Ledger;
 pub struct Links<A: Allocator> {
     pub ends: Cells<PositionLink, A>,
     pub marks: Cells<PositionLink, A>,
-    pub slots: Grid<QueueSlot, A>,
+    pub slots: CountedGrid<QueueSlot, A>,
 }
 
 impl<A: Allocator> Links<A> {
@@ -54,7 +54,7 @@ impl<A: Allocator> Links<A> {
             (next_in self.new.ends self.new.marks self.new.slots) (previous_in self.new.ends self.new.marks self.new.slots) member }
         ensures standing { SameStanding self.old.slots self.new.slots }
         ensures shape { SameShape self.old.ends self.old.marks self.old.slots self.new.ends self.new.marks self.new.slots }
-        ensures cost { ticks.new ≡ ticks.old + 3 }
+        ensures cost { ticks.new ≡ ticks.old + 5 }
     {
         let link = self.link(Place::At(member), ticks);
         self.set_next(link.previous, link.next, ticks);
@@ -71,7 +71,7 @@ impl<A: Allocator> Links<A> {
             (next_in self.new.ends self.new.marks self.new.slots) (previous_in self.new.ends self.new.marks self.new.slots) member after }
         ensures standing { SameStanding self.old.slots self.new.slots }
         ensures shape { SameShape self.old.ends self.old.marks self.old.slots self.new.ends self.new.marks self.new.slots }
-        ensures cost { ticks.new ≡ ticks.old + 4 }
+        ensures cost { ticks.new ≤ ticks.old + 7 }
     {
         let next = self.link(after, ticks).next;
         self.set_link(
@@ -92,7 +92,7 @@ impl<A: Allocator> Links<A> {
         ensures links { (other : Position) → link_at self.new.ends self.new.marks self.new.slots other ≡ link_at self.old.ends self.old.marks self.old.slots other }
         ensures value { Tells self.old.slots self.new.slots member standing }
         ensures shape { SameShape self.old.ends self.old.marks self.old.slots self.new.ends self.new.marks self.new.slots }
-        ensures cost { ticks.new ≤ ticks.old + 1 }
+        ensures cost { ticks.new ≤ ticks.old + 2 }
     {
         match member {
             Member::Mark(_) => {}
@@ -110,7 +110,7 @@ impl<A: Allocator> Links<A> {
             → link_at self.new.ends self.new.marks self.new.slots other ≡ link_at self.old.ends self.old.marks self.old.slots other }
         ensures standing { SameStanding self.old.slots self.new.slots }
         ensures shape { SameShape self.old.ends self.old.marks self.old.slots self.new.ends self.new.marks self.new.slots }
-        ensures cost { ticks.new ≡ ticks.old + 1 }
+        ensures cost { ticks.new ≤ ticks.old + 2 }
     {
         match position {
             Place::End(queue) => self.ends.set(usize::from(queue.number), link, ticks),
@@ -130,7 +130,7 @@ impl<A: Allocator> Links<A> {
             (next_in self.new.ends self.new.marks self.new.slots) (previous_in self.new.ends self.new.marks self.new.slots) position next }
         ensures standing { SameStanding self.old.slots self.new.slots }
         ensures shape { SameShape self.old.ends self.old.marks self.old.slots self.new.ends self.new.marks self.new.slots }
-        ensures cost { ticks.new ≡ ticks.old + 1 }
+        ensures cost { ticks.new ≡ ticks.old + 2 }
     {
         match position {
             Place::End(queue) => self.ends.edit(usize::from(queue.number), ticks).next = next,
@@ -157,7 +157,7 @@ impl<A: Allocator> Links<A> {
             (next_in self.new.ends self.new.marks self.new.slots) (previous_in self.new.ends self.new.marks self.new.slots) position previous }
         ensures standing { SameStanding self.old.slots self.new.slots }
         ensures shape { SameShape self.old.ends self.old.marks self.old.slots self.new.ends self.new.marks self.new.slots }
-        ensures cost { ticks.new ≡ ticks.old + 1 }
+        ensures cost { ticks.new ≡ ticks.old + 2 }
     {
         match position {
             Place::End(queue) => self.ends.edit(usize::from(queue.number), ticks).previous =

@@ -16,7 +16,7 @@ use crate::members::{
 };
 use crate::parts::Slots;
 use rev_classes::{ClassTable, Config};
-use rev_links::{Cells, Grid, Place, Ticks};
+use rev_links::{Cells, CountedGrid, Place, Ticks};
 use rev_model::{ChunkRef, Entry, Queue};
 use std::alloc::{AllocError, Allocator};
 use std::marker::{Brand, Model};
@@ -168,16 +168,7 @@ impl<A: Allocator> Queues<A> {
         requires there { StandsIn self.now.queues class chunk }
         ensures { result ≡ queue_among (map entries self.now.queues) class chunk }
     {
-        let named = self.links.slots.get(chunk.page, chunk.slot).standing.queue;
-        if named == self.id(class, Queue::Hot) {
-            Queue::Hot
-        } else if named == self.id(class, Queue::Warm) {
-            Queue::Warm
-        } else if named == self.id(class, Queue::Cold) {
-            Queue::Cold
-        } else {
-            Queue::Temp
-        }
+        self.queue_by::<Brand>(class, chunk, Blank::new(1))
     }
 
     /// Takes an entry out of a queue, and answers what stood before it.
@@ -247,8 +238,7 @@ impl<A: Allocator> Queues<A> {
         ensures queues { self.new.queues ≡ self.old.queues }
         ensures slots { self.new.slots ≡ slice_set self.old.slots page slots }
     {
-        let Slots { cells } = slots;
-        self.links.slots.lay(page, cells);
+        self.lay_by::<Brand>(page, slots, Blank::new(1));
     }
 
     /// Takes the slots of a page out, of which none stands in a queue. It takes no memory.
@@ -259,8 +249,7 @@ impl<A: Allocator> Queues<A> {
         ensures queues { self.new.queues ≡ self.old.queues }
         ensures slots { self.new.slots ≡ slice_set self.old.slots page 0 }
     {
-        let cells = self.links.slots.lift(page);
-        Slots { cells }
+        self.lift_by::<Brand>(page, Blank::new(1))
     }
 
     // The number of a queue that is there.
@@ -273,7 +262,61 @@ impl<A: Allocator> Queues<A> {
         id_of(class, queue)
     }
 
-    // What is counted of a queue, where nobody counts the read.
+    // `queue_with` with ticks of its own.
+    fn queue_by<L: Ledger>(&self, class: usize, chunk: ChunkRef, blank: Blank) -> Queue
+        requires name { blank.name ≡ L.name }
+        requires parts { blank.parts ≡ L.parts }
+        requires some { 0 < L.parts }
+        requires class { queue_place class Temp < length self.now.queues }
+        requires there { StandsIn self.now.queues class chunk }
+        ensures { result ≡ queue_among (map entries self.now.queues) class chunk }
+    {
+        let mut ticks = Ticks::<L>::start(blank);
+        let slot = self.links.slots.read(chunk.page, chunk.slot, &mut ticks);
+        let named = slot.standing.queue;
+        if named == self.id(class, Queue::Hot) {
+            Queue::Hot
+        } else if named == self.id(class, Queue::Warm) {
+            Queue::Warm
+        } else if named == self.id(class, Queue::Cold) {
+            Queue::Cold
+        } else {
+            Queue::Temp
+        }
+    }
+
+    // `lay` with ticks of its own.
+    fn lay_by<L: Ledger>(&mut self, page: u16, slots: Slots<A>, blank: Blank)
+        requires name { blank.name ≡ L.name }
+        requires parts { blank.parts ≡ L.parts }
+        requires some { 0 < L.parts }
+        requires page { page < length self.old.slots }
+        requires empty { slice_index self.old.slots page ≡ 0 }
+        ensures queues { self.new.queues ≡ self.old.queues }
+        ensures slots { self.new.slots ≡ slice_set self.old.slots page slots }
+    {
+        let mut ticks = Ticks::<L>::start(blank);
+        let Slots { cells } = slots;
+        self.links.slots.lay(page, cells, &mut ticks);
+    }
+
+    // `lift` with ticks of its own.
+    fn lift_by<L: Ledger>(&mut self, page: u16, blank: Blank) -> Slots<A>
+        requires name { blank.name ≡ L.name }
+        requires parts { blank.parts ≡ L.parts }
+        requires some { 0 < L.parts }
+        requires there { 0 < slice_index self.old.slots page }
+        requires clear { IsClear self.old.queues page }
+        ensures count { result ≡ slice_index self.old.slots page }
+        ensures queues { self.new.queues ≡ self.old.queues }
+        ensures slots { self.new.slots ≡ slice_set self.old.slots page 0 }
+    {
+        let mut ticks = Ticks::<L>::start(blank);
+        let cells = self.links.slots.lift(page, &mut ticks);
+        Slots { cells }
+    }
+
+    // What is counted of a queue, with ticks of its own.
     fn tally<L: Ledger>(&self, queue: QueueId, blank: Blank) -> Tally
         requires name { blank.name ≡ L.name }
         requires parts { blank.parts ≡ L.parts }
@@ -304,7 +347,7 @@ impl<A: Allocator + Clone> Queues<A> {
             marked: false,
         };
         let tallies = Cells::over(vec![in alloc.clone()?; tally; usize::from(n)]?);
-        let slots = Grid::open(alloc, config.pages as usize + 62)?;
+        let slots = CountedGrid::open(alloc, config.pages as usize + 62)?;
         Ok(Queues {
             links: Links { ends, marks, slots },
             tallies,

@@ -1,4 +1,4 @@
-use Rattle.std.proofs.Common.{◌∙◌}
+use Rattle.std.proofs.Common.{◌∙◌, arith}
 use Rattle.rev_pages.proofs.Steps.{few_classes, end_at, front_value}
 use Rattle.rev_pages.proofs.pages.Pages.front.Goals as goal
 
@@ -10,3 +10,6 @@ link-requires g c = end_at c.self.inside.owners.items c.self.inside.made c.self.
 
 pub returns-clause-front : goal.returns-clause-front
 returns-clause-front g c = c.chunk_at.ensures ∙ front_value c.self.inside.owners.items c.self.inside.made c.self.inside.table.ends c.self.inside.table.links c.self.invariant.linked c.args.self.now c.self.view_is c.args.class c.requires.class _ c.place_behind-end.ensures _ c.link.ensures.value
+
+pub returns-clause-cost : goal.returns-clause-cost
+returns-clause-cost g c = let e = c.link.ensures.cost in omega (arith, e)

@@ -1,4 +1,4 @@
-use Rattle.std.proofs.Common.{ap, rules}
+use Rattle.std.proofs.Common.{ap, arith}
 use Rattle.rev_pages.specs.State.{PagesState}
 use Rattle.rev_pages.proofs.Steps.{few_classes, put_there, put_gap, put_apart, put_linked, put_value}
 use Rattle.rev_pages.proofs.Counts.{counted_after}
@@ -32,4 +32,4 @@ pub returns-clause-slots : goal.returns-clause-slots
 returns-clause-slots g c = ap (λ (w : PagesState). w.slots) (put_value c.self.inside.owners.items c.self.inside.made c.self.inside.table.ends c.self.inside.table.links c.self.invariant.linked c.args.self.now c.self.view_is c.args.class c.requires.class c.args.chunk c.requires.nowhere c.args.after c.requires.after _ _ _ c.place_behind-place.ensures c.open.ensures.shape c.open.ensures.value)
 
 pub returns-clause-cost : goal.returns-clause-cost
-returns-clause-cost g c = search rules steps 500000
+returns-clause-cost g c = let e = c.open.ensures.cost in omega (arith, e)

@@ -1,4 +1,4 @@
-use Rattle.std.proofs.Common.{ap, ◌∙◌, rules}
+use Rattle.std.proofs.Common.{ap, ◌∙◌, arith}
 use Rattle.rev_pages.specs.State.{PagesState}
 use Rattle.rev_pages.proofs.Steps.{take_between, take_before, take_linked, take_value}
 use Rattle.rev_pages.proofs.Counts.{counted_after}
@@ -26,4 +26,4 @@ pub returns-clause-slots : goal.returns-clause-slots
 returns-clause-slots g c = ap (λ (w : PagesState). w.slots) (take_value c.self.inside.owners.items c.self.inside.made c.self.inside.table.ends c.self.inside.table.links c.self.invariant.linked c.args.self.now c.self.view_is c.args.class c.requires.class c.args.chunk c.requires.there _ _ c.close.ensures.shape c.close.ensures.value)
 
 pub returns-clause-cost : goal.returns-clause-cost
-returns-clause-cost g c = search rules steps 500000
+returns-clause-cost g c = let e = c.close.ensures.cost in omega (arith, e)

@@ -1,4 +1,4 @@
-use Rattle.std.proofs.Common.{refl, ap, ◌∙◌}
+use Rattle.std.proofs.Common.{arith, refl, ap, ◌∙◌}
 use Rattle.rev_links.specs.declared.places.Place.TheVariants.{At}
 use Rattle.rev_queues.proofs.Steps.{link_written, others_kept, standing_kept, shape_kept, end_link, end_others, end_shape, mark_link, mark_others, mark_shape, end_place, mark_place, chunk_place}
 use Rattle.rev_queues.proofs.links.Links.set_link.Goals as goal
@@ -77,10 +77,10 @@ edit-requires g c =
     chunk_place s.ends s.marks s.slots c.in-Chunk.chunk c.args.position (c.in-At.is ∙ ap At c.in-Chunk.is) c.requires
 
 pub returns-in-End-clause-cost : goal.returns-in-End-clause-cost
-returns-in-End-clause-cost g c = c.set.ensures.cost
+returns-in-End-clause-cost g c = let e = c.set.ensures.cost in omega (arith, e)
 
 pub returns-in-Mark-clause-cost : goal.returns-in-Mark-clause-cost
-returns-in-Mark-clause-cost g c = c.set-in-Mark.ensures.cost
+returns-in-Mark-clause-cost g c = let e = c.set-in-Mark.ensures.cost in omega (arith, e)
 
 pub returns-in-Chunk-clause-cost : goal.returns-in-Chunk-clause-cost
-returns-in-Chunk-clause-cost g c = c.edit.ensures.cost
+returns-in-Chunk-clause-cost g c = let e = c.edit.ensures.cost in omega (arith, e)

@@ -1,4 +1,4 @@
-use Rattle.std.proofs.Common.{◌≡◌, Some, IsSome, subst, sym, ◌∙◌, ap}
+use Rattle.std.proofs.Common.{◌≡◌, Some, IsSome, subst, sym, ◌∙◌, ap, arith}
 use Rattle.rev_links.specs.declared.places.Place.TheVariants.{At}
 use Rattle.rev_queues.specs.Positions.{link_at}
 use Rattle.rev_queues.specs.QueueState.{id_of, member_of_entry}
@@ -17,3 +17,6 @@ returns-clause-value g c =
     c.entry_at.ensures
     ∙ before_read s.links.ends s.links.marks s.links.slots s.tallies c.self.invariant c.args.self.now c.self.view_is (id_of c.args.class c.args.queue) c.requires.place c.args.entry c.requires.there
     c.link.result (subst (λ m. link_at s.links.ends s.links.marks s.links.slots (At m) ≡ Some c.link.result) (c.member_in-member.ensures ∙ ap (λ q. member_of_entry q c.args.entry) c.id.ensures) c.link.ensures.value)
+
+pub returns-clause-cost : goal.returns-clause-cost
+returns-clause-cost g c = let e = c.link.ensures.cost in omega (arith, e)

@@ -1,4 +1,4 @@
-use Rattle.std.proofs.Common.{◌≡◌, ◌≢◌, IsSome, Some, subst, sym, ◌∙◌, ap, slice_get}
+use Rattle.std.proofs.Common.{◌≡◌, ◌≢◌, IsSome, Some, subst, sym, ◌∙◌, ap, slice_get, arith}
 use Rattle.rev_links.specs.Rings.{Gap}
 use Rattle.rev_links.specs.declared.places.Place.TheVariants.{At}
 use Rattle.rev_queues.specs.declared.members.QueueId.{QueueId}
@@ -124,3 +124,6 @@ returns-clause-slots g c =
     (subst (λ x. Tells o.slots t.slots x (record { queue = c.id-id.result; footprint = c.args.footprint })) m c.tell.ensures.value))
     c.get-tally.result (subst (λ n. slice_get s.tallies n ≡ Some c.get-tally.result) (c.from-place.ensures ∙ ap (λ (q : QueueId). q.number) i) c.get-tally.ensures.value)
     c.from-place.result (c.from-place.ensures ∙ ap (λ (q : QueueId). q.number) i) c.from-bytes.result (c.from-bytes.ensures ∙ c.bytes_told.ensures) c.set.new.self c.with.result c.with.ensures c.set.ensures.value
+
+pub returns-clause-cost : goal.returns-clause-cost
+returns-clause-cost g c = let a = c.open.ensures.cost in let b = c.tell.ensures.cost in let d = c.get-tally.ensures.cost in let e = c.set.ensures.cost in omega (arith, a, b, d, e)

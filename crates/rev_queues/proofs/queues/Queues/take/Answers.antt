@@ -1,4 +1,4 @@
-use Rattle.std.proofs.Common.{◌≡◌, IsSome, Some, subst, sym, ◌∙◌, ap, slice_get}
+use Rattle.std.proofs.Common.{◌≡◌, IsSome, Some, subst, sym, ◌∙◌, ap, slice_get, arith}
 use Rattle.rev_links.specs.Rings.{Between}
 use Rattle.rev_links.specs.declared.places.Place.TheVariants.{At}
 use Rattle.rev_queues.specs.declared.members.QueueId.{QueueId}
@@ -87,3 +87,6 @@ returns-clause-slots g c =
     t.ends t.marks t.slots c.set.new.self c.close-before.ensures.shape
     (subst (Closes (next_in s.links.ends s.links.marks s.links.slots) (previous_in s.links.ends s.links.marks s.links.slots) (next_in t.ends t.marks t.slots) (previous_in t.ends t.marks t.slots)) m c.close-before.ensures.value)
     c.close-before.ensures.standing c.from-place.result (c.from-place.ensures ∙ ap (λ (q : QueueId). q.number) c.id-id.ensures) c.without.result c.without.ensures c.set.ensures.value
+
+pub returns-clause-cost : goal.returns-clause-cost
+returns-clause-cost g c = let a = c.footprint.ensures.cost in let b = c.close-before.ensures.cost in let d = c.get-tally.ensures.cost in let e = c.set.ensures.cost in omega (arith, a, b, d, e)

@@ -2,7 +2,7 @@ use Rattle.std.proofs.Common.{◌≡◌, List, [], sym, subst, refl, set}
 use Rattle.rev_queues.specs.declared.members.QueueSlot.{QueueSlot}
 use Rattle.rev_queues.specs.QueueState.{IsLinked, AreSlots, state_of}
 use Rattle.rev_queues.proofs.Exchanges.{no_cells, page_cells, apart_where_clear, exchange_linked, exchange_queues, exchange_slots}
-use Rattle.rev_queues.proofs.queues.Queues.lift.Goals as goal
+use Rattle.rev_queues.proofs.queues.Queues.lift_by.Goals as goal
 
 pub invariant_of-result : goal.invariant_of-result
 invariant_of-result g c =
