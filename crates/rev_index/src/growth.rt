@@ -1,4 +1,4 @@
-ghost use Rattle.std.specs.Prelude.{◌≡◌, true, ◌<◌, ◌≤◌, ◌^◌, ◌*◌, ◌++◌, ℕ, List, [], Option, None, Some, OnOk, length, vec_len};
+ghost use Rattle.std.specs.Prelude.{◌≡◌, ◌<◌, ◌≤◌, ◌^◌, ◌++◌, ℕ, List, [], Option, None, Some, OnOk, length, vec_len};
 ghost use Rattle.std.specs.FinMap as map;
 ghost use Rattle.rev_items.specs.Plain.{PlainItem};
 ghost use Rattle.rev_index.specs.Made.{at};
@@ -9,26 +9,10 @@ use crate::chains::{Bucket, Chains};
 use crate::item_table::ItemTable;
 use crate::making::empty_ends;
 use crate::seek::home;
+use crate::sizing::{KeyRange, wanted};
 use rev_links::Place;
 use rev_model::ChunkRef;
 use std::alloc::{AllocError, Allocator};
-
-// How many keys a bucket may hold, on average, before there are more buckets.
-const KEYS_PER_BUCKET: usize = 2;
-
-// How many times as many buckets there are then.
-const GROWTH: u32 = 4;
-
-// The most buckets that there can be, 2^20, over `GROWTH`: more than these do not grow.
-const MAX_GROWING: usize = 1 << 18;
-
-/// Whether so many buckets hold too many keys, and there can be `GROWTH` times as many.
-pub fn is_crowded(bound: usize, buckets: usize) -> bool
-    requires few { buckets ≤ 2 ^ 20 }
-    ensures { result ≡ true → 4 * buckets ≤ 2 ^ 20 }
-{
-    buckets <= MAX_GROWING && bound > KEYS_PER_BUCKET * buckets
-}
 
 /// Enters a chunk in the bucket of its item's key. It takes no memory.
 pub fn enter<A: Allocator>(chains: &mut Chains<A>, items: &ItemTable<A>, chunk: ChunkRef)
@@ -108,26 +92,52 @@ fn enter_all<A: Allocator>(
     }
 }
 
-/// Gives the chains four times as many buckets, and enters anew the chunks that stood in the old ones, of which `bound`
-/// says how many there are. All memory is taken before anything changes.
-///
-/// Err: a growth was refused, and the chains are as they were.
-pub fn grow<A: Allocator + Clone>(
+// Gives the chains so many buckets, and enters anew the chunks that stood in the old ones, of which `keys` says how many
+// there are. All memory is taken before anything changes.
+//
+// Err: a growth was refused, and the chains are as they were.
+fn grow<A: Allocator + Clone>(
     chains: &mut Chains<A>,
     items: &ItemTable<A>,
-    bound: usize,
+    keys: usize,
+    buckets: usize,
     alloc: &A,
 ) -> Result<(), AllocError>
     requires kept { IsChained chains.old.ends.items chains.old.links items.now }
-    requires few { 4 * vec_len chains.old.ends ≤ 2 ^ 20 }
+    requires some { 0 < buckets }
+    requires few { buckets ≤ 2 ^ 20 }
     ensures kept { IsChained chains.new.ends.items chains.new.links items.now }
     ensures value { index_of chains.new.ends.items chains.new.links items.now
         ≡ index_of chains.old.ends.items chains.old.links items.now }
 {
-    let mut chunks = Vec::with_capacity(alloc.clone()?, bound)?;
-    let ends = empty_ends(alloc.clone()?, GROWTH * chains.ends.len() as u32)?;
+    let mut chunks = Vec::with_capacity(alloc.clone()?, keys)?;
+    let ends = empty_ends(alloc.clone()?, buckets as u32)?;
     collect(chains, &mut chunks)?;
     chains.ends = ends;
     enter_all(chains, items, chunks);
     Ok(())
+}
+
+/// Gives the chains as many buckets as their keys want, of which `keys` says how many there are, and tells for how many
+/// keys those are enough. Where memory is refused the chains are as they were, which is to be enough until an eighth of
+/// the keys has come or gone.
+pub fn fit_buckets<A: Allocator + Clone>(
+    chains: &mut Chains<A>,
+    items: &ItemTable<A>,
+    keys: usize,
+    alloc: &A,
+) -> KeyRange
+    requires kept { IsChained chains.old.ends.items chains.old.links items.now }
+    ensures kept { IsChained chains.new.ends.items chains.new.links items.now }
+    ensures value { index_of chains.new.ends.items chains.new.links items.now
+        ≡ index_of chains.old.ends.items chains.old.links items.now }
+{
+    let buckets = wanted(keys, chains.ends.len());
+    if buckets == chains.ends.len() {
+        return KeyRange::fitting(buckets);
+    }
+    match grow(chains, items, keys, buckets, alloc) {
+        Ok(()) => KeyRange::fitting(buckets),
+        Err(_) => KeyRange::around(keys),
+    }
 }

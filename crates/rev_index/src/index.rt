@@ -9,11 +9,12 @@ ghost use Rattle.rev_model.specs.Words.{header_of};
 ghost use Rattle.rev_index.specs.Index.{PlainIndex, bound, unbound, empty_index};
 
 use crate::chains::Chains;
-use crate::growth::{enter, grow, is_crowded};
+use crate::growth::{enter, fit_buckets};
 use crate::item_table::ItemTable;
 use crate::making::empty_chains;
 use crate::parts::Slots;
 use crate::seek::seek;
+use crate::sizing::KeyRange;
 use rev_classes::{ClassTable, Config, MAX_CLASSES};
 use rev_items::{Item, Key};
 use rev_model::{ChunkRef, ItemHeader, Touched};
@@ -27,6 +28,8 @@ pub struct Index<A: Allocator> {
     items: ItemTable<A>,
     // how many keys are bound, for `widen` alone
     bound: usize,
+    // for how many keys the buckets are enough, or all that can be had for now: for `widen` alone, too
+    enough_for: KeyRange,
 }
 
 impl<A: Allocator> Model for Index<A> {
@@ -165,21 +168,24 @@ impl<A: Allocator + Clone> Index<A> {
         let pages = config.pages as usize + MAX_CLASSES;
         let chains = empty_chains(alloc.clone()?, pages, config.hash_power)?;
         let items = ItemTable::open(alloc, pages)?;
+        let enough_for = KeyRange::fitting(chains.ends.len());
         Ok(Index {
             chains,
             items,
             bound: 0,
+            enough_for,
         })
     }
 
     /// Gives the index four times as many buckets where they hold more than two keys each, on average, and 2^20 are not
-    /// exceeded. Where memory is refused it stays as it is. Nothing that is seen of the index depends on its buckets.
+    /// exceeded. Where memory is refused it stays as it is until an eighth of the keys has come or gone; a growth that was
+    /// put off so is made at once, however many times four are wanted by then. Nothing that is seen of the index depends
+    /// on its buckets.
     pub fn widen(&mut self, alloc: &A)
         ensures { self.new ≡ self.old }
     {
-        if is_crowded(self.bound, self.chains.ends.len()) {
-            // without memory the buckets stay as they are
-            let _ = grow(&mut self.chains, &self.items, self.bound, alloc);
+        if !self.enough_for.contains(self.bound) {
+            self.enough_for = fit_buckets(&mut self.chains, &self.items, self.bound, alloc);
         }
     }
 }

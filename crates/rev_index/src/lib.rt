@@ -9,6 +9,7 @@ mod item_table;
 mod making;
 mod parts;
 mod seek;
+mod sizing;
 
 pub use index::Index;
 pub use making::slots;

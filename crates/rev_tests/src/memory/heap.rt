@@ -56,3 +56,8 @@ pub fn refuse_in_turn<R: Abort, T: Trial>(rt: &R, alloc: Global, name: &str, tri
     }
     panic!(rt; "{name}: there was never enough memory")
 }
+
+/// Tries what has this name with no byte left: it wants none.
+pub fn want_nothing<R: Abort, T: Trial>(rt: &R, alloc: Global, name: &str, trial: &T) {
+    assert!(rt; attempt_anew(rt, alloc, trial, 0), "{name}");
+}

@@ -1,5 +1,5 @@
 //! Keys, lines, and the parts of a store.
-use crate::memory::heap::{Trial, fill, refuse_in_turn};
+use crate::memory::heap::{Trial, fill, refuse_in_turn, want_nothing};
 use crate::owned::is_made;
 use crate::streams::Stutter;
 use linked_list_allocator::LocalHeap;
@@ -134,13 +134,6 @@ impl Trial for Text {
     }
 }
 
-#[test]
-fn lines(rt: HostRuntime) {
-    for line in &LINES {
-        refuse_in_turn(&rt, rt.alloc(), line.0, line);
-    }
-}
-
 // A script of one line that comes byte by byte, and is copied as it comes.
 #[derive(Clone, Copy)]
 struct ByteByByte(&'static str);
@@ -152,13 +145,19 @@ impl Trial for ByteByByte {
     }
 }
 
-// The key takes no memory, so what is refused is the copy: its first block, and its growth.
+// Refused are what the line asks for and, where it comes byte by byte, its copy as well.
 #[test]
-fn line_byte_by_byte(rt: HostRuntime) {
-    refuse_in_turn(
-        &rt,
-        rt.alloc(),
-        "a line byte by byte",
-        &ByteByByte(":item a-key-in-place\r\n"),
-    );
+fn lines(rt: HostRuntime) {
+    for line in &LINES {
+        refuse_in_turn(&rt, rt.alloc(), line.0, line);
+        refuse_in_turn(&rt, rt.alloc(), line.0, &ByteByByte(line.0));
+    }
+}
+
+// A key of at most 24 bytes takes no memory, and neither does a line that is looked at where it lies.
+#[test]
+fn line_of_a_short_key(rt: HostRuntime) {
+    let line = ":item a-key-in-place\r\n";
+    want_nothing(&rt, rt.alloc(), line, &Text(line));
+    refuse_in_turn(&rt, rt.alloc(), line, &ByteByByte(line));
 }

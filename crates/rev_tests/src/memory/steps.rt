@@ -59,6 +59,25 @@ fn join_of<R: Abort, A: Allocator + Clone>(
     }
 }
 
+fn numbered_name<R: Abort, A: Allocator>(rt: &R, alloc: A, number: usize) -> String<A> {
+    format!(in alloc; "key-{number:>05}").expect(rt, "no memory")
+}
+
+/// A set of the key of this number.
+pub fn set_of<R: Abort, A: Allocator + Clone>(rt: &R, alloc: A, number: usize) -> Step<A> {
+    let name = numbered_name(rt, alloc.clone().expect(rt, "no memory"), number);
+    Step::Client(store_of(rt, alloc, StoreVerb::Set, name.as_str(), 1))
+}
+
+/// A delete of the key of this number.
+pub fn delete_of<R: Abort, A: Allocator + Clone>(rt: &R, alloc: A, number: usize) -> Step<A> {
+    let name = numbered_name(rt, alloc.clone().expect(rt, "no memory"), number);
+    Step::Client(ClientStep::Keyed {
+        command: KeyCommand::Delete,
+        key: key_of(rt, alloc, name.as_str()),
+    })
+}
+
 /// The step of a command.
 pub fn step_of<R: Abort, A: Allocator + Clone>(rt: &R, alloc: A, command: Command) -> Step<A> {
     match command {

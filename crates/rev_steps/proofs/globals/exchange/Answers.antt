@@ -1,4 +1,4 @@
-use Rattle.std.proofs.Common.{ap, subst, sym}
+use Rattle.std.proofs.Common.{subst, sym}
 use Rattle.rev_model.specs.Undo.{LeadsBack, leads_none}
 use Rattle.rev_moves.specs.Record.{PlainRecord}
 use Rattle.rev_steps.proofs.globals.exchange.Goals as goal
