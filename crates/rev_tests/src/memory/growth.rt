@@ -1,5 +1,5 @@
-//! More buckets for an index: their memory refused and put off, granted and then missed by the step. What they take is told by
-//! what the heap has left beside the keys.
+//! More buckets for an index: refused and put off, or granted, so that the step behind them is refused. Whether there are
+//! more is told by what the heap has left beside the keys.
 ghost use Rattle.rev_model.specs.Sound.{Sound};
 
 use crate::memory::heap::fill;
@@ -32,10 +32,12 @@ const CROWD: usize = 33;
 
 // What a growth at 33 keys asks for: 4 bytes a key in whole units of 16, and then 64 buckets of 16 bytes each.
 const LIST: usize = 144;
+
 const GROWTH: usize = LIST + 1024;
 
 // What is taken where 64 buckets are in the place of 16, and where 256 are.
 const FOUR_TIMES: usize = 768;
+
 const SIXTEEN_TIMES: usize = 3840;
 
 // A store with the keys of the numbers below `keys`.
