@@ -6,9 +6,8 @@ ghost use Rattle.rev_model.specs.Sound.{Sound};
 ghost use Rattle.rev_model.specs.Places.{IsClass};
 
 use rev_inverse::Store;
-use rev_items::{Item, Key, footprint};
+use rev_items::{Data, Item, Key, footprint};
 use std::alloc::{AllocError, Allocator};
-use std::sync::Arc;
 
 /// The most bytes of an item's data: a page of the largest size holds no more.
 const MAX_DATA: usize = 1048576;
@@ -31,7 +30,7 @@ pub fn class_for<A: Allocator>(
     }
     store
         .table()
-        .class_of(footprint(key.bytes().len(), flags, data_length as u64))
+        .class_of(footprint(key, flags, data_length as u64))
 }
 
 /// A new item of the key, as it is linked: its time is the clock's, and its cas number the next. The key is copied.
@@ -42,10 +41,10 @@ pub fn new_item<A: Allocator + Clone>(
     key: &Key<A>,
     flags: u32,
     moment: u64,
-    value: Arc<Vec<u8, A>, A>,
+    value: Data<A>,
 ) -> Result<Item<A>, AllocError>
-    requires { length value.value.items ≤ 1048576 }
-    ensures { IfOk result (λ item. item ≡ new_item_of store.now key.now value.value.items flags moment) }
+    requires { length value ≤ 1048576 }
+    ensures { IfOk result (λ item. item ≡ new_item_of store.now key.now value flags moment) }
 {
     let key = key.copy(store.alloc()?)?;
     let globals = store.globals();

@@ -12,11 +12,10 @@ use crate::fresh::{class_for, new_item};
 use crate::number::{number_of, summed};
 use itoa::Buffer;
 use rev_inverse::Store;
-use rev_items::{Item, Key};
+use rev_items::{Data, Item, Key};
 use rev_model::Outcome;
 use rev_requests::{Arithmetic, JoinSide, Payload};
 use std::alloc::{AllocError, Allocator};
-use std::sync::Arc;
 
 /// An item that is to take the place of the key's item.
 #[derive(Drop)]
@@ -83,7 +82,7 @@ fn plan_data<A: Allocator + Clone>(
         None => Ok(Plan::Refused(Outcome::TooLarge)),
         Some(class) => {
             let value = joined(store.alloc()?, first, second)?;
-            let value = Arc::new(store.alloc()?, value)?;
+            let value = Data::from_vec(value)?;
             let item = new_item(store, old.key(), old.flags(), old.moment(), value)?;
             Ok(Plan::Replaced(Draft {
                 class,
@@ -111,10 +110,13 @@ pub fn plan_join<A: Allocator + Clone>(
     };
     match payload {
         Payload::Skipped(_) => Ok(Plan::Refused(Outcome::TooLarge)),
-        Payload::Bytes(bytes) => match side {
-            JoinSide::Append => plan_data(store, old, old.value(), bytes, Outcome::Stored),
-            JoinSide::Prepend => plan_data(store, old, bytes, old.value(), Outcome::Stored),
-        },
+        Payload::Bytes(value) => {
+            let (here, new) = (old.value(), value.as_slice());
+            match side {
+                JoinSide::Append => plan_data(store, old, here, new, Outcome::Stored),
+                JoinSide::Prepend => plan_data(store, old, new, here, Outcome::Stored),
+            }
+        }
     }
 }
 

@@ -17,13 +17,12 @@ use crate::look::REMOVAL_MOVES;
 use crate::place::place;
 use crate::verbs::{failed_moves, give_up};
 use rev_inverse::Store;
-use rev_items::{Item, Key, moment};
+use rev_items::{Data, Item, Key, moment};
 use rev_maintainer::room::plan_room;
 use rev_model::Outcome;
 use rev_moves::Record;
 use rev_requests::{Payload, StoreVerb};
 use std::alloc::{AllocError, Allocator};
-use std::sync::Arc;
 
 /// The new item of a command, whose time to live counts from now.
 ///
@@ -33,12 +32,12 @@ fn item_for<A: Allocator + Clone>(
     key: &Key<A>,
     flags: u32,
     exptime: i32,
-    value: &Arc<Vec<u8, A>, A>,
+    value: &Data<A>,
 ) -> Result<Item<A>, AllocError>
-    requires { length value.now.value.items ≤ 1048576 }
-    ensures { IfOk result (λ item. item ≡ new_item_of store.now key.now value.now.value.items flags (moment_of store.now.globals.clock exptime)) }
+    requires { length value.now ≤ 1048576 }
+    ensures { IfOk result (λ item. item ≡ new_item_of store.now key.now value.now flags (moment_of store.now.globals.clock exptime)) }
 {
-    let value = value.clone()?;
+    let value = value.share()?;
     let expires = moment(store.globals().clock, exptime);
     new_item(store, key, flags, expires, value)
 }
@@ -51,13 +50,13 @@ fn store_in<A: Allocator + Clone>(
     key: &Key<A>,
     flags: u32,
     exptime: i32,
-    value: &Arc<Vec<u8, A>, A>,
+    value: &Data<A>,
 ) -> Result<(Outcome, Record<A>), AllocError>
     requires sound { Sound store.old }
     requires class { IsClass store.old.fixed class }
-    requires fits { class_of store.old.fixed (footprint (length key.now) flags (length value.now.value.items)) ≡ Some class }
-    requires small { length value.now.value.items ≤ 1048576 }
-    ensures step { IfOk result (λ p. (store.new, p.0) ≡ stored_in store.old (plain_verb verb) class key.now value.now.value.items flags exptime) }
+    requires fits { class_of store.old.fixed (footprint (length key.now) flags (length value.now)) ≡ Some class }
+    requires small { length value.now ≤ 1048576 }
+    ensures step { IfOk result (λ p. (store.new, p.0) ≡ stored_in store.old (plain_verb verb) class key.now value.now flags exptime) }
     ensures sound { OnOk result (Sound store.new) }
     ensures leads { IfOk result (λ p. LeadsBack p.1.moves store.new store.old) }
     ensures few { IfOk result (λ p. length p.1.moves ≤ 64) }
@@ -115,9 +114,9 @@ pub fn store_item<A: Allocator + Clone>(
 {
     match payload {
         Payload::Skipped(_) => refuse(store, verb, key),
-        Payload::Bytes(bytes) => match class_for(store, key, flags, bytes.len()) {
+        Payload::Bytes(value) => match class_for(store, key, flags, value.len()) {
             None => refuse(store, verb, key),
-            Some(class) => store_in(store, verb, class, key, flags, exptime, bytes),
+            Some(class) => store_in(store, verb, class, key, flags, exptime, value),
         },
     }
 }

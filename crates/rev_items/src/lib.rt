@@ -8,14 +8,15 @@ ghost use Rattle.rev_items.specs.Hash.{hash_of};
 ghost use Rattle.rev_items.specs.Rules.{footprint, footprint_of, is_past, moment};
 
 mod bytes;
+mod data;
 mod hash;
 
 use crate::bytes::Bytes;
 use crate::hash::hash;
+pub use data::{Data, Filler};
 pub use hash::bucket;
 use std::alloc::{AllocError, Allocator};
 use std::marker::Model;
-use std::sync::Arc;
 use thiserror::Error;
 
 /// The most bytes that a key has (protocol.txt).
@@ -65,15 +66,14 @@ impl<A: Allocator> Model for Key<A> {
     ghost invariant = { λ k. IsKey k.bytes };
 }
 
-// What an item holds. Its data are shared with the step that brought them; their length stands here too.
+// What an item holds. Its data are shared with the step that brought them, and their length stands here.
 #[derive(Drop)]
 struct Held<A: Allocator> {
     key: Key<A>,
-    value: Arc<Vec<u8, A>, A>,
-    data_length: u32,
+    value: Data<A>,
     flags: u32,
-    moment: u64,
     time: u32,
+    moment: u64,
     cas: u64,
     bits: Bits,
 }
@@ -95,9 +95,9 @@ impl<A: Allocator> Model for Item<A> {
 
     ghost Value = { PlainItem };
 
-    ghost view = { λ i. record { key = i.held.value.key; value = i.held.value.value.value.items; flags = i.held.value.flags; moment = i.held.value.moment; time = i.held.value.time; cas = i.held.value.cas; bits = i.held.value.bits } };
+    ghost view = { λ i. record { key = i.held.value.key; value = i.held.value.value; flags = i.held.value.flags; moment = i.held.value.moment; time = i.held.value.time; cas = i.held.value.cas; bits = i.held.value.bits } };
 
-    ghost invariant = { λ i. (i.held.value.data_length ≡ length i.held.value.value.value.items) × (i.key_hash ≡ hash_of i.held.value.key) × (i.footprint ≡ footprint_bytes (length i.held.value.key) i.held.value.flags i.held.value.data_length) };
+    ghost invariant = { λ i. (length i.held.value.value ≤ 1048576) × (i.key_hash ≡ hash_of i.held.value.key) × (i.footprint ≡ footprint_bytes (length i.held.value.key) i.held.value.flags (length i.held.value.value)) };
 }
 
 fn is_key_byte(byte: u8) -> bool
@@ -122,15 +122,14 @@ pub fn is_key(bytes: &[u8]) -> bool
     some && few && clean
 }
 
-/// The bytes that an item takes of its chunk, from the bytes of its key and of its data (this project's own rule, in
-/// memcached's layout): a header of 56, the key and a byte, four bytes where flags are not 0, the data, CR LF.
-pub fn footprint(key_length: usize, flags: u32, data_length: u64) -> u64
-    requires key { key_length ≤ 250 }
-    requires data { data_length ≤ 2 ^ 32 }
-    ensures { result ≡ footprint key_length flags data_length }
+/// The bytes that an item takes of its chunk, from its key and from how many bytes its data are (this project's own rule,
+/// in memcached's layout): a header of 56, the key and a byte, four bytes where flags are not 0, the data, CR LF.
+pub fn footprint<A: Allocator>(key: &Key<A>, flags: u32, data_length: u64) -> u64
+    requires { data_length ≤ 2 ^ 32 }
+    ensures { result ≡ footprint (length key.now) flags data_length }
 {
     let flag_bytes = if flags == 0 { 0 } else { 4 };
-    HEADER + key_length as u64 + 1 + flag_bytes + data_length + 2
+    HEADER + key.bytes().len() as u64 + 1 + flag_bytes + data_length + 2
 }
 
 /// The second of the clock at which an item expires, told when it is linked at `now` with this time to live
@@ -224,29 +223,27 @@ impl<A: Allocator> Item<A> {
     pub fn new(
         alloc: A,
         key: Key<A>,
-        value: Arc<Vec<u8, A>, A>,
+        value: Data<A>,
         flags: u32,
         moment: u64,
         time: u32,
         cas: u64,
     ) -> Result<Item<A>, AllocError>
-        requires data { length value.value.items ≤ 1048576 }
-        ensures { IfOk result (λ item. item ≡ record { key = key; value = value.value.items; flags = flags; moment = moment; time = time; cas = cas; bits = record { fetched = false; active = false } }) }
+        requires data { length value ≤ 1048576 }
+        ensures { IfOk result (λ item. item ≡ record { key = key; value = value; flags = flags; moment = moment; time = time; cas = cas; bits = record { fetched = false; active = false } }) }
     {
         let bits = Bits {
             fetched: false,
             active: false,
         };
-        let data_length = value.len() as u32;
         let key_hash = key.hash();
-        let footprint = footprint(key.bytes().len(), flags, u64::from(data_length)) as u32;
+        let footprint = footprint(&key, flags, value.len() as u64) as u32;
         let held = Held {
             key,
             value,
-            data_length,
             flags,
-            moment,
             time,
+            moment,
             cas,
             bits,
         };
@@ -281,14 +278,14 @@ impl<A: Allocator> Item<A> {
     pub fn value(&self) -> &[u8]
         ensures { result.now ≡ self.now.value }
     {
-        &self.held.value
+        self.held.value.as_slice()
     }
 
     /// How many bytes the item's data are: at most 1048576.
     pub fn data_length(&self) -> u32
         ensures { result ≡ length self.now.value }
     {
-        self.held.data_length
+        self.held.value.len() as u32
     }
 
     /// The number that the client keeps with the item.

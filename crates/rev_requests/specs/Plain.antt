@@ -20,7 +20,7 @@ use Rattle.rev_requests.specs.declared.steps.Step.{Step}
 use Rattle.rev_requests.specs.declared.steps.Step.TheVariants as steps
 
 abbrev pub plain_payload : {A : Type 0} → Payload A → client.Payload
-plain_payload (payloads.Bytes v) = client.Bytes v.value.items
+plain_payload (payloads.Bytes v) = client.Bytes v
 plain_payload (payloads.Skipped n) = client.Skipped n
 
 abbrev pub plain_verb : StoreVerb → client.Verb

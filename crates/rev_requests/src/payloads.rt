@@ -3,13 +3,13 @@ ghost use Rattle.std.specs.Prelude.{◌≡◌, ◌↔◌, IsTrue, IfOk};
 ghost use Rattle.rev_model.specs.Client.{Bytes};
 ghost use Rattle.rev_requests.specs.Plain.{plain_payload};
 
+use rev_items::Data;
 use std::alloc::{AllocError, Allocator};
-use std::sync::Arc;
 
 /// The data of a storage command: its bytes, or, where they are more than 1048576, only how many were skipped.
 #[derive(Drop)]
 pub enum Payload<A: Allocator> {
-    Bytes(Arc<Vec<u8, A>, A>),
+    Bytes(Data<A>),
     Skipped(u32),
 }
 
@@ -20,8 +20,7 @@ impl<A: Allocator + Clone> Payload<A> {
     pub fn from_vec(bytes: Vec<u8, A>) -> Result<Payload<A>, AllocError>
         ensures { IfOk result (λ payload. plain_payload payload ≡ Bytes bytes.items) }
     {
-        let alloc = bytes.allocator().clone()?;
-        Ok(Payload::Bytes(Arc::new(alloc, bytes)?))
+        Ok(Payload::Bytes(Data::from_vec(bytes)?))
     }
 }
 
