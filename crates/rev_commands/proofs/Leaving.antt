@@ -37,7 +37,7 @@ module _ (s t u : State) (k : List ℕ) (x : ChunkRef) (l : Live s k x) (e : t �
   deleted_by h = ap (λ v. (v, Deleted)) (gone h) ∙ sym (ap delete_found (found_is s k x l))
 
   -- it was hit
-  pub got_by : (r : Outcome) → ((i : PlainItem) → item_at t x ≡ Some i → u ≡ hit t x i) → ((i : PlainItem) → item_at t x ≡ Some i → r ≡ Hit i.cas (length i.value)) → (u, r) ≡ get s k
+  pub got_by : (r : Outcome) → ((i : PlainItem) → item_at t x ≡ Some i → u ≡ hit t x i) → ((i : PlainItem) → item_at t x ≡ Some i → r ≡ Hit (length i.value) i.cas) → (u, r) ≡ get s k
   got_by r h a =
       ap (λ v. (v, r)) (h l.item there ∙ ap (λ v. hit v x l.item) same) ∙ ap (λ o. (hit s x l.item, o)) (a l.item there) ∙ sym (ap get_found (found_is s k x l))
 

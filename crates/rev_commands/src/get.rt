@@ -22,13 +22,13 @@ use std::alloc::{AllocError, Allocator};
 /// What a hit of the chunk's item answers.
 fn answer<A: Allocator>(store: &Store<A>, chunk: ChunkRef) -> Outcome
     requires sound { Sound store.now }
-    ensures { (i : PlainItem) → item_at store.now chunk ≡ Some i → result ≡ outcome.Hit i.cas (length i.value) }
+    ensures { (i : PlainItem) → item_at store.now chunk ≡ Some i → result ≡ outcome.Hit (length i.value) i.cas }
 {
     match store.content(chunk) {
         None => Outcome::Miss,
         Some(item) => Outcome::Hit {
+            len: item.data_length(),
             cas: item.cas(),
-            len: item.data_length() as usize,
         },
     }
 }

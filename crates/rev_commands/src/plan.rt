@@ -111,10 +111,10 @@ pub fn plan_join<A: Allocator + Clone>(
     match payload {
         Payload::Skipped(_) => Ok(Plan::Refused(Outcome::TooLarge)),
         Payload::Bytes(value) => {
-            let (here, new) = (old.value(), value.as_slice());
+            let (kept, added) = (old.value(), value.as_slice());
             match side {
-                JoinSide::Append => plan_data(store, old, here, new, Outcome::Stored),
-                JoinSide::Prepend => plan_data(store, old, new, here, Outcome::Stored),
+                JoinSide::Append => plan_data(store, old, kept, added, Outcome::Stored),
+                JoinSide::Prepend => plan_data(store, old, added, kept, Outcome::Stored),
             }
         }
     }

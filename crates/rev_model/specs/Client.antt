@@ -177,7 +177,7 @@ count s side k d = count_found side d (lookup s k)
 
 abbrev pub get_found : State × Option (ChunkRef × PlainItem) → State × Outcome
 get_found (s, None) = (s, Miss)
-get_found (s, Some (x, i)) = (hit s x i, Hit i.cas (length i.value))
+get_found (s, Some (x, i)) = (hit s x i, Hit (length i.value) i.cas)
 
 abbrev pub get : State → List ℕ → State × Outcome
 get s k = get_found (lookup s k)

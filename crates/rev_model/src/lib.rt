@@ -148,7 +148,8 @@ pub enum Outcome {
     Deleted,
     Touched,
     Okay,
-    Hit { cas: u64, len: usize },
+    /// The key's item was read: how many bytes its data are, and its cas number.
+    Hit { len: u32, cas: u64 },
     Miss,
     TooLarge,
     NoChunk,

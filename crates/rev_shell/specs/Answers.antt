@@ -80,7 +80,7 @@ abbrev pub get : List ℕ → Step
 get k = Client (client.Gets k)
 
 abbrev pub is_hit : Outcome → Bool
-is_hit (outcomes.Hit cas len) = true
+is_hit (outcomes.Hit len cas) = true
 is_hit _ = false
 
 abbrev pub was_hit : Reply → Bool

@@ -33,7 +33,7 @@ fn step_before<R: Abort>(rt: &R, alloc: Global, node: u32) -> Step<Global> {
 const OUTCOMES: [Outcome; 5] = [
     Outcome::Okay,
     Outcome::Stored,
-    Outcome::Hit { cas: 2, len: 1 },
+    Outcome::Hit { len: 1, cas: 2 },
     Outcome::Deleted,
     Outcome::Miss,
 ];

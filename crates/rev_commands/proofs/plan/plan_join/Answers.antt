@@ -1,5 +1,4 @@
 use Rattle.std.specs.Prelude.{ℕ, List, ◌++◌}
-use Rattle.std.specs.Vec.{vec_items}
 use Rattle.std.proofs.Common.{sym, ◌∙◌, ap}
 use Rattle.rev_model.specs.Client.{Bytes, Appends, Prepends, joined}
 use Rattle.rev_requests.specs.Plain.{plain_side, plain_payload}
@@ -11,9 +10,9 @@ pub returns-in-Append : goal.returns-in-Append
 returns-in-Append g c =
     let i = c.in-Some.old.now in
     let l = lives c.args.store.now c.requires.well c.args.key.now i (sym c.in-Some.ensures) in
-    joins_ok c.args.store.now c.args.key.now i l c.plan_data.result (plain_side c.args.side) (plain_payload c.args.payload.now) (Bytes (c.value.result.now ++ c.deref-in-Append.result.now))
-    (ap (λ (v : List ℕ). Bytes (v ++ c.deref-in-Append.result.now)) c.value.ensures
-    ∙ ap (λ (v : List ℕ). Bytes (i.value ++ v)) (c.deref-in-Append.ensures.value ∙ ap vec_items c.deref.ensures)
+    joins_ok c.args.store.now c.args.key.now i l c.plan_data.result (plain_side c.args.side) (plain_payload c.args.payload.now) (Bytes (c.value.result.now ++ c.as_slice.result.now))
+    (ap (λ (v : List ℕ). Bytes (v ++ c.as_slice.result.now)) c.value.ensures
+    ∙ ap (λ (v : List ℕ). Bytes (i.value ++ v)) c.as_slice.ensures
     ∙ sym (ap (λ d. joined (plain_side d) i.value (plain_payload c.args.payload.now)) c.in-Append.is
     ∙ ap (λ p. joined Appends i.value (plain_payload p)) c.in-Bytes.is))
     c.plan_data.ensures
@@ -22,9 +21,9 @@ pub returns-in-Prepend : goal.returns-in-Prepend
 returns-in-Prepend g c =
     let i = c.in-Some.old.now in
     let l = lives c.args.store.now c.requires.well c.args.key.now i (sym c.in-Some.ensures) in
-    joins_ok c.args.store.now c.args.key.now i l c.plan_data-in-Prepend.result (plain_side c.args.side) (plain_payload c.args.payload.now) (Bytes (c.deref-in-Prepend-2.result.now ++ c.value-in-Prepend.result.now))
-    (ap (λ (v : List ℕ). Bytes (v ++ c.value-in-Prepend.result.now)) (c.deref-in-Prepend-2.ensures.value ∙ ap vec_items c.deref-in-Prepend.ensures)
-    ∙ ap (λ (v : List ℕ). Bytes (c.in-Bytes.bytes.value.items ++ v)) c.value-in-Prepend.ensures
+    joins_ok c.args.store.now c.args.key.now i l c.plan_data-in-Prepend.result (plain_side c.args.side) (plain_payload c.args.payload.now) (Bytes (c.as_slice.result.now ++ c.value.result.now))
+    (ap (λ (v : List ℕ). Bytes (v ++ c.value.result.now)) c.as_slice.ensures
+    ∙ ap (λ (v : List ℕ). Bytes (c.in-Bytes.value ++ v)) c.value.ensures
     ∙ sym (ap (λ d. joined (plain_side d) i.value (plain_payload c.args.payload.now)) c.in-Prepend.is
     ∙ ap (λ p. joined Prepends i.value (plain_payload p)) c.in-Bytes.is))
     c.plan_data-in-Prepend.ensures

@@ -22,7 +22,7 @@ place-outcome-requires-clause-plan g c = c.in_ok-plan.ensures.page
 
 pub returns-clause-step : goal.returns-clause-step
 returns-clause-step g c =
-    stored_as c.args.store.now (plain_verb c.args.verb) c.args.class c.args.key.now c.args.value.now.value.items c.args.flags c.args.exptime (to_z w32 (of_z w32 c.args.exptime)) c.in_ok-item.item (c.place-outcome.new.store, c.place-outcome.result)
+    stored_as c.args.store.now (plain_verb c.args.verb) c.args.class c.args.key.now c.args.value.now c.args.flags c.args.exptime (to_z w32 (of_z w32 c.args.exptime)) c.in_ok-item.item (c.place-outcome.new.store, c.place-outcome.result)
     c.in_ok-item.ensures (to_z-of_z w32 c.args.exptime c.ranges.exptime) c.place-outcome.ensures.done
 
 pub returns-clause-leads : goal.returns-clause-leads

@@ -10,7 +10,7 @@ use Rattle.rev_commands.proofs.store.store_item.Goals as goal
 
 pub returns-in-Some-clause-step : goal.returns-in-Some-clause-step
 returns-in-Some-clause-step g c =
-    let same = stored_by_size c.args.store.now (plain_verb c.args.verb) c.in-Some.class c.args.key.now c.in-Bytes.bytes.value.items c.args.flags c.len.result c.args.exptime (to_z w32 (of_z w32 c.args.exptime)) (plain_payload c.args.payload.now) c.class_for.result
+    let same = stored_by_size c.args.store.now (plain_verb c.args.verb) c.in-Some.class c.args.key.now c.in-Bytes.value c.args.flags c.len.result c.args.exptime (to_z w32 (of_z w32 c.args.exptime)) (plain_payload c.args.payload.now) c.class_for.result
     c.class_for.ensures.class c.in-Some.is (search rules) (to_z-of_z w32 c.args.exptime c.ranges.exptime) (ap plain_payload c.in-Bytes.is) in
     subst (λ (z : State × Outcome). IfOk c.store_in.result (λ p. (c.store_in.new.store, p.0) ≡ z)) same c.store_in.ensures.step
 
