@@ -1,7 +1,7 @@
 -- Two outcomes are one just where `==` says so.
 use Rattle.std.proofs.Common.{◌≡◌, inl, inr, ℕ, ◌==◌, ◌&&◌, Bool, true, false, List, [], ◌∷◌, refl, ap, ◌∙◌, arith}
 use Rattle.std.proofs.lemmas.Bool.Decides.{nat_tests}
-use denote.Struct.Field.{Field, u64-field, usize-field}
+use denote.Struct.Field.{Field, u32-field, u64-field}
 use denote.Struct.Values.{Values}
 use denote.Enum.Declared.{Choice, values_one}
 use denote.Enum.Compared.{Each, by}
@@ -26,14 +26,14 @@ one-by [] tests tells c = absurd c
 one-by (fields ∷ variants) tests tells (inl x) = tells.1 x
 one-by (fields ∷ variants) tests tells (inr x) = one-by variants tests.1 tells.2 x
 
-hit-same : (x y : Values (u64-field ∷ usize-field ∷ [])) → ((x.0 == y.0) && (x.1.0 == y.1.0)) ≡ true → x ≡ y
+hit-same : (x y : Values (u32-field ∷ u64-field ∷ [])) → ((x.0 == y.0) && (x.1.0 == y.1.0)) ≡ true → x ≡ y
 hit-same x y e =
     let first : x.0 ≡ y.0 = grind (arith, nat_tests) in
     let second : x.1.0 ≡ y.1.0 = grind (arith, nat_tests) in
-    let pair : ℕ → ℕ → Values (u64-field ∷ usize-field ∷ []) = λ a b. (a, (b, tt)) in
+    let pair : ℕ → ℕ → Values (u32-field ∷ u64-field ∷ []) = λ a b. (a, (b, tt)) in
     ap (λ (a : ℕ). pair a x.1.0) first ∙ ap (λ (b : ℕ). pair y.0 b) second
 
-hit-one : (x : Values (u64-field ∷ usize-field ∷ [])) → ((x.0 == x.0) && (x.1.0 == x.1.0)) ≡ true
+hit-one : (x : Values (u32-field ∷ u64-field ∷ [])) → ((x.0 == x.0) && (x.1.0 == x.1.0)) ≡ true
 hit-one x = grind (arith, nat_tests)
 
 number-same : (x y : Values (u64-field ∷ [])) → (x.0 == y.0) ≡ true → x ≡ y

@@ -1,5 +1,6 @@
 //! Each request for memory is refused in turn, and what the call worked on is compared before and after.
 
+mod fillers;
 mod growth;
 mod heap;
 mod parts;
