@@ -60,7 +60,7 @@ fn make_all<'a, R: Abort>(
     rt: &R,
     heap: &'a LocalHeap,
     filler: &mut Filler<&'a LocalHeap>,
-    kept: &mut Vec<Data<&'a LocalHeap>>,
+    kept: &mut Vec<(Bytes, Data<&'a LocalHeap>)>,
 ) {
     for (bytes, block) in &CASES {
         let before = heap.used();
@@ -74,7 +74,7 @@ fn make_all<'a, R: Abort>(
             "{} bytes",
             bytes.1
         );
-        kept.push(data).expect(rt, "no memory");
+        kept.push((*bytes, data)).expect(rt, "no memory");
     }
 }
 
@@ -85,7 +85,7 @@ fn shares_a_block(rt: HostRuntime) {
     let mut kept = Vec::new(rt.alloc());
     make_all(&rt, &heap, &mut filler, &mut kept);
     drop(filler);
-    for ((bytes, _), data) in CASES.iter().zip(kept.iter()) {
+    for (bytes, data) in &kept {
         assert!(rt;
             bytes.are(&rt, rt.alloc(), data.as_slice()),
             "{} bytes",
@@ -164,28 +164,48 @@ fn has<R: Abort>(rt: &R, alloc: Global, store: &Store<Global>, name: &str, bytes
     }
 }
 
+// Data of these bytes, by this filler.
+fn filled<R: Abort>(
+    rt: &R,
+    alloc: Global,
+    filler: &mut Filler<Global>,
+    bytes: Bytes,
+) -> Data<Global> {
+    filler.data(bytes.made(rt, alloc)).expect(rt, "no memory")
+}
+
+// Joins these data to those of a key's item.
+fn append<R: Abort>(
+    rt: &R,
+    alloc: Global,
+    store: &mut Store<Global>,
+    name: &str,
+    data: Data<Global>,
+)
+    requires { Sound store.old }
+    ensures { Sound store.new }
+{
+    let step = ClientStep::Join {
+        side: JoinSide::Append,
+        key: key_of(rt, alloc, name),
+        data: Payload::Bytes(data),
+    };
+    play(rt, store, step);
+}
+
 #[test]
 fn items_share_a_block(rt: HostRuntime) {
     let alloc = rt.alloc();
     let mut filler = Filler::new();
     let mut store = Store::open(alloc, SMALL).expect(&rt, "no store");
-    for (name, bytes) in &[("a", Bytes(b'x', 40, "")), ("b", Bytes(b'x', 30, ""))] {
-        let data = filler.data(bytes.made(&rt, alloc)).expect(&rt, "no memory");
-        set(&rt, alloc, &mut store, name, data);
-    }
-    let joined = filler
-        .data(Bytes(b'x', 2, "").made(&rt, alloc))
-        .expect(&rt, "no memory");
-    let step = ClientStep::Join {
-        side: JoinSide::Append,
-        key: key_of(&rt, alloc, "a"),
-        data: Payload::Bytes(joined),
-    };
-    play(&rt, &mut store, step);
-    let other = filler
-        .data(Bytes(b'y', 9, "").made(&rt, alloc))
-        .expect(&rt, "no memory");
-    set(&rt, alloc, &mut store, "c", other);
+    let data = filled(&rt, alloc, &mut filler, Bytes(b'x', 40, ""));
+    set(&rt, alloc, &mut store, "a", data);
+    let data = filled(&rt, alloc, &mut filler, Bytes(b'x', 30, ""));
+    set(&rt, alloc, &mut store, "b", data);
+    let data = filled(&rt, alloc, &mut filler, Bytes(b'x', 2, ""));
+    append(&rt, alloc, &mut store, "a", data);
+    let data = filled(&rt, alloc, &mut filler, Bytes(b'y', 9, ""));
+    set(&rt, alloc, &mut store, "c", data);
     drop(filler);
     assert!(rt; has(&rt, alloc, &store, "a", Bytes(b'x', 42, "")));
     assert!(rt; has(&rt, alloc, &store, "b", Bytes(b'x', 30, "")));
