@@ -1,8 +1,9 @@
-//! More buckets for an index: refused and put off, or granted, so that the step behind them is refused. Whether there are
-//! more is told by what the heap has left beside the keys.
+//! More buckets for an index: refused and put off, or granted, so that the step behind them is refused. Whether there
+//! are more is told by what the heap has left beside the keys.
 ghost use Rattle.rev_model.specs.Sound.{Sound};
 
 use crate::memory::heap::fill;
+use crate::memory::parts::SMALL;
 use crate::memory::steps::{delete_of, set_of};
 use crate::owned::is_made;
 use linked_list_allocator::LocalHeap;
@@ -14,18 +15,6 @@ use std::process::Abort;
 
 // Room for some 160 keys and what their table takes.
 const BYTES: usize = 131072;
-
-// One page, which takes all keys; 16 buckets, which hold 32 keys before there are more.
-const CONFIG: Config = Config {
-    page_size: 16384,
-    pages: 1,
-    num: 5,
-    den: 4,
-    bump: 1,
-    hash_power: 4,
-    temp_ttl: -1,
-    now: 1,
-};
 
 // The fewest keys that are too many for 16 buckets.
 const CROWD: usize = 33;
@@ -52,7 +41,12 @@ struct Cache<'a> {
 
 impl<'a> Cache<'a> {
     fn new<R: Abort>(rt: &R, heap: &'a LocalHeap) -> Cache<'a> {
-        let store = Store::open(heap, CONFIG).expect(rt, "no store");
+        // one page takes all keys, and 16 buckets hold 32 of them before there are more
+        let config = Config {
+            page_size: 16384,
+            ..SMALL
+        };
+        let store = Store::open(heap, config).expect(rt, "no store");
         let mut cache = Cache {
             heap,
             store,
