@@ -3,7 +3,7 @@ ghost use Rattle.std.specs.Prelude.{◌≡◌, ℕ, ◌+◌, ◌<◌};
 use std::marker::Model;
 use std::sync::ledger::{Blank, Book, Ledger, Share};
 
-/// How many cells of `Cells` and of a `CountedGrid` were read or written. It takes no bytes, and only `tick` and `tick_by`
+/// How many cells of `Cells` and of a `CountedGrid` were read or written. It takes no bytes. Only `tick` and `tick_by`
 /// change it.
 #[derive(Drop)]
 pub struct Ticks<L: Ledger> {
