@@ -3,9 +3,10 @@ use Rattle.std.proofs.Common.{◌≡◌, ℕ, ◌+◌, ◌<◌, ◌≤◌, List,
 use Rattle.std.specs.Io.KnownBytes.{Consumes, Keeps, prepend_known}
 use Rattle.std.proofs.Common.{length-append}
 use Rattle.std.proofs.lemmas.List.{take-append-drop, take-take, drop-take, drop-drop}
-use Rattle.rev_script.specs.ByteReader.{Took, ahead, given, identity}
-use Rattle.rev_script.specs.Source.{Told}
-use Rattle.rev_script.specs.declared.byte_reader.ByteReader.{ByteReader}
+use Rattle.rev_script.specs.ByteReader.{PlainReader, Passed, Took, Broke, StoppedBy, ahead}
+use Rattle.rev_script.specs.Source.{one_more}
+use Rattle.rev_script.specs.declared.byte_reader.LineFault.{LineFault}
+use Rattle.rev_script.specs.declared.byte_reader.LineFault.TheVariants as faults
 
 pub Consumes-then : (a b c : Option (List ℕ)) (xs ys : List ℕ) → Consumes a b xs → Consumes b c ys → Consumes a c (xs ++ ys)
 Consumes-then None b c xs ys p q = tt
@@ -45,15 +46,35 @@ first-of_range piece from to rest below within =
     let P : List ℕ → Type 0 = λ l. Consumes (prepend_known l rest) (prepend_known (slice_range piece (from + 1) to) rest) (get_or piece from 0 ∷ []) in
     subst P (sym (range-first piece from to below within)) (first-known (get_or piece from 0) (slice_range piece (from + 1) to) rest)
 
-pub Took-then : {S : Type 0} {told : S → Told} {a b c : ByteReader S} {xs ys : List ℕ} → Took told a b xs → Took told b c ys → Took told a c (xs ++ ys)
-Took-then {S} {told} {a} {b} {c} {xs} {ys} p q = record {
-  bytes = Consumes-then (ahead told a) (ahead told b) (ahead told c) xs ys p.bytes q.bytes;
+pub Passed-then : {a b c : PlainReader} {xs ys : List ℕ} → Passed a b xs → Passed b c ys → Passed a c (xs ++ ys)
+Passed-then {a} {b} {c} {xs} {ys} p q = record {
+  bytes = Consumes-then (ahead a) (ahead b) (ahead c) xs ys p.bytes q.bytes;
   count = omega (arith, p.count, q.count, length-append xs ys);
   same = q.same ∙ p.same;
 }
 
-pub Took-none : {S : Type 0} {told : S → Told} {a b : ByteReader S} → Keeps (ahead told a) (ahead told b) → given b ≡ given a → identity told b ≡ identity told a → Took told a b []
-Took-none {S} {told} {a} {b} k g i = record { bytes = Consumes-none (ahead told a) (ahead told b) k; count = omega (arith, g); same = i }
+pub Took-then : {a b c : PlainReader} {xs ys : List ℕ} → Took a b xs → Took b c ys → Took a c (xs ++ ys)
+Took-then p q = record { passed = Passed-then p.passed q.passed; steady = q.steady ∙ p.steady }
+
+stopped_then : (a b c : PlainReader) (e : LineFault) → b.source.failures ≡ a.source.failures → StoppedBy b c e → StoppedBy a c e
+stopped_then a b c faults.Memory same s = tt
+stopped_then a b c faults.Read same s = (s.0 ∙ ap one_more same, s.1, s.2)
+stopped_then a b c faults.TooLong same s = s
+
+pub Took-broke : {a b c : PlainReader} {xs ys : List ℕ} {e : LineFault} → Took a b xs → Broke b c ys e → Broke a c (xs ++ ys) e
+Took-broke {a} {b} {c} {xs} {ys} {e} p q = record { passed = Passed-then p.passed q.passed; stopped = stopped_then a b c e p.steady q.stopped }
+
+-- no memory for what was taken
+pub Took-memory : {a b : PlainReader} {xs : List ℕ} → Took a b xs → Broke a b xs faults.Memory
+Took-memory t = record { passed = t.passed; stopped = tt }
+
+keep_all : (a : Option (List ℕ)) → Consumes a a []
+keep_all None = tt
+keep_all (Some xs) = refl
+
+-- nothing was taken yet
+pub Took-refl : {a : PlainReader} → Took a a []
+Took-refl {a} = record { passed = record { bytes = keep_all (ahead a); count = omega arith; same = refl }; steady = refl }
 
 -- a front of the piece is handed out
 pub parted-known : (xs ys : List ℕ) (rest : Option (List ℕ)) → Consumes (prepend_known (xs ++ ys) rest) (prepend_known ys rest) xs

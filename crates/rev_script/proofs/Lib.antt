@@ -8,6 +8,7 @@ pub mod Pieces
 pub mod Data
 pub mod Cuts
 pub mod Next
+pub mod Scripts
 pub mod Each
 pub mod Split
 pub mod Usual

@@ -3,8 +3,8 @@ use Rattle.std.proofs.Common.{◌≡◌, ◌≢◌, ℕ, ◌+◌, ◌-◌, ◌<�
 use Rattle.std.proofs.lemmas.List.{nil_from_length, take-take}
 use Rattle.std.proofs.lemmas.Bool.Decides.{nat_tests}
 use Rattle.std.specs.Io.BufRead.{strip_last}
-use Rattle.rev_script.specs.ByteReader.{Took, AtEnd, StoppedBy}
-use Rattle.rev_script.specs.RawLine.{IsText, IsPart, ending}
+use Rattle.rev_script.specs.ByteReader.{PlainReader, Took, Broke, AtEnd}
+use Rattle.rev_script.specs.RawLine.{IsText, IsPart, IsRest, ending}
 use Rattle.rev_script.specs.DataBlock.{IsBroken}
 use Rattle.std.specs.Str.{bytes_eq}
 use Rattle.std.proofs.Common.{length-drop, length-take, lit≤, codes}
@@ -12,40 +12,60 @@ use Rattle.std.specs.Io.BufRead.{ends_with_byte}
 use Rattle.rev_script.specs.Commands.{command, asked, longest}
 use Rattle.rev_script.specs.Words.{words, word}
 use Rattle.rev_script.specs.declared.command.StorageCommand.{StorageCommand}
-use Rattle.std.proofs.Common.{ℤ, ◌||◌, Result, Ok, Err, IfErr}
-use Rattle.rev_script.specs.Script.{StorageLine, payload_of, has_lf, ScriptLine, BadLine, line_of, storage_line_of, block_size, IsWhole, IsLast}
-use Rattle.rev_script.specs.Line.{IsNext, IsFault, IsStorageLine}
-use Rattle.rev_script.specs.Source.{Told}
-use Rattle.rev_script.specs.declared.byte_reader.ByteReader.{ByteReader}
+use Rattle.std.proofs.Common.{ℤ, ◌||◌, Option, None, Result, Ok, Err, IfOk, IfErr}
+use Rattle.rev_script.specs.Script.{StorageLine, payload_of, has_lf, after_lf, ScriptLine, BadLine, line_of, storage_line_of, is_ending, block_size, is_passed, passes, onwards, cuts, whole_lines, IsWhole, IsLast}
+use Rattle.rev_script.specs.Line.{PlainInput, has_block, IsNext, IsFault, IsStorageLine}
+use Rattle.rev_script.specs.declared.dialect.Dialect.{Dialect}
 use Rattle.rev_script.specs.declared.byte_reader.LineFault.{LineFault}
 use Rattle.rev_script.specs.declared.byte_reader.LineFault.TheVariants as faults
 use Rattle.rev_script.specs.declared.raw_line.RawLine.{RawLine}
-use Rattle.rev_script.specs.declared.command.Command.TheVariants.{Storage, Bad}
+use Rattle.rev_script.specs.declared.command.Command.{Command}
+use Rattle.rev_script.specs.declared.command.Command.TheVariants.{Storage, Retrieval, Update, FlushAll, Actor, Clock, Debug, Query, Bookmark, Bad}
 use Rattle.rev_script.specs.declared.command.BadAnswer.TheVariants.{LineTooLong, BadChunk}
-use Rattle.rev_script.proofs.Known.{Took-then}
-use Rattle.rev_script.proofs.Cuts.{whole_block, last_block, last_text, none_whole, none_whole-text}
+use Rattle.rev_script.proofs.Known.{Took-then, Took-broke}
+use Rattle.rev_script.proofs.Text.{after_lf-append}
+use Rattle.rev_script.proofs.Cuts.{cuts-nil, no_ending, no_lf_after, whole_block, last_block, last_text, none_whole, none_whole-nil, none_whole-text}
 
 less : (a b : ℕ) → a < b → nat_lt a b ≡ true
 less a b h = grind (arith, nat_tests)
 
-plain_or : (text : List ℕ) (feed : Bool) (End : Type 0) → has_lf text ≡ false → (feed ≡ false → 0 < length text) → (feed ≡ false → End) →
-    block_size (asked (strip_last 13 text)) ≡ 0 →
-    IsWhole (text ++ ending feed) (line_of (asked (strip_last 13 text)) (words (strip_last 13 text)) [])
-    ⊎ (IsLast (text ++ ending feed) (line_of (asked (strip_last 13 text)) (words (strip_last 13 text)) []) × End)
-plain_or text true End n some at_end none = inl (whole_block text [] n (sym none))
-plain_or text false End n some at_end none =
-    inr (subst (λ t. IsLast t (line_of (asked (strip_last 13 text)) (words (strip_last 13 text)) [])) (sym (append-nil text)) (last_text text n (some refl)), at_end refl)
+-- a line without a data block: none of it is passed over
+no_block : (d : Dialect) (c : Command) → has_block c ≡ false → (block_size d c [] ≡ 0) × (passes d c [] ≡ false)
+no_block d (Storage c flags exptime size noreply) e = absurd (cc)
+no_block d (Retrieval with_cas) e = (refl, refl)
+no_block d (Update c noreply) e = (refl, refl)
+no_block d (FlushAll delay noreply) e = (refl, refl)
+no_block d (Actor c) e = (refl, refl)
+no_block d (Clock n) e = (refl, refl)
+no_block d (Debug c) e = (refl, refl)
+no_block d (Query q) e = (refl, refl)
+no_block d (Bookmark c) e = (refl, refl)
+no_block d (Bad a) e = (refl, refl)
 
--- a line without a data block
-pub next_plain : {S : Type 0} {told : S → Told} {old new : ByteReader S} {raw : RawLine} {kept : List ℕ} →
-    (t : IsText told old new raw kept) (e : ScriptLine) → (raw.feed ≡ false → 0 < raw.length) →
-    block_size (asked (strip_last 13 t.text)) ≡ 0 → e ≡ line_of (asked (strip_last 13 t.text)) (words (strip_last 13 t.text)) [] →
-    IsNext told old new (Some e)
-next_plain {S} {told} {old} {new} {raw} {kept} t e some none is =
-    subst (λ x. IsNext told old new (Some x)) (sym is) (
+plain_or : (d : Dialect) (text : List ℕ) (feed : Bool) (End : Type 0) → has_lf text ≡ false → (feed ≡ false → 0 < length text) → (feed ≡ false → End) →
+    has_block (asked (strip_last 13 text)) ≡ false →
+    IsWhole d false false (text ++ ending feed) (line_of d (asked (strip_last 13 text)) (words (strip_last 13 text)) [])
+    ⊎ (IsLast d false (text ++ ending feed) (line_of d (asked (strip_last 13 text)) (words (strip_last 13 text)) []) × End)
+plain_or d text true End n some at_end none =
+    let b = no_block d (asked (strip_last 13 text)) none in
+    inl (subst (λ p. IsWhole d false p (text ++ 10 ∷ []) (line_of d (asked (strip_last 13 text)) (words (strip_last 13 text)) [])) b.1 (whole_block d text [] n (sym b.0)))
+plain_or d text false End n some at_end none =
+    inr (subst (λ t. IsLast d false t (line_of d (asked (strip_last 13 text)) (words (strip_last 13 text)) [])) (sym (append-nil text)) (last_text d text n (some refl)), at_end refl)
+
+-- what is read at a line's first byte, behind which no line is passed over
+abbrev pub here : Dialect → PlainReader → PlainInput
+here d b = record { bytes = b; dialect = d; passes = false }
+
+pub next_plain : {old new : PlainReader} {raw : RawLine} {kept : List ℕ} (d : Dialect) →
+    (t : IsText old new raw kept) (e : ScriptLine) → (raw.feed ≡ false → 0 < raw.length) →
+    has_block (asked (strip_last 13 t.text)) ≡ false → e ≡ line_of d (asked (strip_last 13 t.text)) (words (strip_last 13 t.text)) [] →
+    IsNext (here d old) (here d new) (Some e)
+next_plain {old} {new} {raw} {kept} d t e some none is =
+    subst (λ x. IsNext (here d old) (here d new) (Some x)) (sym is) (
       t.text ++ ending raw.feed,
       t.took,
-      plain_or t.text raw.feed (AtEnd told new) t.no_lf (λ f. omega (arith, some f, t.size)) t.at_end none,
+      refl,
+      plain_or d t.text raw.feed (AtEnd new) t.no_lf (λ f. omega (arith, some f, t.size)) t.at_end none,
     )
 
 -- a line that is too long
@@ -69,75 +89,165 @@ asked-long text h =
     (omega (arith, either_limit (bytes_eq (word (words (strip_last 13 text)) 0) (codes "get") || bytes_eq (word (words (strip_last 13 text)) 0) (codes "gets")), either_end (ends_with_byte 13 text) text))
 
 -- a line that was kept whole
-pub kept_text : {S : Type 0} {told : S → Told} {old new : ByteReader S} {raw : RawLine} {kept : List ℕ} →
-    (t : IsText told old new raw kept) → raw.length ≤ 65537 → kept ≡ t.text
+pub kept_text : {old new : PlainReader} {raw : RawLine} {kept : List ℕ} →
+    (t : IsText old new raw kept) → raw.length ≤ 65537 → kept ≡ t.text
 kept_text t h = t.kept_is ∙ take_all 65537 t.text (omega (arith, t.size))
 
-pub next_done : {S : Type 0} {told : S → Told} {old new : ByteReader S} {raw : RawLine} {kept : List ℕ} →
-    (t : IsText told old new raw kept) (b : List ℕ) → b ≡ strip_last 13 t.text → (e : ScriptLine) → (raw.feed ≡ false → 0 < raw.length) →
-    block_size (asked b) ≡ 0 → e ≡ line_of (asked b) (words b) [] → IsNext told old new (Some e)
-next_done {S} {told} {old} {new} {raw} {kept} t b is e some none line =
-    let P : List ℕ → Type 0 = λ x. block_size (asked x) ≡ 0 → e ≡ line_of (asked x) (words x) [] → IsNext told old new (Some e) in
-    subst P (sym is) (λ n i. next_plain t e some n i) none line
+pub next_done : {old new : PlainReader} {raw : RawLine} {kept : List ℕ} (d : Dialect) →
+    (t : IsText old new raw kept) (b : List ℕ) → b ≡ strip_last 13 t.text → (e : ScriptLine) → (raw.feed ≡ false → 0 < raw.length) →
+    has_block (asked b) ≡ false → e ≡ line_of d (asked b) (words b) [] → IsNext (here d old) (here d new) (Some e)
+next_done {old} {new} {raw} {kept} d t b is e some none line =
+    let P : List ℕ → Type 0 = λ x. has_block (asked x) ≡ false → e ≡ line_of d (asked x) (words x) [] → IsNext (here d old) (here d new) (Some e) in
+    subst P (sym is) (λ n i. next_plain d t e some n i) none line
 
 -- a storage line with its data block
-block_or : (text block : List ℕ) (size : ℕ) (End : Type 0) → has_lf text ≡ false → block_size (asked (strip_last 13 text)) ≡ size + 2 →
-    (length block ≡ size + 2) ⊎ ((length block < size + 2) × End) →
-    IsWhole (text ++ 10 ∷ block) (line_of (asked (strip_last 13 text)) (words (strip_last 13 text)) block)
-    ⊎ (IsLast (text ++ 10 ∷ block) (line_of (asked (strip_last 13 text)) (words (strip_last 13 text)) block) × End)
-block_or text block size End n e (inl p) = inl (whole_block text block n (p ∙ sym e))
-block_or text block size End n e (inr p) = inr (last_block text block n (omega (arith, p.0, e)), p.1)
+block_or : (d : Dialect) (text block : List ℕ) (c : Command) (End : Type 0) → has_lf text ≡ false → asked (strip_last 13 text) ≡ c →
+    (length block ≡ block_size d c block) ⊎ ((length block < block_size d c block) × End) →
+    IsWhole d false (passes d c block) (text ++ 10 ∷ block) (line_of d c (words (strip_last 13 text)) block)
+    ⊎ (IsLast d false (text ++ 10 ∷ block) (line_of d c (words (strip_last 13 text)) block) × End)
+block_or d text block c End n e (inl p) =
+    inl (subst (λ a. IsWhole d false (passes d a block) (text ++ 10 ∷ block) (line_of d a (words (strip_last 13 text)) block)) e
+    (whole_block d text block n (p ∙ ap (λ a. block_size d a block) (sym e))))
+block_or d text block c End n e (inr p) =
+    inr (
+      subst (λ a. IsLast d false (text ++ 10 ∷ block) (line_of d a (words (strip_last 13 text)) block)) e
+          (last_block d text block n (subst (λ a. length block < block_size d a block) (sym e) p.0)),
+      p.1,
+    )
 
-pub next_block : {S : Type 0} {told : S → Told} {old mid new : ByteReader S} {raw : RawLine} {kept key : List ℕ} {storage : StorageCommand} {flags : ℕ} {exptime : ℤ} {size : ℕ} {noreply : Bool} {line : ScriptLine} →
-    (t : IsText told old mid raw kept) → raw.feed ≡ true → asked (strip_last 13 t.text) ≡ Storage storage flags exptime size noreply → key ≡ word (words (strip_last 13 t.text)) 1 →
-    IsStorageLine told mid new storage key flags exptime size noreply line → IsNext told old new (Some line)
-next_block {S} {told} {old} {mid} {new} {raw} {kept} {key} {storage} {flags} {exptime} {size} {noreply} {line} t feed c k s =
-    let first : Took told old mid (t.text ++ 10 ∷ []) = subst (λ f. Took told old mid (t.text ++ ending f)) feed t.took in
-    let both : Took told old new (t.text ++ 10 ∷ s.block) = subst (λ l. Took told old new l) (append_assoc t.text (10 ∷ []) s.block) (Took-then first s.took) in
-    let is : line_of (asked (strip_last 13 t.text)) (words (strip_last 13 t.text)) s.block ≡ line =
-    ap (λ a. line_of a (words (strip_last 13 t.text)) s.block) c ∙ ap (λ w. storage_line_of storage w flags exptime size noreply s.block) (sym k) ∙ sym s.line_is in
-    subst (λ x. IsNext told old new (Some x)) is
-    (t.text ++ 10 ∷ s.block, both, block_or t.text s.block size (AtEnd told new) t.no_lf (ap block_size c) s.size_is)
+pub next_block : {old mid : PlainReader} {new : PlainInput} {raw : RawLine} {kept key : List ℕ} {storage : StorageCommand} {flags : ℕ} {exptime : ℤ} {size : ℕ} {noreply : Bool} {line : ScriptLine} (d : Dialect) →
+    (t : IsText old mid raw kept) → raw.feed ≡ true → asked (strip_last 13 t.text) ≡ Storage storage flags exptime size noreply → key ≡ word (words (strip_last 13 t.text)) 1 →
+    IsStorageLine (here d mid) new storage key flags exptime size noreply line → IsNext (here d old) new (Some line)
+next_block {old} {mid} {new} {raw} {kept} {key} {storage} {flags} {exptime} {size} {noreply} {line} d t feed c k s =
+    let first : Took old mid (t.text ++ 10 ∷ []) = subst (λ f. Took old mid (t.text ++ ending f)) feed t.took in
+    let both : Took old new.bytes (t.text ++ 10 ∷ s.block) = subst (λ l. Took old new.bytes l) (append_assoc t.text (10 ∷ []) s.block) (Took-then first s.took) in
+    let is : storage_line_of d storage (word (words (strip_last 13 t.text)) 1) flags exptime size noreply s.block ≡ line =
+    ap (λ w. storage_line_of d storage w flags exptime size noreply s.block) (sym k) ∙ sym s.line_is in
+    let which = block_or d t.text s.block (Storage storage flags exptime size noreply) (AtEnd new.bytes) t.no_lf c s.size_is in (
+      t.text ++ 10 ∷ s.block,
+      both,
+      s.dialect_is,
+      elim which [
+        | inl w ↦ inl (subst (λ p. IsWhole d false p (t.text ++ 10 ∷ s.block) line) (sym s.passes_is)
+            (subst (λ x. IsWhole d false (is_passed d (is_ending d (drop size s.block))) (t.text ++ 10 ∷ s.block) x) is w))
+        | inr l ↦ inr (subst (λ x. IsLast d false (t.text ++ 10 ∷ s.block) x) is l.0, l.1)
+      ],
+    )
 
 -- a storage line that the end cuts off before its LF
-pub storage_line_of-nil : (storage : StorageCommand) (key : List ℕ) (flags : ℕ) (exptime : ℤ) (size : ℕ) (noreply : Bool) → storage_line_of storage key flags exptime size noreply [] ≡ BadLine BadChunk
-storage_line_of-nil storage key flags exptime size noreply =
-    ap (λ t. cond (bytes_eq t (13 ∷ 10 ∷ [])) (StorageLine storage key flags exptime (payload_of size []) noreply) (BadLine BadChunk)) (nil_from_length (drop size []) (omega (arith, length-drop {A = ℕ} size [])))
+pub storage_line_of-nil : (d : Dialect) (storage : StorageCommand) (key : List ℕ) (flags : ℕ) (exptime : ℤ) (size : ℕ) (noreply : Bool) → storage_line_of d storage key flags exptime size noreply [] ≡ BadLine BadChunk
+storage_line_of-nil d storage key flags exptime size noreply =
+    ap (λ t. cond (is_ending d t) (StorageLine storage key flags exptime (payload_of size []) noreply) (BadLine BadChunk)) (nil_from_length (drop size []) (omega (arith, length-drop {A = ℕ} size [])))
+    ∙ ap (λ b. cond b (StorageLine storage key flags exptime (payload_of size []) noreply) (BadLine BadChunk)) (no_ending d)
 
-pub next_cut_storage : {S : Type 0} {told : S → Told} {old new : ByteReader S} {raw : RawLine} {kept : List ℕ} {storage : StorageCommand} {flags : ℕ} {exptime : ℤ} {size : ℕ} {noreply : Bool} →
-    (t : IsText told old new raw kept) → raw.feed ≡ false → 0 < raw.length → asked (strip_last 13 t.text) ≡ Storage storage flags exptime size noreply →
-    IsNext told old new (Some (BadLine BadChunk))
-next_cut_storage {S} {told} {old} {new} {raw} {kept} {storage} {flags} {exptime} {size} {noreply} t feed some c =
-    let took : Took told old new t.text = subst (λ l. Took told old new l) (append-nil t.text) (subst (λ f. Took told old new (t.text ++ ending f)) feed t.took) in
-    let is : line_of (asked (strip_last 13 t.text)) (words (strip_last 13 t.text)) [] ≡ BadLine BadChunk =
-    ap (λ a. line_of a (words (strip_last 13 t.text)) []) c ∙ storage_line_of-nil storage (word (words (strip_last 13 t.text)) 1) flags exptime size noreply in
-    (t.text, took, inr (subst (λ x. IsLast t.text x) is (last_text t.text t.no_lf (omega (arith, t.size, some))), t.at_end feed))
+pub next_cut_storage : {old new : PlainReader} {raw : RawLine} {kept : List ℕ} {storage : StorageCommand} {flags : ℕ} {exptime : ℤ} {size : ℕ} {noreply : Bool} (d : Dialect) →
+    (t : IsText old new raw kept) → raw.feed ≡ false → 0 < raw.length → asked (strip_last 13 t.text) ≡ Storage storage flags exptime size noreply →
+    IsNext (here d old) (here d new) (Some (BadLine BadChunk))
+next_cut_storage {old} {new} {raw} {kept} {storage} {flags} {exptime} {size} {noreply} d t feed some c =
+    let took : Took old new t.text = subst (λ l. Took old new l) (append-nil t.text) (subst (λ f. Took old new (t.text ++ ending f)) feed t.took) in
+    let is : line_of d (asked (strip_last 13 t.text)) (words (strip_last 13 t.text)) [] ≡ BadLine BadChunk =
+    ap (λ a. line_of d a (words (strip_last 13 t.text)) []) c ∙ storage_line_of-nil d storage (word (words (strip_last 13 t.text)) 1) flags exptime size noreply in
+    (t.text, took, refl, inr (subst (λ x. IsLast d false t.text x) is (last_text d t.text t.no_lf (omega (arith, t.size, some))), t.at_end feed))
 
 -- a fault in the line's text
-pub fault_text : {S : Type 0} {told : S → Told} {old new : ByteReader S} (e : LineFault) →
-    IsPart told old new → StoppedBy told new e → IsFault told old new e
-fault_text e p s = (p.text, p.took, (λ _. none_whole-text p.text p.no_lf), s)
+pub fault_text : {old new : PlainReader} {e : LineFault} (d : Dialect) → IsPart old new e → IsFault (here d old) (here d new) e
+fault_text d p = (p.text, p.broke, (λ _. none_whole-text d p.text p.no_lf))
 
 -- a fault in its data block
-pub fault_block : {S : Type 0} {told : S → Told} {old mid new : ByteReader S} {raw : RawLine} {kept : List ℕ} {storage : StorageCommand} {flags : ℕ} {exptime : ℤ} {size : ℕ} {noreply : Bool} (e : LineFault) →
-    (t : IsText told old mid raw kept) → raw.feed ≡ true → asked (strip_last 13 t.text) ≡ Storage storage flags exptime size noreply →
-    IsBroken told mid new size e → StoppedBy told new e → IsFault told old new e
-fault_block {S} {told} {old} {mid} {new} {raw} {kept} {storage} {flags} {exptime} {size} {noreply} e t feed c s stop =
-    let first : Took told old mid (t.text ++ 10 ∷ []) = subst (λ f. Took told old mid (t.text ++ ending f)) feed t.took in
-    let both : Took told old new (t.text ++ 10 ∷ s.taken) = subst (λ l. Took told old new l) (append_assoc t.text (10 ∷ []) s.taken) (Took-then first s.took) in
-    let short : e ≢ faults.Memory → length s.taken < block_size (asked (strip_last 13 t.text)) = λ other. omega (arith, s.short other, ap block_size c) in
-    (t.text ++ 10 ∷ s.taken, both, (λ other. none_whole (t.text ++ 10 ∷ s.taken) _ (last_block t.text s.taken t.no_lf (short other))), stop)
+pub fault_block : {old mid new : PlainReader} {raw : RawLine} {kept : List ℕ} {storage : StorageCommand} {flags : ℕ} {exptime : ℤ} {size : ℕ} {noreply : Bool} {e : LineFault} (d : Dialect) →
+    (t : IsText old mid raw kept) → raw.feed ≡ true → asked (strip_last 13 t.text) ≡ Storage storage flags exptime size noreply →
+    IsBroken d mid new size e → IsFault (here d old) (here d new) e
+fault_block {old} {mid} {new} {raw} {kept} {storage} {flags} {exptime} {size} {noreply} {e} d t feed c s =
+    let first : Took old mid (t.text ++ 10 ∷ []) = subst (λ f. Took old mid (t.text ++ ending f)) feed t.took in
+    let both : Broke old new (t.text ++ 10 ∷ s.taken) e = subst (λ l. Broke old new l e) (append_assoc t.text (10 ∷ []) s.taken) (Took-broke first s.broke) in
+    let short : e ≢ faults.Memory → length s.taken < block_size d (asked (strip_last 13 t.text)) s.taken =
+    λ other. subst (λ a. length s.taken < block_size d a s.taken) (sym c) (s.short other) in
+    (t.text ++ 10 ∷ s.taken, both, (λ other. none_whole d (t.text ++ 10 ∷ s.taken) _ (last_block d t.text s.taken t.no_lf (short other))))
 
 -- a fault before any byte of the line
-pub fault_none : {S : Type 0} {told : S → Told} {old new : ByteReader S} (e : LineFault) →
-    Took told old new [] → StoppedBy told new e → IsFault told old new e
-fault_none e k s = ([], k, (λ _. none_whole-text [] refl), s)
+pub fault_none : {old new : PlainReader} {e : LineFault} (d : Dialect) → Broke old new [] e → IsFault (here d old) (here d new) e
+fault_none d k = ([], k, (λ _. none_whole-text d [] refl))
 
--- a fault behind a look at the piece
-pub fault_after : {S A : Type 0} {told : S → Told} {old mid : ByteReader S} (new : ByteReader S) (r : Result A LineFault) →
-    Took told old mid [] → IfErr r (λ e. IsFault told mid new e) → IfErr r (λ e. IsFault told old new e)
-fault_after new (Ok a) k f = tt
-fault_after new (Err e) k f = (f.0, Took-then k f.1, f.2, f.3)
+-- ---- behind the rest of a line that is passed over
+
+-- what is read where such a rest is in front
+abbrev pub within : Dialect → PlainReader → PlainInput
+within d b = record { bytes = b; dialect = d; passes = true }
+
+after-rest : (text taken : List ℕ) → has_lf text ≡ false → onwards true ((text ++ 10 ∷ []) ++ taken) ≡ taken
+after-rest text taken n = ap after_lf (append_assoc text (10 ∷ []) taken) ∙ after_lf-append text (10 ∷ taken) n
+
+rest_next : {old mid : PlainReader} (new : PlainInput) (d : Dialect) (line : Option ScriptLine) → IsRest old mid true → IsNext (here d mid) new line → IsNext (within d old) new line
+rest_next new d None r n = (
+  (r.text ++ 10 ∷ []) ++ n.0,
+  Took-then r.took n.1,
+  n.2,
+  ap (cuts d) (after-rest r.text n.0 r.no_lf) ∙ n.3,
+  n.4,
+)
+rest_next new d (Some line) r n = (
+  (r.text ++ 10 ∷ []) ++ n.0,
+  Took-then r.took n.1,
+  n.2,
+  elim n.3 [
+    | inl w ↦ inl (record { cut = λ more. ap (λ t. cuts d (onwards true t)) (append_assoc (r.text ++ 10 ∷ []) n.0 more) ∙ ap (cuts d) (after-rest r.text (n.0 ++ more) r.no_lf) ∙ w.cut more })
+    | inr l ↦ inr (record { cut = ap (cuts d) (after-rest r.text n.0 r.no_lf) ∙ l.0.cut }, l.1)
+  ],
+)
+
+-- the end comes before its LF
+pub rest_end : {old new : PlainReader} (d : Dialect) → IsRest old new false → IsNext (within d old) (within d new) None
+rest_end {old} {new} d r = (
+  r.text ++ [],
+  r.took,
+  refl,
+  ap (λ t. cuts d (after_lf t)) (append-nil r.text) ∙ ap (cuts d) (no_lf_after r.text r.no_lf) ∙ cuts-nil d,
+  r.at_end refl,
+)
+
+-- a fault in it
+pub fault_rest : {old new : PlainReader} {e : LineFault} (d : Dialect) → IsPart old new e → IsFault (within d old) (within d new) e
+fault_rest d p = (p.text, p.broke, λ _. ap (whole_lines d) (no_lf_after p.text p.no_lf) ∙ none_whole-nil d)
+
+-- what comes behind it
+pub rested : {A : Type 0} {old mid : PlainReader} (new : PlainReader) (d : Dialect) (r : Result A LineFault) → IsRest old mid true →
+    IfErr r (λ e. IsFault (here d mid) (here d new) e) → IfErr r (λ e. IsFault (within d old) (here d new) e)
+rested new d (Ok a) t f = tt
+rested new d (Err e) t f = (
+  (t.text ++ 10 ∷ []) ++ f.0,
+  Took-broke t.took f.1,
+  λ other. ap (whole_lines d) (after-rest t.text f.0 t.no_lf) ∙ f.2 other,
+)
+
+pub rested_ok : {A : Type 0} {old mid : PlainReader} (new : PlainInput) (f : A → Option ScriptLine) (d : Dialect) (r : Result A LineFault) → IsRest old mid true →
+    IfOk r (λ a. IsNext (here d mid) new (f a)) → IfOk r (λ a. IsNext (within d old) new (f a))
+rested_ok new f d (Ok a) k n = rest_next new d (f a) k n
+rested_ok new f d (Err e) k n = tt
+
+-- ---- behind a look at the piece, which takes nothing
+
+look_next : {old mid : PlainReader} (new : PlainInput) (d : Dialect) (line : Option ScriptLine) → Took old mid [] → IsNext (here d mid) new line → IsNext (here d old) new line
+look_next new d None k n = (n.0, Took-then k n.1, n.2, n.3, n.4)
+look_next new d (Some line) k n = (n.0, Took-then k n.1, n.2, n.3)
+
+pub looked : {A : Type 0} {old mid : PlainReader} (new : PlainReader) (d : Dialect) (r : Result A LineFault) → Took old mid [] →
+    IfErr r (λ e. IsFault (here d mid) (here d new) e) → IfErr r (λ e. IsFault (here d old) (here d new) e)
+looked new d (Ok a) k f = tt
+looked new d (Err e) k f = (f.0, Took-broke k f.1, f.2)
+
+pub looked_ok : {A : Type 0} {old mid : PlainReader} (new : PlainInput) (f : A → Option ScriptLine) (d : Dialect) (r : Result A LineFault) → Took old mid [] →
+    IfOk r (λ a. IsNext (here d mid) new (f a)) → IfOk r (λ a. IsNext (here d old) new (f a))
+looked_ok new f d (Ok a) k n = look_next new d (f a) k n
+looked_ok new f d (Err e) k n = tt
+
+-- there is no line at the end, where a line has no byte
+pub no_text : {old new : PlainReader} {raw : RawLine} {kept : List ℕ} (t : IsText old new raw kept) → raw.feed ≡ false → raw.length ≡ 0 → Took old new [] × AtEnd new
+no_text {old} {new} t feed none =
+    let took : Took old new (t.text ++ []) = subst (λ f. Took old new (t.text ++ ending f)) feed t.took in
+    (subst (λ l. Took old new l) (append-nil t.text ∙ nil_from_length t.text (t.size ∙ none)) took, t.at_end feed)
+
+pub no_line : {old new : PlainReader} (d : Dialect) → Took old new [] → AtEnd new → IsNext (here d old) (here d new) None
+no_line d k e = ([], k, refl, cuts-nil d, e)
 
 -- the line's bytes without their ending are a front of the piece
 stripped : (b : Bool) (text : List ℕ) → take (length (cond b (take (length text - 1) text) text)) text ≡ cond b (take (length text - 1) text) text

@@ -1,54 +1,58 @@
--- What a contract sees of a source and its piece.
-use Rattle.std.specs.Prelude.{◌≡◌, ◌<◌, ◌+◌, ◌-◌, ℕ, List, [], length, take, slice_range, Option}
+-- What a contract sees of a reader of bytes.
+use Rattle.std.specs.Prelude.{◌≡◌, ◌<◌, ◌+◌, ◌-◌, ℕ, List, [], length, take, Option}
 use Rattle.std.specs.Io.KnownBytes.{prepend_known, Consumes, IsAtEnd}
-use Rattle.rev_script.specs.Source.{Told}
+use Rattle.rev_script.specs.Source.{Told, one_more}
 use Rattle.rev_script.specs.declared.source.LastRead.TheVariants.{Ended, Failed}
 use Rattle.rev_script.specs.declared.byte_reader.LineFault.{LineFault}
 use Rattle.rev_script.specs.declared.byte_reader.LineFault.TheVariants as faults
-use Rattle.rev_script.specs.declared.byte_reader.ByteReader.{ByteReader}
 
--- the bytes that were read and not yet handed out
-abbrev pub in_piece : {S : Type 0} → ByteReader S → List ℕ
-in_piece b = slice_range b.piece b.from b.to
+-- what was read of a source, and what is left of it
+pub record PlainReader : Type 0 where
+  pub unused : List ℕ  -- the bytes that were read and not yet handed out
+  pub given : ℕ  -- how many bytes were handed out
+  pub source : Told  -- what the source tells of itself
 
--- those of them that may be handed out
-abbrev pub front : {S : Type 0} → ByteReader S → List ℕ
-front b = take (4294967296 - b.given) (in_piece b)
+-- a reader that has read nothing of its source
+abbrev pub unread : Told → PlainReader
+unread t = record { unused = []; given = 0; source = t }
+
+-- the bytes that may be handed out without a read
+abbrev pub front : PlainReader → List ℕ
+front r = take (4294967296 - r.given) r.unused
 
 -- the bytes that will be handed out, where they are known
-abbrev pub ahead : {S : Type 0} → (S → Told) → ByteReader S → Option (List ℕ)
-ahead told b = prepend_known (in_piece b) (told b.source).remaining
+abbrev pub ahead : PlainReader → Option (List ℕ)
+ahead r = prepend_known r.unused r.source.remaining
 
--- how many bytes were handed out
-abbrev pub given : {S : Type 0} → ByteReader S → ℕ
-given b = b.given
+-- from old to new these bytes were handed out, and counted, from the same source
+pub record Passed (old new : PlainReader) (taken : List ℕ) : Type 0 where
+  pub bytes : Consumes (ahead old) (ahead new) taken
+  pub count : new.given ≡ old.given + length taken
+  pub same : new.source.identity ≡ old.source.identity
 
--- the source that it reads
-abbrev pub source_in : {S : Type 0} → ByteReader S → S
-source_in b = b.source
-
--- which reader it reads
-abbrev pub identity : {S : Type 0} → (S → Told) → ByteReader S → ℕ
-identity told b = (told b.source).identity
-
--- from old to new these bytes were handed out, and counted, from the same reader
-pub record Took {S : Type 0} (told : S → Told) (old new : ByteReader S) (taken : List ℕ) : Type 0 where
-  pub bytes : Consumes (ahead told old) (ahead told new) taken
-  pub count : given new ≡ given old + length taken
-  pub same : identity told new ≡ identity told old
+-- the same, and no read failed
+pub record Took (old new : PlainReader) (taken : List ℕ) : Type 0 where
+  pub passed : Passed old new taken
+  pub steady : new.source.failures ≡ old.source.failures
 
 -- the last read, with room for a byte, gave none, and all that was read was handed out
-abbrev pub IsEnded : {S : Type 0} → (S → Told) → ByteReader S → Type 0
-IsEnded told b = ((told b.source).last ≡ Ended) × (in_piece b ≡ [])
+abbrev pub IsEnded : PlainReader → Type 0
+IsEnded r = (r.source.last ≡ Ended) × (r.unused ≡ [])
 
 -- the same, and where the bytes are known none are left
-pub record AtEnd {S : Type 0} (told : S → Told) (b : ByteReader S) : Type 0 where
-  pub none_left : IsAtEnd (ahead told b)
-  pub ended : IsEnded told b
+pub record AtEnd (r : PlainReader) : Type 0 where
+  pub none_left : IsAtEnd (ahead r)
+  pub ended : IsEnded r
 
--- at a fault of the reader its last read failed, and all that was read was handed out;
+-- at a fault of the source one read failed, the last one, and all that was read was handed out;
 -- at too long a script as many bytes as may be were handed out, and more were read
-abbrev pub StoppedBy : {S : Type 0} → (S → Told) → ByteReader S → LineFault → Type 0
-StoppedBy told b faults.Memory = Unit {0}
-StoppedBy told b faults.Read = ((told b.source).last ≡ Failed) × (in_piece b ≡ [])
-StoppedBy told b faults.TooLong = (given b ≡ 4294967296) × (0 < length (in_piece b))
+abbrev pub StoppedBy : PlainReader → PlainReader → LineFault → Type 0
+StoppedBy old new faults.Memory = Unit {0}
+StoppedBy old new faults.Read =
+    (new.source.failures ≡ one_more old.source.failures) × (new.source.last ≡ Failed) × (new.unused ≡ [])
+StoppedBy old new faults.TooLong = (new.given ≡ 4294967296) × (0 < length new.unused)
+
+-- these bytes were handed out, and then a fault came
+pub record Broke (old new : PlainReader) (taken : List ℕ) (e : LineFault) : Type 0 where
+  pub passed : Passed old new taken
+  pub stopped : StoppedBy old new e

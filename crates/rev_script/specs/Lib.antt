@@ -5,8 +5,10 @@ pub mod Keyed
 pub mod Source
 pub mod ByteReader
 pub mod Script
+pub mod Steps
 pub mod RawLine
 pub mod DataBlock
 pub mod Line
 pub mod Lines
+pub mod Input
 pub mod FromRead

@@ -1,14 +1,13 @@
 -- What a contract sees of a line of the code.
-use Rattle.std.specs.Prelude.{ℤ, ◌≡◌, ◌≢◌, ◌⊎◌, ◌<◌, ◌+◌, ℕ, Bool, length, List, [], Option, None, Some}
+use Rattle.std.specs.Prelude.{ℤ, ◌≡◌, ◌≢◌, ◌⊎◌, ◌<◌, ◌+◌, ℕ, Bool, true, false, length, drop, List, [], Option, None, Some}
 use Rattle.rev_requests.specs.Plain.{plain_payload}
 use Rattle.rev_script.specs.Words.{word}
 use Rattle.rev_script.specs.declared.command.StorageCommand.{StorageCommand}
 use Rattle.rev_script.specs.declared.command.Command.{Command}
 use Rattle.rev_script.specs.declared.command.Command.TheVariants as commands
-use Rattle.rev_script.specs.ByteReader.{Took, AtEnd, StoppedBy}
-use Rattle.rev_script.specs.Script.{ScriptLine, StorageLine, RetrievalLine, UpdateLine, FlushLine, ActorLine, ClockLine, DebugLine, QueryLine, BookmarkLine, BadLine, line_of, storage_line_of, block_size, whole_lines, IsWhole, IsLast}
-use Rattle.rev_script.specs.Source.{Told}
-use Rattle.rev_script.specs.declared.byte_reader.ByteReader.{ByteReader}
+use Rattle.rev_script.specs.ByteReader.{PlainReader, Took, Broke, AtEnd}
+use Rattle.rev_script.specs.Script.{ScriptLine, StorageLine, RetrievalLine, UpdateLine, FlushLine, ActorLine, ClockLine, DebugLine, QueryLine, BookmarkLine, BadLine, line_of, storage_line_of, ending_size, is_ending, is_passed, onwards, cuts, whole_lines, IsWhole, IsLast}
+use Rattle.rev_script.specs.declared.dialect.Dialect.{Dialect}
 use Rattle.rev_script.specs.declared.byte_reader.LineFault.{LineFault}
 use Rattle.rev_script.specs.declared.byte_reader.LineFault.TheVariants as faults
 use Rattle.rev_script.specs.declared.line.ClientLine as the_client
@@ -40,27 +39,42 @@ view (lines.Clock n) = ClockLine n
 view (lines.Debug line) = debug_view line
 view (lines.Bad answer) = BadLine answer
 
--- a storage command with its key, and else the whole line
+-- whether a data block follows the line
+abbrev pub has_block : Command → Bool
+has_block (commands.Storage c flags exptime size noreply) = true
+has_block _ = false
+
+-- a storage command with its key, and else the whole line, which is the same in each dialect
 abbrev pub IsAsked : {A : Type 0} → Asked A → Command → List (List ℕ) → Type 0
-IsAsked (askeds.Done line) c ws = (block_size c ≡ 0) × (view line ≡ line_of c ws [])
+IsAsked (askeds.Done line) c ws = (has_block c ≡ false) × ((d : Dialect) → view line ≡ line_of d c ws [])
 IsAsked (askeds.Storage s key flags exptime size noreply) c ws =
     (c ≡ commands.Storage s flags exptime size noreply) × (key ≡ word ws 1)
 
--- the next line was taken; none only at the end
-abbrev pub IsNext : {S : Type 0} → (S → Told) → ByteReader S → ByteReader S → Option ScriptLine → Type 0
-IsNext told old new None = Took told old new [] × AtEnd told new
-IsNext told old new (Some line) =
-    (taken : List ℕ) × Took told old new taken × (IsWhole taken line ⊎ (IsLast taken line × AtEnd told new))
+-- what a reader of lines reads: bytes in a dialect. Perhaps the rest of a line is to be passed over first.
+pub record PlainInput : Type 0 where
+  pub bytes : PlainReader
+  pub dialect : Dialect
+  pub passes : Bool
 
--- a part of a line was taken (at Memory perhaps all of it), and then no more
-abbrev pub IsFault : {S : Type 0} → (S → Told) → ByteReader S → ByteReader S → LineFault → Type 0
-IsFault told old new e =
-    (taken : List ℕ) × Took told old new taken × (e ≢ faults.Memory → whole_lines taken ≡ 0) × StoppedBy told new e
+-- the next line was taken; none only at the end
+abbrev pub IsNext : PlainInput → PlainInput → Option ScriptLine → Type 0
+IsNext old new None =
+    (taken : List ℕ) × Took old.bytes new.bytes taken × (new.dialect ≡ old.dialect) × (cuts old.dialect (onwards old.passes taken) ≡ []) × AtEnd new.bytes
+IsNext old new (Some line) =
+    (taken : List ℕ) × Took old.bytes new.bytes taken × (new.dialect ≡ old.dialect) ×
+    (IsWhole old.dialect old.passes new.passes taken line ⊎ (IsLast old.dialect old.passes taken line × AtEnd new.bytes))
+
+-- a part of a line was taken (at Memory perhaps all of it), and then a fault came
+abbrev pub IsFault : PlainInput → PlainInput → LineFault → Type 0
+IsFault old new e =
+    (taken : List ℕ) × Broke old.bytes new.bytes taken e × (e ≢ faults.Memory → whole_lines old.dialect (onwards old.passes taken) ≡ 0)
 
 -- a data block was taken, or what there is of it, and the storage line made of it
-pub record IsStorageLine {S : Type 0} (told : S → Told) (old new : ByteReader S)
+pub record IsStorageLine (old new : PlainInput)
     (command : StorageCommand) (key : List ℕ) (flags : ℕ) (exptime : ℤ) (size : ℕ) (noreply : Bool) (line : ScriptLine) : Type 0 where
   pub block : List ℕ
-  pub took : Took told old new block
-  pub size_is : (length block ≡ size + 2) ⊎ ((length block < size + 2) × AtEnd told new)
-  pub line_is : line ≡ storage_line_of command key flags exptime size noreply block
+  pub took : Took old.bytes new.bytes block
+  pub dialect_is : new.dialect ≡ old.dialect
+  pub size_is : (length block ≡ size + ending_size old.dialect (drop size block)) ⊎ ((length block < size + ending_size old.dialect (drop size block)) × AtEnd new.bytes)
+  pub line_is : line ≡ storage_line_of old.dialect command key flags exptime size noreply block
+  pub passes_is : new.passes ≡ is_passed old.dialect (is_ending old.dialect (drop size block))

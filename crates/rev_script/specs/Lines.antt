@@ -1,13 +1,23 @@
 -- What a contract sees of a reader of lines.
-use Rattle.std.specs.Prelude.{Option}
-use Rattle.rev_script.specs.declared.byte_reader.ByteReader.{ByteReader}
+use Rattle.std.specs.Prelude.{◌≡◌, false, Option, None}
+use Rattle.rev_script.specs.ByteReader.{unread}
+use Rattle.rev_script.specs.Line.{PlainInput}
+use Rattle.rev_script.specs.Source.{Told}
+use Rattle.rev_script.specs.declared.dialect.Dialect.{Dialect}
 use Rattle.rev_script.specs.declared.byte_reader.LineFault.{LineFault}
-use Rattle.rev_script.specs.declared.lines.Lines.{Lines}
 
--- the bytes that it reads
-abbrev pub bytes_of : {S A : Type 0} → Lines S A → ByteReader S
-bytes_of l = l.bytes
+-- what it reads, and the fault that it answers from now on
+pub record PlainLines : Type 0 where
+  pub input : PlainInput
+  pub fault : Option LineFault
 
--- the fault that it answers from now on
-abbrev pub fault_of : {S A : Type 0} → Lines S A → Option LineFault
-fault_of l = l.fault
+-- a reader at the first line of all that a source will give
+abbrev pub at_first : Told → Dialect → PlainLines
+at_first t d = record {
+  input = record { bytes = unread t; dialect = d; passes = false };
+  fault = None;
+}
+
+-- nothing of its source was read yet
+abbrev pub IsFirst : PlainLines → Type 0
+IsFirst l = l ≡ at_first l.input.bytes.source l.input.dialect

@@ -1,9 +1,8 @@
 -- What was read of a line, before it is looked at.
 use Rattle.std.specs.Prelude.{◌≡◌, ℕ, Bool, false, if◌then◌else◌, List, [], ◌∷◌, ◌++◌, length, take}
-use Rattle.rev_script.specs.ByteReader.{Took, AtEnd}
+use Rattle.rev_script.specs.ByteReader.{PlainReader, Took, Broke, AtEnd}
 use Rattle.rev_script.specs.Script.{has_lf}
-use Rattle.rev_script.specs.Source.{Told}
-use Rattle.rev_script.specs.declared.byte_reader.ByteReader.{ByteReader}
+use Rattle.rev_script.specs.declared.byte_reader.LineFault.{LineFault}
 use Rattle.rev_script.specs.declared.raw_line.RawLine.{RawLine}
 
 -- the LF, where there was one
@@ -11,24 +10,31 @@ abbrev pub ending : Bool → List ℕ
 ending feed = if feed then 10 ∷ [] else []
 
 -- a line's bytes up to LF or the end were taken, and the first of them are kept
-pub record IsText {S : Type 0} (told : S → Told) (old new : ByteReader S) (raw : RawLine) (kept : List ℕ) : Type 0 where
+pub record IsText (old new : PlainReader) (raw : RawLine) (kept : List ℕ) : Type 0 where
   pub text : List ℕ
   pub no_lf : has_lf text ≡ false
   pub size : length text ≡ raw.length
   pub kept_is : kept ≡ take 65537 text
-  pub took : Took told old new (text ++ ending raw.feed)
-  pub at_end : raw.feed ≡ false → AtEnd told new
+  pub took : Took old new (text ++ ending raw.feed)
+  pub at_end : raw.feed ≡ false → AtEnd new
 
--- bytes without an LF were taken
-pub record IsPart {S : Type 0} (told : S → Told) (old new : ByteReader S) : Type 0 where
+-- bytes without an LF were taken, and then a fault came
+pub record IsPart (old new : PlainReader) (e : LineFault) : Type 0 where
   pub text : List ℕ
   pub no_lf : has_lf text ≡ false
-  pub took : Took told old new text
+  pub broke : Broke old new text e
 
 -- so far bytes without an LF were taken, and the first of them are kept
-pub record IsSoFar {S : Type 0} (told : S → Told) (old new : ByteReader S) (size : ℕ) (kept : List ℕ) : Type 0 where
+pub record IsSoFar (old new : PlainReader) (size : ℕ) (kept : List ℕ) : Type 0 where
   pub text : List ℕ
   pub no_lf : has_lf text ≡ false
   pub size_is : length text ≡ size
   pub kept_is : kept ≡ take 65537 text
-  pub took : Took told old new text
+  pub took : Took old new text
+
+-- the rest of a line was taken, through its LF, or up to the end
+pub record IsRest (old new : PlainReader) (feed : Bool) : Type 0 where
+  pub text : List ℕ
+  pub no_lf : has_lf text ≡ false
+  pub took : Took old new (text ++ ending feed)
+  pub at_end : feed ≡ false → AtEnd new

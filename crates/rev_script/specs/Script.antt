@@ -1,10 +1,13 @@
 -- The lines of a script, on the whole list of its bytes: each ends at LF or at the end, a storage line with its data block.
-use Rattle.std.specs.Prelude.{◌≡◌, ℕ, ℤ, zero, suc, ◌+◌, ◌==◌, Bool, true, false, ◌&&◌, nat_le, nat_lt, if◌then◌else◌, List, [], ◌∷◌, ◌++◌, length, take, drop, map, count_by}
+-- A dialect says what has to stand behind the data of a block. All else is the same in each.
+use Rattle.std.specs.Prelude.{◌≡◌, ℕ, ℤ, zero, suc, ◌+◌, ◌==◌, Bool, true, false, ◌&&◌, ◌||◌, not, nat_le, nat_lt, if◌then◌else◌, List, [], ◌∷◌, ◌++◌, length, take, drop, map, count_by}
 use Rattle.std.specs.Str.{bytes_eq}
 use Rattle.std.specs.Io.BufRead.{strip_last}
 use Rattle.rev_model.specs.Client.{Payload, Bytes, Skipped}
 use Rattle.rev_script.specs.Words.{words, word}
 use Rattle.rev_script.specs.Commands.{asked}
+use Rattle.rev_script.specs.declared.dialect.Dialect.{Dialect}
+use Rattle.rev_script.specs.declared.dialect.Dialect.TheVariants.{CrLf, AnyFeed}
 use Rattle.rev_script.specs.declared.command.BadAnswer.{BadAnswer}
 use Rattle.rev_script.specs.declared.command.BadAnswer.TheVariants.{BadChunk}
 use Rattle.rev_script.specs.declared.command.StorageCommand.{StorageCommand}
@@ -54,82 +57,114 @@ pub data ScriptLine : Type 0 where
   BookmarkLine : BookmarkCommand → List ℕ → ScriptLine
   BadLine : BadAnswer → ScriptLine
 
--- the bytes of a data block, with its ending
-abbrev pub block_size : Command → ℕ
-block_size (Storage c flags exptime size noreply) = size + 2
-block_size _ = 0
+-- ---- data blocks
+
+-- what ends a block: CR LF, or in the other dialect LF too
+abbrev pub is_ending : Dialect → List ℕ → Bool
+is_ending CrLf bytes = bytes_eq bytes (13 ∷ 10 ∷ [])
+is_ending AnyFeed bytes = bytes_eq bytes (10 ∷ []) || bytes_eq bytes (13 ∷ 10 ∷ [])
+
+-- how many of the bytes behind the data tell whether the block ends there: two; in the other dialect one,
+-- and two where the first is a CR
+abbrev pub ending_size : Dialect → List ℕ → ℕ
+ending_size CrLf bytes = 2
+ending_size AnyFeed [] = 1
+ending_size AnyFeed (b ∷ bs) = if b == 13 then 2 else 1
+
+-- the bytes of a data block with its ending, where these bytes stand behind its line
+abbrev pub block_size : Dialect → Command → List ℕ → ℕ
+block_size d (Storage c flags exptime size noreply) rest = size + ending_size d (drop size rest)
+block_size d _ rest = 0
+
+-- whether the line that a bad block ends in is passed over
+abbrev pub is_passed : Dialect → Bool → Bool
+is_passed CrLf sound = false
+is_passed AnyFeed sound = not sound
+
+-- the same, by the block
+abbrev pub passes : Dialect → Command → List ℕ → Bool
+passes d (Storage c flags exptime size noreply) block = is_passed d (is_ending d (drop size block))
+passes d _ block = false
+
+-- where lines go on: here, or behind the rest of a line that is passed over
+abbrev pub onwards : Bool → List ℕ → List ℕ
+onwards pass bytes = if pass then after_lf bytes else bytes
 
 -- data of more than 1048576 bytes are not kept
 abbrev pub payload_of : ℕ → List ℕ → Payload
 payload_of size block = if nat_lt 1048576 size then Skipped size else Bytes (take size block)
 
 -- a storage line, with the data block behind it, or what there is of it
-abbrev pub storage_line_of : StorageCommand → List ℕ → ℕ → ℤ → ℕ → Bool → List ℕ → ScriptLine
-storage_line_of c key flags exptime size noreply block =
-    if bytes_eq (drop size block) (13 ∷ 10 ∷ []) then StorageLine c key flags exptime (payload_of size block) noreply
+abbrev pub storage_line_of : Dialect → StorageCommand → List ℕ → ℕ → ℤ → ℕ → Bool → List ℕ → ScriptLine
+storage_line_of d c key flags exptime size noreply block =
+    if is_ending d (drop size block) then StorageLine c key flags exptime (payload_of size block) noreply
     else BadLine BadChunk
 
 -- a line, from its words and the data block behind it
-abbrev pub line_of : Command → List (List ℕ) → List ℕ → ScriptLine
-line_of (Storage c flags exptime size noreply) ws block =
-    storage_line_of c (word ws 1) flags exptime size noreply block
-line_of (Retrieval with_cas) ws block = RetrievalLine (drop 1 ws) with_cas
-line_of (Update c noreply) ws block = UpdateLine c (word ws 1) noreply
-line_of (FlushAll delay noreply) ws block = FlushLine delay noreply
-line_of (Actor c) ws block = ActorLine c
-line_of (Clock n) ws block = ClockLine n
-line_of (Debug c) ws block = DebugLine c
-line_of (Query q) ws block = QueryLine q (word ws 1)
-line_of (Bookmark c) ws block = BookmarkLine c (word ws 1)
-line_of (Bad a) ws block = BadLine a
+abbrev pub line_of : Dialect → Command → List (List ℕ) → List ℕ → ScriptLine
+line_of d (Storage c flags exptime size noreply) ws block =
+    storage_line_of d c (word ws 1) flags exptime size noreply block
+line_of d (Retrieval with_cas) ws block = RetrievalLine (drop 1 ws) with_cas
+line_of d (Update c noreply) ws block = UpdateLine c (word ws 1) noreply
+line_of d (FlushAll delay noreply) ws block = FlushLine delay noreply
+line_of d (Actor c) ws block = ActorLine c
+line_of d (Clock n) ws block = ClockLine n
+line_of d (Debug c) ws block = DebugLine c
+line_of d (Query q) ws block = QueryLine q (word ws 1)
+line_of d (Bookmark c) ws block = BookmarkLine c (word ws 1)
+line_of d (Bad a) ws block = BadLine a
 
--- a line, and whether it lies whole in the bytes: with its LF and its data block
+-- a line, and whether it lies whole in the bytes: with its LF, and with all of its data block that it takes
 pub record Cut : Type 0 where
   pub line : ScriptLine
   pub whole : Bool
 
-abbrev pub cut_of : Command → List (List ℕ) → List ℕ → Bool → Cut
-cut_of c ws rest ended = record {
-  line = line_of c ws (take (block_size c) rest);
-  whole = ended && nat_le (block_size c) (length rest);
+abbrev pub cut_of : Dialect → Command → List (List ℕ) → List ℕ → Bool → Cut
+cut_of d c ws rest ended = record {
+  line = line_of d c ws (take (block_size d c rest) rest);
+  whole = ended && nat_le (block_size d c rest) (length rest);
 }
+
+-- what stands behind a line and its data block
+abbrev pub behind_block : Dialect → Command → List ℕ → List ℕ
+behind_block d c rest = onwards (passes d c (take (block_size d c rest) rest)) (drop (block_size d c rest) rest)
 
 -- a line's bytes without LF and one CR before it
 abbrev pub body : List ℕ → List ℕ
 body bytes = strip_last 13 (before_lf bytes)
 
 -- the first line of some bytes
-abbrev pub first : List ℕ → Cut
-first bytes = cut_of (asked (body bytes)) (words (body bytes)) (after_lf bytes) (has_lf bytes)
+abbrev pub first : Dialect → List ℕ → Cut
+first d bytes = cut_of d (asked (body bytes)) (words (body bytes)) (after_lf bytes) (has_lf bytes)
 
 -- what stands behind it
-abbrev pub behind : List ℕ → List ℕ
-behind bytes = drop (block_size (asked (body bytes))) (after_lf bytes)
+abbrev pub behind : Dialect → List ℕ → List ℕ
+behind d bytes = behind_block d (asked (body bytes)) (after_lf bytes)
 
 -- the lines of the bytes, at most so many
-abbrev pub cuts_up_to : ℕ → List ℕ → List Cut
-cuts_up_to zero bytes = []
-cuts_up_to (suc n) [] = []
-cuts_up_to (suc n) (b ∷ bs) = first (b ∷ bs) ∷ cuts_up_to n (behind (b ∷ bs))
+abbrev pub cuts_up_to : Dialect → ℕ → List ℕ → List Cut
+cuts_up_to d zero bytes = []
+cuts_up_to d (suc n) [] = []
+cuts_up_to d (suc n) (b ∷ bs) = first d (b ∷ bs) ∷ cuts_up_to d n (behind d (b ∷ bs))
 
 -- each line takes a byte, so there are no more lines than bytes
-unfoldable pub cuts : List ℕ → List Cut
-cuts bytes = cuts_up_to (length bytes) bytes
+unfoldable pub cuts : Dialect → List ℕ → List Cut
+cuts d bytes = cuts_up_to d (length bytes) bytes
 
 -- the lines of a script
-unfoldable pub lines : List ℕ → List ScriptLine
-lines bytes = map (λ c. c.line) (cuts bytes)
+unfoldable pub lines : Dialect → List ℕ → List ScriptLine
+lines d bytes = map (λ c. c.line) (cuts d bytes)
 
 -- how many of them lie whole in the bytes
-unfoldable pub whole_lines : List ℕ → ℕ
-whole_lines bytes = count_by (λ c. c.whole) (cuts bytes)
+unfoldable pub whole_lines : Dialect → List ℕ → ℕ
+whole_lines d bytes = count_by (λ c. c.whole) (cuts d bytes)
 
 -- ---- the next line
 
--- the bytes are this line, whole, whatever follows them
-pub record IsWhole (taken : List ℕ) (line : ScriptLine) : Type 0 where
-  pub cut : (more : List ℕ) → cuts (taken ++ more) ≡ record { line = line; whole = true } ∷ cuts more
+-- the bytes are this line, whole, whatever follows them; before and behind it the rest of a line may have to be passed over
+pub record IsWhole (d : Dialect) (before after : Bool) (taken : List ℕ) (line : ScriptLine) : Type 0 where
+  pub cut : (more : List ℕ) → cuts d (onwards before (taken ++ more)) ≡ record { line = line; whole = true } ∷ cuts d (onwards after more)
 
 -- the bytes are this line, cut off by their end
-pub record IsLast (taken : List ℕ) (line : ScriptLine) : Type 0 where
-  pub cut : cuts taken ≡ record { line = line; whole = false } ∷ []
+pub record IsLast (d : Dialect) (before : Bool) (taken : List ℕ) (line : ScriptLine) : Type 0 where
+  pub cut : cuts d (onwards before taken) ≡ record { line = line; whole = false } ∷ []

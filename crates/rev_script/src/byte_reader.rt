@@ -1,8 +1,8 @@
 //! Bytes by large pieces, from a source that gives them in pieces of any size.
-ghost use Rattle.std.specs.Prelude.{◌≡◌, ◌≢◌, ◌∷◌, [], ◌≤◌, ◌<◌, ◌+◌, ◌^◌, ℕ, length, take, Ok, None, IfOk, IfErr, OnErr, IfNone, IfSome, OnOk, true, false, option_to_list, IsErrOf};
-ghost use Rattle.std.specs.Io.KnownBytes.{Consumes, Keeps, IsAtEnd};
+ghost use Rattle.std.specs.Prelude.{◌≡◌, ◌≢◌, [], ◌≤◌, ◌<◌, length, take, Ok, IfOk, IfErr, OnOk, IfNone, true, false, option_to_list};
 
-use crate::source::{LastRead, ReadFailed, Source};
+use crate::source::Source;
+use std::marker::Model;
 use thiserror::Error;
 
 /// The most bytes that a script may have.
@@ -26,29 +26,33 @@ pub enum LineFault {
 
 /// A source, with the piece of it that was read and is not yet used up.
 #[derive(Drop)]
-pub struct ByteReader<S> {
+pub struct ByteReader<S: Source> {
     source: S,
     piece: [u8; 65536],
     from: usize,
     to: usize,
     given: u64,
-    ghost ordered: { from ≤ to },
-    ghost within: { to ≤ 65536 },
-    ghost whole: { length piece ≡ 65536 },
-    ghost bounded: { given ≤ 4294967296 },
+}
+
+impl<S: Source> Model for ByteReader<S> {
+    ghost use Rattle.std.specs.Prelude.{◌≡◌, ◌≤◌, length, slice_range};
+    ghost use Rattle.rev_script.specs.ByteReader.{PlainReader};
+
+    ghost Value = { PlainReader };
+
+    ghost view = { λ b. record { unused = slice_range b.piece b.from b.to; given = b.given; source = S.told b.source } };
+
+    ghost invariant = { λ b. (b.from ≤ b.to) × (b.to ≤ 65536) × (length b.piece ≡ 65536) × (b.given ≤ 4294967296) };
 }
 
 impl<S: Source> ByteReader<S> {
-    ghost use Rattle.rev_script.specs.ByteReader.{ahead, in_piece, front, given, identity, source_in, Took, AtEnd, IsEnded, StoppedBy};
+    ghost use Rattle.rev_script.specs.ByteReader.{front, unread, Took, AtEnd, IsEnded, Broke};
     ghost use Rattle.rev_script.specs.declared.byte_reader.LineFault.{LineFault};
     ghost use Rattle.rev_script.specs.declared.source.LastRead.{LastRead};
 
     /// All that the source will give. No memory is taken.
     pub fn over(source: S) -> ByteReader<S>
-        ensures ahead { ahead S.told result ≡ (S.told source).remaining }
-        ensures given { given result ≡ 0 }
-        ensures piece { in_piece result ≡ [] }
-        ensures same { identity S.told result ≡ (S.told source).identity }
+        ensures { result ≡ unread (S.told source) }
     {
         ByteReader {
             source,
@@ -61,16 +65,11 @@ impl<S: Source> ByteReader<S> {
 
     // Reads the next piece where the last one is used up. At `true` the piece has a byte.
     fn fill(&mut self) -> Result<bool, LineFault>
-        ensures keeps { Keeps (ahead S.told self.old) (ahead S.told self.new) }
-        ensures given { given self.new ≡ given self.old }
-        ensures same { identity S.told self.new ≡ identity S.told self.old }
-        ensures some { IfOk result (λ some. some ≡ true → self.new.from < self.new.to) }
-        ensures none { IfOk result (λ some. some ≡ false → IsAtEnd (ahead S.told self.new)) }
-        ensures ended { IfOk result (λ some. some ≡ false → (S.told self.new.source).last ≡ LastRead.Ended) }
-        ensures used_up { IfOk result (λ some. some ≡ false → in_piece self.new ≡ []) }
-        ensures err { IfErr result (λ e. (e ≡ LineFault.Read)
-            × ((S.told self.new.source).last ≡ LastRead.Failed) × (in_piece self.new ≡ [])) }
-        ensures stays { (S.told self.old.source).last ≡ LastRead.Ended → self.old.to ≤ self.old.from → result ≡ Ok false }
+        ensures ok { OnOk result (Took self.old self.new []) }
+        ensures some { IfOk result (λ some. some ≡ true → 0 < length self.new.unused) }
+        ensures none { IfOk result (λ some. some ≡ false → AtEnd self.new) }
+        ensures err { IfErr result (λ e. (e ≡ LineFault.Read) × Broke self.old self.new [] e) }
+        ensures stays { IsEnded self.old → result ≡ Ok false }
     {
         if self.from < self.to {
             return Ok(true);
@@ -87,11 +86,11 @@ impl<S: Source> ByteReader<S> {
 
     /// Whether there are more bytes. At `true` some of them can be seen at the front.
     pub fn more(&mut self) -> Result<bool, LineFault>
-        ensures kept { Took S.told self.old self.new [] }
+        ensures ok { OnOk result (Took self.old self.new []) }
         ensures some { IfOk result (λ some. some ≡ true → 0 < length (front self.new)) }
-        ensures none { IfOk result (λ some. some ≡ false → AtEnd S.told self.new) }
-        ensures err { IfErr result (λ e. (e ≢ LineFault.Memory) × StoppedBy S.told self.new e) }
-        ensures stays { IsEnded S.told self.old → result ≡ Ok false }
+        ensures none { IfOk result (λ some. some ≡ false → AtEnd self.new) }
+        ensures err { IfErr result (λ e. (e ≢ LineFault.Memory) × Broke self.old self.new [] e) }
+        ensures stays { IsEnded self.old → result ≡ Ok false }
     {
         let some = match self.fill() {
             Ok(some) => some,
@@ -119,7 +118,8 @@ impl<S: Source> ByteReader<S> {
     /// Takes so many bytes from the front.
     pub fn pass(&mut self, n: usize)
         requires { n ≤ length (front self.old) }
-        ensures { Took S.told self.old self.new (take n (front self.old)) }
+        ensures taken { Took self.old self.new (take n (front self.old)) }
+        ensures most { self.new.given ≤ 4294967296 }
     {
         self.from += n;
         self.given += n as u64;
@@ -127,10 +127,9 @@ impl<S: Source> ByteReader<S> {
 
     /// The next byte; none only at the end.
     pub fn byte(&mut self) -> Result<Option<u8>, LineFault>
-        ensures taken { IfOk result (λ b. Took S.told self.old self.new (option_to_list b)) }
-        ensures end { IfOk result (λ b. IfNone b (AtEnd S.told self.new)) }
-        ensures err { IfErr result (λ e. (e ≢ LineFault.Memory)
-            × Took S.told self.old self.new [] × StoppedBy S.told self.new e) }
+        ensures taken { IfOk result (λ b. Took self.old self.new (option_to_list b)) }
+        ensures end { IfOk result (λ b. IfNone b (AtEnd self.new)) }
+        ensures err { IfErr result (λ e. (e ≢ LineFault.Memory) × Broke self.old self.new [] e) }
     {
         let some = match self.more() {
             Ok(some) => some,
@@ -144,9 +143,18 @@ impl<S: Source> ByteReader<S> {
         Ok(Some(b))
     }
 
+    /// How many bytes were taken.
+    #[inline(always)]
+    pub fn given(&self) -> u64
+        ensures value { result ≡ self.now.given }
+        ensures most { result ≤ 4294967296 }
+    {
+        self.given
+    }
+
     /// The source, as it is now.
     pub fn into_source(self) -> S
-        ensures { result ≡ source_in self }
+        ensures { S.told result ≡ self.source }
     {
         let ByteReader { source, .. } = self;
         source

@@ -1,11 +1,11 @@
 //! The data block behind a storage line.
-ghost use Rattle.std.specs.Prelude.{◌≡◌, ◌≢◌, ◌⊎◌, [], ◌∷◌, ◌++◌, ◌≤◌, ◌<◌, ◌+◌, ◌^◌, ℕ, List, length, take, drop, IfOk, IfErr, true, false, if◌then◌else◌};
+ghost use Rattle.std.specs.Prelude.{◌≡◌, ◌≢◌, [], ◌∷◌, ◌++◌, ◌≤◌, ◌+◌, ℕ, List, length, IfOk, IfErr, true, false};
 ghost use Rattle.std.specs.Str.{bytes_eq};
-ghost use Rattle.rev_script.specs.ByteReader.{Took, AtEnd, StoppedBy};
-ghost use Rattle.rev_script.specs.DataBlock.{IsTaken, IsShort, IsEnding, IsBlock};
-ghost use Rattle.rev_script.specs.declared.byte_reader.LineFault.{LineFault};
+ghost use Rattle.rev_script.specs.DataBlock.{IsTaken, IsShort, IsUnended, IsBroken, IsEnding, IsBlock};
+ghost use Rattle.rev_script.specs.declared.dialect.Dialect.TheVariants.{CrLf, AnyFeed};
 
 use crate::byte_reader::{ByteReader, LineFault};
+use crate::dialect::Dialect;
 use crate::raw_line::at_most;
 use crate::source::Source;
 use std::alloc::Allocator;
@@ -19,9 +19,9 @@ fn keep<S: Source, A: Allocator>(
     n: u32,
     into: &mut Vec<u8, A>,
 ) -> Result<bool, LineFault>
-    ensures ok { IfOk result (λ all. (taken : List ℕ) × IsTaken S.told bytes.old bytes.new n all taken
+    ensures ok { IfOk result (λ all. (taken : List ℕ) × IsTaken bytes.old bytes.new n all taken
         × (into.new.items ≡ into.old.items ++ taken)) }
-    ensures err { IfErr result (λ e. IsShort S.told bytes.old bytes.new n × StoppedBy S.told bytes.new e) }
+    ensures err { IfErr result (λ e. IsShort bytes.old bytes.new n e) }
 {
     let mut left = n as usize;
     'pieces: while left > 0 {
@@ -46,8 +46,8 @@ fn keep<S: Source, A: Allocator>(
 
 // Takes n bytes; false where the end came first.
 fn skip<S: Source>(bytes: &mut ByteReader<S>, n: u32) -> Result<bool, LineFault>
-    ensures ok { IfOk result (λ all. (taken : List ℕ) × IsTaken S.told bytes.old bytes.new n all taken) }
-    ensures err { IfErr result (λ e. IsShort S.told bytes.old bytes.new n × StoppedBy S.told bytes.new e) }
+    ensures ok { IfOk result (λ all. (taken : List ℕ) × IsTaken bytes.old bytes.new n all taken) }
+    ensures err { IfErr result (λ e. IsShort bytes.old bytes.new n e) }
 {
     let mut left = n as usize;
     'pieces: while left > 0 {
@@ -72,9 +72,9 @@ fn is_crlf(first: u8, second: u8) -> bool
 }
 
 // Takes two bytes, where there are so many; true where they are CR LF.
-fn take_ending<S: Source>(bytes: &mut ByteReader<S>) -> Result<bool, LineFault>
-    ensures ok { IfOk result (λ sound. IsEnding S.told bytes.old bytes.new sound) }
-    ensures err { IfErr result (λ e. IsShort S.told bytes.old bytes.new 1 × StoppedBy S.told bytes.new e) }
+fn take_crlf<S: Source>(bytes: &mut ByteReader<S>) -> Result<bool, LineFault>
+    ensures ok { IfOk result (λ sound. IsEnding CrLf bytes.old bytes.new sound) }
+    ensures err { IfErr result (λ e. IsUnended CrLf bytes.old bytes.new e) }
 {
     // Mostly both are in the piece, and then nothing is read.
     let front = bytes.front();
@@ -96,6 +96,37 @@ fn take_ending<S: Source>(bytes: &mut ByteReader<S>) -> Result<bool, LineFault>
     Ok(is_crlf(first, second))
 }
 
+// Takes a byte, and behind a CR one more, where there are so many; true where they are LF or CR LF.
+fn take_feed<S: Source>(bytes: &mut ByteReader<S>) -> Result<bool, LineFault>
+    ensures ok { IfOk result (λ sound. IsEnding AnyFeed bytes.old bytes.new sound) }
+    ensures err { IfErr result (λ e. IsUnended AnyFeed bytes.old bytes.new e) }
+{
+    let first = match bytes.byte() {
+        Err(e) => return Err(e),
+        Ok(None) => return Ok(false),
+        Ok(Some(b)) => b,
+    };
+    if first != b'\r' {
+        return Ok(first == b'\n');
+    }
+    match bytes.byte() {
+        Err(e) => Err(e),
+        Ok(None) => Ok(false),
+        Ok(Some(second)) => Ok(second == b'\n'),
+    }
+}
+
+// Takes what tells whether a block ends here; true where it does.
+fn take_ending<S: Source>(bytes: &mut ByteReader<S>, dialect: Dialect) -> Result<bool, LineFault>
+    ensures ok { IfOk result (λ sound. IsEnding dialect bytes.old bytes.new sound) }
+    ensures err { IfErr result (λ e. IsUnended dialect bytes.old bytes.new e) }
+{
+    match dialect {
+        Dialect::CrLf => take_crlf(bytes),
+        Dialect::AnyFeed => take_feed(bytes),
+    }
+}
+
 // Takes a data block without its ending, and keeps it where it is not too long.
 fn take_data<S: Source, A: Allocator>(
     bytes: &mut ByteReader<S>,
@@ -103,9 +134,9 @@ fn take_data<S: Source, A: Allocator>(
     kept: &mut Vec<u8, A>,
 ) -> Result<bool, LineFault>
     requires { kept.old.items ≡ [] }
-    ensures ok { IfOk result (λ all. (taken : List ℕ) × IsTaken S.told bytes.old bytes.new size all taken
+    ensures ok { IfOk result (λ all. (taken : List ℕ) × IsTaken bytes.old bytes.new size all taken
         × (size ≤ 1048576 → kept.new.items ≡ taken)) }
-    ensures err { IfErr result (λ e. IsShort S.told bytes.old bytes.new size × StoppedBy S.told bytes.new e) }
+    ensures err { IfErr result (λ e. IsShort bytes.old bytes.new size e) }
 {
     if size > MOST_DATA {
         skip(bytes, size)
@@ -114,22 +145,23 @@ fn take_data<S: Source, A: Allocator>(
     }
 }
 
-/// Takes a data block of so many bytes with its CR LF; true where it is sound.
+/// Takes a data block of so many bytes with its ending; true where it is sound.
 pub fn take_block<S: Source, A: Allocator>(
     bytes: &mut ByteReader<S>,
+    dialect: Dialect,
     size: u32,
     kept: &mut Vec<u8, A>,
 ) -> Result<bool, LineFault>
     requires { kept.old.items ≡ [] }
-    ensures ok { IfOk result (λ sound. IsBlock S.told bytes.old bytes.new size sound kept.new.items) }
-    ensures err { IfErr result (λ e. IsShort S.told bytes.old bytes.new (size + 1) × StoppedBy S.told bytes.new e) }
+    ensures ok { IfOk result (λ sound. IsBlock dialect bytes.old bytes.new size sound kept.new.items) }
+    ensures err { IfErr result (λ e. IsBroken dialect bytes.old bytes.new size e) }
 {
     match take_data(bytes, size, kept) {
         Err(e) => return Err(e),
         Ok(false) => return Ok(false),
         Ok(true) => {}
     }
-    match take_ending(bytes) {
+    match take_ending(bytes, dialect) {
         Err(e) => Err(e),
         Ok(sound) => Ok(sound),
     }

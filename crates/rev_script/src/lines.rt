@@ -1,19 +1,21 @@
 //! The lines of a script, one after another.
-ghost use Rattle.std.specs.Prelude.{◌≡◌, ◌≢◌, [], ◌∷◌, ◌++◌, false, take, ◌≤◌, ◌<◌, ◌+◌, ◌^◌, ℕ, List, length, IfOk, IfErr, OnErr, IfSome, Some, None, Err, Ok, true, nat_lt, if◌then◌else◌};
+ghost use Rattle.std.specs.Prelude.{◌≡◌, ◌≢◌, [], ◌∷◌, ◌++◌, false, take, ◌≤◌, ◌<◌, ◌+◌, ℕ, List, length, IfOk, IfErr, IfSome, Some, None, Err, Ok, true, nat_lt, if◌then◌else◌};
 ghost use Rattle.std.specs.Prelude.{map, drop};
 ghost use Rattle.std.specs.Option.{option_map};
 ghost use Rattle.std.specs.List.{list_all};
-ghost use Rattle.std.specs.Io.BufRead.{strip_last};
 ghost use Rattle.rev_items.specs.Keys.{is_key};
 ghost use Rattle.rev_model.specs.Client.{Bytes, Skipped};
 ghost use Rattle.rev_requests.specs.Plain.{plain_payload};
 ghost use Rattle.rev_script.specs.Commands.{asked};
 ghost use Rattle.rev_script.specs.declared.command.Command.TheVariants.{Retrieval, Update, Query, Bookmark};
+ghost use Rattle.rev_script.specs.declared.dialect.Dialect.{Dialect};
+ghost use Rattle.rev_script.specs.declared.dialect.Dialect.TheVariants.{CrLf};
 ghost use Rattle.rev_script.specs.Keyed.{HasKeys};
 ghost use Rattle.rev_script.specs.Words.{words, word};
 ghost use Rattle.rev_script.specs.Script.{line_of, has_lf};
 ghost use Rattle.rev_script.specs.Line.{view, IsAsked, IsNext, IsFault, IsStorageLine};
-ghost use Rattle.rev_script.specs.ByteReader.{StoppedBy, IsEnded, front};
+ghost use Rattle.rev_script.specs.Input.{input_of};
+ghost use Rattle.rev_script.specs.ByteReader.{Took, Broke, IsEnded, front};
 ghost use Rattle.rev_script.specs.DataBlock.{IsBroken};
 
 use crate::byte_reader::{ByteReader, LineFault};
@@ -21,15 +23,18 @@ use crate::command::{
     BadAnswer, BookmarkCommand, Command, KeyQuery, StorageCommand, UpdateCommand,
 };
 use crate::data_block::{MOST_DATA, take_block};
+use crate::dialect::Dialect;
 use crate::grammar::{asked, body};
+use crate::input::Input;
 use crate::line::{Asked, ClientLine, DebugLine, Line};
-use crate::raw_line::{MOST_KEPT, first_feed, read_text};
+use crate::raw_line::{MOST_KEPT, first_feed, pass_line, read_text};
 use crate::source::Source;
 use crate::words::{few_words, few_words_in, word, words};
 use arrayvec::ArrayVec;
 use rev_items::Key;
 use rev_requests::Payload;
 use std::alloc::{AllocError, Allocator};
+use std::marker::Model;
 
 fn keys_of<A: Allocator + Clone>(alloc: A, words: &[&[u8]]) -> Result<Vec<Key<A>, A>, AllocError>
     requires { list_all is_key (map (λ x. x.now) words.now) ≡ true }
@@ -59,7 +64,7 @@ fn retrieval_line<A: Allocator + Clone>(
     words: &[&[u8]],
 ) -> Result<Line<A>, AllocError>
     requires { list_all is_key (drop 1 (map (λ x. x.now) words.now)) ≡ true }
-    ensures { IfOk result (λ line. view line ≡ line_of (Retrieval with_cas) (map (λ x. x.now) words.now) []) }
+    ensures { IfOk result (λ line. (d : Dialect) → view line ≡ line_of d (Retrieval with_cas) (map (λ x. x.now) words.now) []) }
 {
     let keys = keys_of(alloc, behind_first(words))?;
     Ok(Line::Client(ClientLine::Retrieval { keys, with_cas }))
@@ -73,7 +78,7 @@ fn update_line<A: Allocator>(
     words: &[&[u8]],
 ) -> Result<Line<A>, AllocError>
     requires { is_key (word (map (λ x. x.now) words.now) 1) ≡ true }
-    ensures { IfOk result (λ line. view line ≡ line_of (Update command noreply) (map (λ x. x.now) words.now) []) }
+    ensures { IfOk result (λ line. (d : Dialect) → view line ≡ line_of d (Update command noreply) (map (λ x. x.now) words.now) []) }
 {
     let key = Key::of(alloc, word(words, 1))?;
     Ok(Line::Client(ClientLine::Update {
@@ -90,7 +95,7 @@ fn query_line<A: Allocator>(
     words: &[&[u8]],
 ) -> Result<Line<A>, AllocError>
     requires { is_key (word (map (λ x. x.now) words.now) 1) ≡ true }
-    ensures { IfOk result (λ line. view line ≡ line_of (Query query) (map (λ x. x.now) words.now) []) }
+    ensures { IfOk result (λ line. (d : Dialect) → view line ≡ line_of d (Query query) (map (λ x. x.now) words.now) []) }
 {
     let key = Key::of(alloc, word(words, 1))?;
     Ok(Line::Debug(DebugLine::Query { query, key }))
@@ -102,7 +107,7 @@ fn bookmark_line<A: Allocator>(
     command: BookmarkCommand,
     words: &[&[u8]],
 ) -> Result<Line<A>, AllocError>
-    ensures { IfOk result (λ line. view line ≡ line_of (Bookmark command) (map (λ x. x.now) words.now) []) }
+    ensures { IfOk result (λ line. (d : Dialect) → view line ≡ line_of d (Bookmark command) (map (λ x. x.now) words.now) []) }
 {
     let name = Vec::from_slice(alloc, word(words, 1))?;
     Ok(Line::Debug(DebugLine::Bookmark { command, name }))
@@ -116,7 +121,7 @@ fn plain_line<A: Allocator + Clone>(
     words: &[&[u8]],
 ) -> Result<Line<A>, AllocError>
     requires { HasKeys command (map (λ x. x.now) words.now) }
-    ensures { IfOk result (λ line. view line ≡ line_of command (map (λ x. x.now) words.now) []) }
+    ensures { IfOk result (λ line. (d : Dialect) → view line ≡ line_of d command (map (λ x. x.now) words.now) []) }
 {
     match command {
         Command::Storage { .. } => Ok(Line::Bad {
@@ -211,7 +216,7 @@ fn payload_of<A: Allocator + Clone>(size: u32, kept: Vec<u8, A>) -> Result<Paylo
 
 // Takes a storage line's data block, and makes the line.
 fn storage_line<S: Source, A: Allocator + Clone>(
-    bytes: &mut ByteReader<S>,
+    input: &mut Input<S>,
     alloc: A,
     command: StorageCommand,
     key: Key<A>,
@@ -220,15 +225,17 @@ fn storage_line<S: Source, A: Allocator + Clone>(
     size: u32,
     noreply: bool,
 ) -> Result<Line<A>, LineFault>
-    ensures ok { IfOk result (λ line. IsStorageLine S.told bytes.old bytes.new command key flags exptime size noreply (view line)) }
-    ensures err { IfErr result (λ e. IsBroken S.told bytes.old bytes.new size e × StoppedBy S.told bytes.new e) }
+    requires { input.old.passes ≡ false }
+    ensures ok { IfOk result (λ line. IsStorageLine (input_of input.old) (input_of input.new) command key flags exptime size noreply (view line)) }
+    ensures err { IfErr result (λ e. IsBroken input.old.dialect input.old.bytes input.new.bytes size e) }
 {
     let mut kept = Vec::new(alloc);
-    let sound = match take_block(bytes, size, &mut kept) {
+    let sound = match take_block(&mut input.bytes, input.dialect, size, &mut kept) {
         Err(e) => return Err(e),
         Ok(sound) => sound,
     };
     if !sound {
+        input.passes = input.dialect.passes_bad_lines();
         return Ok(Line::Bad {
             answer: BadAnswer::BadChunk,
         });
@@ -253,14 +260,15 @@ fn two_handles<A: Allocator + Clone>(text: &Vec<u8, A>) -> Result<(A, A), AllocE
 
 // Reads a line whose LF is perhaps not read yet, through its data block.
 fn copied_line<S: Source, A: Allocator + Clone>(
-    bytes: &mut ByteReader<S>,
+    input: &mut Input<S>,
     text: &mut Vec<u8, A>,
 ) -> Result<Option<Line<A>>, LineFault>
-    ensures ok { IfOk result (λ line. IsNext S.told bytes.old bytes.new (option_map view line)) }
-    ensures err { IfErr result (λ e. IsFault S.told bytes.old bytes.new e) }
-    ensures stays { IsEnded S.told bytes.old → result ≡ Ok None }
+    requires { input.old.passes ≡ false }
+    ensures ok { IfOk result (λ line. IsNext (input_of input.old) (input_of input.new) (option_map view line)) }
+    ensures err { IfErr result (λ e. IsFault (input_of input.old) (input_of input.new) e) }
+    ensures stays { IsEnded input.old.bytes → (result ≡ Ok None) × Took input.old.bytes input.new.bytes [] }
 {
-    let raw = match read_text(bytes, text) {
+    let raw = match read_text(&mut input.bytes, text) {
         Err(e) => return Err(e),
         Ok(raw) => raw,
     };
@@ -295,7 +303,7 @@ fn copied_line<S: Source, A: Allocator + Clone>(
                     answer: BadAnswer::BadChunk,
                 }));
             }
-            match storage_line(bytes, other, command, key, flags, exptime, size, noreply) {
+            match storage_line(input, other, command, key, flags, exptime, size, noreply) {
                 Err(e) => Err(e),
                 Ok(line) => Ok(Some(line)),
             }
@@ -305,21 +313,22 @@ fn copied_line<S: Source, A: Allocator + Clone>(
 
 // Takes a line whose LF stands at this place of the bytes at the front, and its data block: a line of any number of words.
 fn many_at_hand<S: Source, A: Allocator + Clone>(
-    bytes: &mut ByteReader<S>,
+    input: &mut Input<S>,
     text: &Vec<u8, A>,
     i: usize,
 ) -> Result<Option<Line<A>>, LineFault>
-    requires { (i < length (front bytes.old)) × (has_lf (take i (front bytes.old)) ≡ false)
-        × (take (i + 1) (front bytes.old) ≡ take i (front bytes.old) ++ 10 ∷ []) }
-    ensures ok { IfOk result (λ line. IsNext S.told bytes.old bytes.new (option_map view line)) }
-    ensures err { IfErr result (λ e. IsFault S.told bytes.old bytes.new e) }
+    requires here { input.old.passes ≡ false }
+    requires feed { (i < length (front input.old.bytes)) × (has_lf (take i (front input.old.bytes)) ≡ false)
+        × (take (i + 1) (front input.old.bytes) ≡ take i (front input.old.bytes) ++ 10 ∷ []) }
+    ensures ok { IfOk result (λ line. IsNext (input_of input.old) (input_of input.new) (option_map view line)) }
+    ensures err { IfErr result (λ e. IsFault (input_of input.old) (input_of input.new) e) }
 {
     let (alloc, other) = match two_handles(text) {
         Err(_) => return Err(LineFault::Memory),
         Ok(pair) => pair,
     };
-    let asked = asked_of_many(alloc, body(&bytes.front()[..i]));
-    bytes.pass(i + 1);
+    let asked = asked_of_many(alloc, body(&input.bytes.front()[..i]));
+    input.bytes.pass(i + 1);
     let asked = match asked {
         Err(_) => return Err(LineFault::Memory),
         Ok(asked) => asked,
@@ -333,7 +342,7 @@ fn many_at_hand<S: Source, A: Allocator + Clone>(
             exptime,
             size,
             noreply,
-        } => match storage_line(bytes, other, command, key, flags, exptime, size, noreply) {
+        } => match storage_line(input, other, command, key, flags, exptime, size, noreply) {
             Err(e) => Err(e),
             Ok(line) => Ok(Some(line)),
         },
@@ -343,20 +352,21 @@ fn many_at_hand<S: Source, A: Allocator + Clone>(
 // Takes a line whose LF stands at this place of the bytes at the front, and its data block. A line of few words is looked at
 // where it lies.
 fn line_at_hand<S: Source, A: Allocator + Clone>(
-    bytes: &mut ByteReader<S>,
+    input: &mut Input<S>,
     text: &Vec<u8, A>,
     i: usize,
 ) -> Result<Option<Line<A>>, LineFault>
-    requires { (i < length (front bytes.old)) × (has_lf (take i (front bytes.old)) ≡ false)
-        × (take (i + 1) (front bytes.old) ≡ take i (front bytes.old) ++ 10 ∷ []) }
-    ensures ok { IfOk result (λ line. IsNext S.told bytes.old bytes.new (option_map view line)) }
-    ensures err { IfErr result (λ e. IsFault S.told bytes.old bytes.new e) }
+    requires here { input.old.passes ≡ false }
+    requires feed { (i < length (front input.old.bytes)) × (has_lf (take i (front input.old.bytes)) ≡ false)
+        × (take (i + 1) (front input.old.bytes) ≡ take i (front input.old.bytes) ++ 10 ∷ []) }
+    ensures ok { IfOk result (λ line. IsNext (input_of input.old) (input_of input.new) (option_map view line)) }
+    ensures err { IfErr result (λ e. IsFault (input_of input.old) (input_of input.new) e) }
 {
-    let front = bytes.front();
+    let front = input.bytes.front();
     let body = body(&front[..i]);
     let mut few = ArrayVec::new();
     if !few_words_in(&mut few, body, front) {
-        return many_at_hand(bytes, text, i);
+        return many_at_hand(input, text, i);
     }
     let parts = few.as_slice();
     let (alloc, other) = match two_handles(text) {
@@ -372,12 +382,12 @@ fn line_at_hand<S: Source, A: Allocator + Clone>(
             noreply,
         } => {
             let key = Key::of(alloc, word(parts, 1));
-            bytes.pass(i + 1);
+            input.bytes.pass(i + 1);
             let key = match key {
                 Err(_) => return Err(LineFault::Memory),
                 Ok(key) => key,
             };
-            match storage_line(bytes, other, command, key, flags, exptime, size, noreply) {
+            match storage_line(input, other, command, key, flags, exptime, size, noreply) {
                 Err(e) => Err(e),
                 Ok(line) => Ok(Some(line)),
             }
@@ -385,7 +395,7 @@ fn line_at_hand<S: Source, A: Allocator + Clone>(
         // (the two kinds that most lines are have ways out of their own, where nothing of another kind is cleared or copied)
         Command::Retrieval { with_cas } => {
             let line = retrieval_line(alloc, with_cas, parts);
-            bytes.pass(i + 1);
+            input.bytes.pass(i + 1);
             match line {
                 Err(_) => Err(LineFault::Memory),
                 Ok(line) => Ok(Some(line)),
@@ -393,7 +403,7 @@ fn line_at_hand<S: Source, A: Allocator + Clone>(
         }
         Command::Update { command, noreply } => {
             let line = update_line(alloc, command, noreply, parts);
-            bytes.pass(i + 1);
+            input.bytes.pass(i + 1);
             match line {
                 Err(_) => Err(LineFault::Memory),
                 Ok(line) => Ok(Some(line)),
@@ -401,7 +411,7 @@ fn line_at_hand<S: Source, A: Allocator + Clone>(
         }
         other => {
             let line = plain_line(alloc, other, parts);
-            bytes.pass(i + 1);
+            input.bytes.pass(i + 1);
             match line {
                 Err(_) => Err(LineFault::Memory),
                 Ok(line) => Ok(Some(line)),
@@ -410,69 +420,129 @@ fn line_at_hand<S: Source, A: Allocator + Clone>(
     }
 }
 
-// Reads the next line, through its data block. One that was read whole, as most are, is not copied.
-fn next_line<S: Source, A: Allocator + Clone>(
-    bytes: &mut ByteReader<S>,
+// Reads a line that begins at the next byte, through its data block. One that was read whole, as most are, is not copied.
+fn line_here<S: Source, A: Allocator + Clone>(
+    input: &mut Input<S>,
     text: &mut Vec<u8, A>,
 ) -> Result<Option<Line<A>>, LineFault>
-    ensures ok { IfOk result (λ line. IsNext S.told bytes.old bytes.new (option_map view line)) }
-    ensures err { IfErr result (λ e. IsFault S.told bytes.old bytes.new e) }
-    ensures stays { IsEnded S.told bytes.old → result ≡ Ok None }
+    requires { input.old.passes ≡ false }
+    ensures ok { IfOk result (λ line. IsNext (input_of input.old) (input_of input.new) (option_map view line)) }
+    ensures err { IfErr result (λ e. IsFault (input_of input.old) (input_of input.new) e) }
+    ensures stays { IsEnded input.old.bytes → (result ≡ Ok None) × Took input.old.bytes input.new.bytes [] }
 {
-    let some = match bytes.more() {
+    let some = match input.bytes.more() {
         Err(e) => return Err(e),
         Ok(some) => some,
     };
     if !some {
         return Ok(None);
     }
-    match first_feed(bytes.front()) {
-        Some(i) => line_at_hand(bytes, text, i),
-        None => copied_line(bytes, text),
+    match first_feed(input.bytes.front()) {
+        Some(i) => line_at_hand(input, text, i),
+        None => copied_line(input, text),
+    }
+}
+
+// Passes over the rest of a line, and reads the line behind it.
+fn line_behind_rest<S: Source, A: Allocator + Clone>(
+    input: &mut Input<S>,
+    text: &mut Vec<u8, A>,
+) -> Result<Option<Line<A>>, LineFault>
+    requires { input.old.passes ≡ true }
+    ensures ok { IfOk result (λ line. IsNext (input_of input.old) (input_of input.new) (option_map view line)) }
+    ensures err { IfErr result (λ e. IsFault (input_of input.old) (input_of input.new) e) }
+    ensures stays { IsEnded input.old.bytes → (result ≡ Ok None) × Took input.old.bytes input.new.bytes [] }
+{
+    match pass_line(&mut input.bytes) {
+        Err(e) => return Err(e),
+        Ok(false) => return Ok(None),
+        Ok(true) => {}
+    }
+    input.passes = false;
+    line_here(input, text)
+}
+
+// Reads the next line, through its data block.
+fn next_line<S: Source, A: Allocator + Clone>(
+    input: &mut Input<S>,
+    text: &mut Vec<u8, A>,
+) -> Result<Option<Line<A>>, LineFault>
+    ensures ok { IfOk result (λ line. IsNext (input_of input.old) (input_of input.new) (option_map view line)) }
+    ensures err { IfErr result (λ e. IsFault (input_of input.old) (input_of input.new) e) }
+    ensures stays { IsEnded input.old.bytes → (result ≡ Ok None) × Took input.old.bytes input.new.bytes [] }
+{
+    if input.passes {
+        line_behind_rest(input, text)
+    } else {
+        line_here(input, text)
     }
 }
 
 /// The lines of a script, from a source that gives its bytes in pieces of any size.
 #[derive(Drop)]
-pub struct Lines<S, A: Allocator> {
-    bytes: ByteReader<S>,
+pub struct Lines<S: Source, A: Allocator> {
+    input: Input<S>,
     text: Vec<u8, A>,
     fault: Option<LineFault>,
 }
 
-impl<S: Source, A: Allocator + Clone> Lines<S, A> {
-    ghost use Rattle.rev_script.specs.ByteReader.{ahead, given, in_piece, identity, source_in};
-    ghost use Rattle.rev_script.specs.Lines.{bytes_of, fault_of};
+impl<S: Source, A: Allocator> Model for Lines<S, A> {
+    ghost use Rattle.rev_script.specs.Lines.{PlainLines};
 
-    /// The lines of all that the source will give. No memory is taken.
+    ghost Value = { PlainLines };
+
+    ghost use Rattle.rev_script.specs.Input.{input_of};
+
+    ghost view = { λ l. record { input = input_of l.input; fault = l.fault } };
+}
+
+impl<S: Source, A: Allocator + Clone> Lines<S, A> {
+    ghost use Rattle.rev_script.specs.Lines.{at_first};
+
+    /// The lines of all that the source will give, where data end in CR LF. No memory is taken.
     pub fn over(alloc: A, source: S) -> Lines<S, A>
-        ensures ahead { ahead S.told (bytes_of result) ≡ (S.told source).remaining }
-        ensures piece { in_piece (bytes_of result) ≡ [] }
-        ensures same { identity S.told (bytes_of result) ≡ (S.told source).identity }
-        ensures given { given (bytes_of result) ≡ 0 }
-        ensures fault { fault_of result ≡ None }
+        ensures { result ≡ at_first (S.told source) CrLf }
+    {
+        Lines::of(alloc, source, Dialect::CrLf)
+    }
+
+    /// The lines of all that the source will give, in a dialect. No memory is taken.
+    pub fn of(alloc: A, source: S, dialect: Dialect) -> Lines<S, A>
+        ensures { result ≡ at_first (S.told source) dialect }
     {
         Lines {
-            bytes: ByteReader::over(source),
+            input: Input {
+                bytes: ByteReader::over(source),
+                dialect,
+                passes: false,
+            },
             text: Vec::new(alloc),
             fault: None,
         }
     }
 
-    /// The next line; none only at the end. After a fault each call answers it again.
+    /// The next line; none only at the end. After a fault each call answers it again, and nothing is read.
+    ///
+    /// No byte is waited for behind those that tell the line: the rest of a line that a bad data block is followed by is
+    /// passed over by the next call.
     pub fn next(&mut self) -> Result<Option<Line<A>>, LineFault>
-        ensures ok { IfOk result (λ line. IsNext S.told (bytes_of self.old) (bytes_of self.new) (option_map view line)) }
-        ensures err { fault_of self.old ≡ None → IfErr result (λ e. IsFault S.told (bytes_of self.old) (bytes_of self.new) e) }
-        ensures stays { fault_of self.old ≡ None → IsEnded S.told (bytes_of self.old) → result ≡ Ok None }
-        ensures kept { IfErr result (λ e. fault_of self.new ≡ Some e) }
-        ensures good { IfOk result (λ _. fault_of self.new ≡ None) }
-        ensures again { IfSome (fault_of self.old) (λ e. (result ≡ Err e) × (bytes_of self.new ≡ bytes_of self.old)) }
+        ensures ok { IfOk result (λ line. IsNext self.old.input self.new.input (option_map view line)) }
+        ensures err { self.old.fault ≡ None → IfErr result (λ e. IsFault self.old.input self.new.input e) }
+        ensures stays { self.old.fault ≡ None → IsEnded self.old.input.bytes → (result ≡ Ok None) × Took self.old.input.bytes self.new.input.bytes [] }
+        ensures most { IfOk result (λ _. self.new.input.bytes.given ≤ 4294967296) }
+        ensures kept { IfErr result (λ e. self.new.fault ≡ Some e) }
+        ensures good { IfOk result (λ _. self.new.fault ≡ None) }
+        ensures again { IfSome self.old.fault (λ e. (result ≡ Err e) × (self.new ≡ self.old)) }
     {
         if let Some(e) = self.fault {
             return Err(e);
         }
-        match next_line(&mut self.bytes, &mut self.text) {
-            Ok(line) => Ok(line),
+        match next_line(&mut self.input, &mut self.text) {
+            Ok(line) => {
+                // (only the proof looks at it)
+                let _given = self.input.bytes.given();
+                Ok(line)
+            }
             Err(e) => {
                 self.fault = Some(e);
                 Err(e)
@@ -482,9 +552,10 @@ impl<S: Source, A: Allocator + Clone> Lines<S, A> {
 
     /// The source, as it is now: a `&mut` is so handed back.
     pub fn into_source(self) -> S
-        ensures { result ≡ source_in (bytes_of self) }
+        ensures { S.told result ≡ self.input.bytes.source }
     {
-        let Lines { bytes, .. } = self;
+        let Lines { input, .. } = self;
+        let Input { bytes, .. } = input;
         bytes.into_source()
     }
 }

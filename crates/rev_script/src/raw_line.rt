@@ -1,9 +1,8 @@
 //! A line's bytes up to its LF.
-ghost use Rattle.std.specs.Prelude.{◌≡◌, ◌≢◌, [], ◌∷◌, ◌++◌, ◌≤◌, ◌<◌, ◌+◌, ◌^◌, ℕ, List, length, take, OnOk, IfOk, IfErr, IfNone, IfSome, true, false, if◌then◌else◌};
-ghost use Rattle.rev_script.specs.ByteReader.{Took, AtEnd, IsEnded, StoppedBy};
+ghost use Rattle.std.specs.Prelude.{◌≡◌, ◌≢◌, [], ◌∷◌, ◌++◌, ◌≤◌, ◌<◌, ◌+◌, ◌^◌, ℕ, List, length, take, OnOk, IfOk, IfErr, IfNone, IfSome, Ok, true, false, if◌then◌else◌};
+ghost use Rattle.rev_script.specs.ByteReader.{Took, IsEnded};
 ghost use Rattle.rev_script.specs.Script.{has_lf};
-ghost use Rattle.rev_script.specs.RawLine.{IsText, IsPart};
-ghost use Rattle.rev_script.specs.declared.byte_reader.LineFault.{LineFault};
+ghost use Rattle.rev_script.specs.RawLine.{IsText, IsPart, IsRest};
 
 use crate::byte_reader::{ByteReader, LineFault};
 use crate::source::Source;
@@ -57,9 +56,9 @@ pub fn read_text<S: Source, A: Allocator>(
     bytes: &mut ByteReader<S>,
     line: &mut Vec<u8, A>,
 ) -> Result<RawLine, LineFault>
-    ensures ok { IfOk result (λ raw. IsText S.told bytes.old bytes.new raw line.new.items) }
-    ensures err { IfErr result (λ e. IsPart S.told bytes.old bytes.new × StoppedBy S.told bytes.new e) }
-    ensures stays { IsEnded S.told bytes.old →
+    ensures ok { IfOk result (λ raw. IsText bytes.old bytes.new raw line.new.items) }
+    ensures err { IfErr result (λ e. IsPart bytes.old bytes.new e) }
+    ensures stays { IsEnded bytes.old →
         IfErr result (λ _. false ≡ true) × IfOk result (λ raw. (raw.feed ≡ false) × (raw.length ≡ 0)) }
 {
     line.clear();
@@ -96,6 +95,34 @@ pub fn read_text<S: Source, A: Allocator>(
                 }
                 bytes.pass(n);
                 length += n as u64;
+            }
+        }
+    }
+}
+
+/// Reads the rest of a line through its LF, and keeps nothing of it. False where the end came first.
+pub fn pass_line<S: Source>(bytes: &mut ByteReader<S>) -> Result<bool, LineFault>
+    ensures ok { IfOk result (λ feed. IsRest bytes.old bytes.new feed) }
+    ensures err { IfErr result (λ e. IsPart bytes.old bytes.new e) }
+    ensures stays { IsEnded bytes.old → (result ≡ Ok false) × Took bytes.old bytes.new [] }
+{
+    'pieces: loop {
+        let some = match bytes.more() {
+            Err(e) => return Err(e),
+            Ok(some) => some,
+        };
+        if !some {
+            return Ok(false);
+        }
+        let front = bytes.front();
+        match first_feed(front) {
+            Some(i) => {
+                bytes.pass(i + 1);
+                return Ok(true);
+            }
+            None => {
+                let n = front.len();
+                bytes.pass(n);
             }
         }
     }

@@ -26,10 +26,11 @@ const MOST_TRIES: u32 = 1000000;
 
 /// A reader whose contracts tell its bytes and its faults, which those of `std::io::Read` do not.
 pub trait Source {
-    ghost use Rattle.rev_script.specs.Source.{Told, last_of};
+    ghost use Rattle.rev_script.specs.Source.{Told, last_of, failures_after};
     ghost use Rattle.rev_script.specs.declared.source.LastRead.{LastRead};
 
-    // The bytes that reads will give from here on, where they are known; what the last read did; which reader it is.
+    // The bytes that reads will give from here on, where they are known; what the last read did; how many reads failed;
+    // which reader it is.
     ghost told: { Self → Told };
 
     /// Puts bytes at the front of `buf`, as many as it answers; none only at the end, or where there
@@ -38,6 +39,7 @@ pub trait Source {
         ensures bound { IfOk result (λ n. n ≤ length buf.new) }
         ensures bytes { ReadConsumes (told self.old).remaining (told self.new).remaining result buf.new }
         ensures last { (told self.new).last ≡ last_of (told self.old).last result (length buf.new) }
+        ensures failures { (told self.new).failures ≡ failures_after (told self.old).failures result }
         ensures ended { (told self.old).last ≡ LastRead.Ended → result ≡ Ok 0 }
         ensures same { (told self.new).identity ≡ (told self.old).identity };
 }
@@ -57,20 +59,24 @@ impl<S: Source> Source for &mut S {
 pub struct FromRead<R> {
     reader: R,
     last: LastRead,
+    // How many reads failed. It begins at 0 again behind the largest number.
+    failures: u64,
 }
 
 impl<R: Read> FromRead<R> {
-    ghost use Rattle.rev_script.specs.FromRead.{reader_in, last_read};
+    ghost use Rattle.rev_script.specs.FromRead.{reader_in, last_read, failures_of};
     ghost use Rattle.rev_script.specs.declared.source.LastRead.{LastRead};
 
     /// A source that has read nothing yet.
     pub fn new(reader: R) -> FromRead<R>
         ensures reader { reader_in result ≡ reader }
         ensures last { last_read result ≡ LastRead.Gave }
+        ensures failures { failures_of result ≡ 0 }
     {
         FromRead {
             reader,
             last: LastRead::Gave,
+            failures: 0,
         }
     }
 }
@@ -97,7 +103,7 @@ fn read_again<R: Read>(reader: &mut R, buf: &mut [u8]) -> Result<usize, ReadFail
 impl<R: Read> Source for FromRead<R> {
     ghost use Rattle.rev_script.specs.Source.{told_of};
 
-    ghost told = { λ s. told_of (R.remaining s.reader) s.last };
+    ghost told = { λ s. told_of (R.remaining s.reader) s.last s.failures };
 
     fn read(&mut self, buf: &mut [u8]) -> Result<usize, ReadFailed> {
         match self.last {
@@ -115,6 +121,7 @@ impl<R: Read> Source for FromRead<R> {
             }
             Err(_) => {
                 self.last = LastRead::Failed;
+                self.failures = self.failures.wrapping_add(1);
                 Err(ReadFailed)
             }
         }

@@ -1,12 +1,12 @@
 use Rattle.std.proofs.Common.{◌++◌, length, ap, arith}
-use Rattle.rev_script.proofs.Data.{part_taken, part_size, part_none, part_few}
+use Rattle.rev_script.proofs.Data.{part_taken, part_size, part_none, part_broke, part_few}
 use Rattle.rev_script.proofs.data_block.skip.Goals as goal
 
 pub pieces-preserved : goal.pieces-preserved
 pieces-preserved g c =
     let i = c.pieces.invariant in (
       i.0 ++ c.at_most-n.result.now,
-      part_taken c.pieces.left c.front.result.now c.at_most-n.result.now i.1 c.in-Ok.ensures.kept c.front.ensures c.at_most-n.ensures c.pass.ensures,
+      part_taken c.pieces.left c.front.result.now c.at_most-n.result.now i.1 c.in-Ok.ensures.ok c.front.ensures c.at_most-n.ensures c.pass.ensures.taken,
       part_size i.0 c.at_most-n.result.now c.front.result.now c.pieces.left c.args.n c.at_most-n.ensures i.2,
     )
 
@@ -16,7 +16,7 @@ pass-requires g c = omega (arith, (part_few c.at_most-n.result.now c.front.resul
 pub returns-in-Err-clause-err : goal.returns-in-Err-clause-err
 returns-in-Err-clause-err g c =
     let i = c.pieces.invariant in
-    (record { taken = i.0; took = part_none i.1 c.in-Err.ensures.kept; short = omega (arith, i.2) }, c.in-Err.ensures.err.1)
+    record { taken = i.0; broke = part_broke i.1 c.in-Err.ensures.err.1; short = omega (arith, i.2) }
 
 pub returns-clause-ok : goal.returns-clause-ok
 returns-clause-ok g c =
@@ -26,4 +26,4 @@ returns-clause-ok g c =
 pub returns-then-not-some-clause-ok : goal.returns-then-not-some-clause-ok
 returns-then-not-some-clause-ok g c =
     let i = c.pieces.invariant in
-    (i.0, record { took = part_none i.1 c.in-Ok.ensures.kept; all_of = λ e. absurd (cc); short = λ e. (omega (arith, i.2, c.pieces-test.true), c.in-Ok.ensures.none c.if-not-some.true) })
+    (i.0, record { took = part_none i.1 c.in-Ok.ensures.ok; all_of = λ e. absurd (cc); short = λ e. (omega (arith, i.2, c.pieces-test.true), c.in-Ok.ensures.none c.if-not-some.true) })

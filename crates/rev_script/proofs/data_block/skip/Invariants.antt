@@ -3,7 +3,7 @@ use Rattle.rev_script.specs.ByteReader.{Took}
 use Rattle.rev_script.proofs.data_block.skip.Given as goal
 
 abbrev pub invariant-pieces : goal.invariant-pieces
-invariant-pieces g l = (taken : List ℕ) × Took g.S.Source.told l.fn.bytes l.bytes taken × (length taken + l.left ≡ l.n)
+invariant-pieces g l = (taken : List ℕ) × Took l.fn.bytes l.bytes taken × (length taken + l.left ≡ l.n)
 
 abbrev pub decreases-pieces : goal.decreases-pieces
 decreases-pieces g l = l.left

@@ -4,8 +4,9 @@ use Rattle.std.proofs.Common.{◌≡◌, refl, not, Bool, [], true, false, arith
 use Rattle.std.specs.Io.BufRead.{strip_last}
 use Rattle.rev_script.specs.Words.{words, word}
 use Rattle.rev_script.specs.Commands.{asked}
-use Rattle.rev_script.specs.Script.{block_size, line_of}
-use Rattle.rev_script.proofs.Next.{next_plain, next_done, next_block, next_cut_storage, fault_text, fault_block, asked-long, kept_text}
+use Rattle.rev_script.specs.Script.{line_of}
+use Rattle.rev_script.specs.Line.{has_block}
+use Rattle.rev_script.proofs.Next.{next_plain, next_done, next_block, next_cut_storage, fault_text, fault_block, no_text, no_line, asked-long, kept_text}
 use Rattle.rev_script.proofs.lines.copied_line.Goals as goal
 use Rattle.rev_script.proofs.lines.copied_line.Goals.{else-not-raw-via-then-not-raw+else-raw-eq0, else-not-raw-via-else-not-raw}
 
@@ -21,43 +22,48 @@ opposite : (b : Bool) → b ≡ false → not b ≡ false → ⊥
 opposite b p q = cc (p, is_true b q)
 
 pub returns-in-Err-clause-err : goal.returns-in-Err-clause-err
-returns-in-Err-clause-err g c = fault_text c.in-Err.e c.in-Err.ensures.err.0 c.in-Err.ensures.err.1
+returns-in-Err-clause-err g c = rw c.requires (fault_text c.args.input.now.dialect c.in-Err.ensures.err)
+
+pub returns-then-raw-eq0-clause-ok : goal.returns-then-raw-eq0-clause-ok
+returns-then-raw-eq0-clause-ok g c =
+    let n = no_text c.in-Ok.ensures.ok (is_false _ c.if-not-raw.true) c.if-raw-eq0.true in
+    rw c.requires (no_line c.args.input.now.dialect n.0 n.1)
 
 pub returns-then-raw-gt-MOST_KEPT-clause-ok : goal.returns-then-raw-gt-MOST_KEPT-clause-ok
 returns-then-raw-gt-MOST_KEPT-clause-ok g c =
     let t = c.in-Ok.ensures.ok in
     let long = asked-long t.text (omega (arith, t.size, c.if-raw-gt-MOST_KEPT.true)) in
-    next_plain t _ (λ f. elim c.else-not-raw.branch [
+    rw c.requires (next_plain c.args.input.now.dialect t _ (λ f. elim c.else-not-raw.branch [
       | else-not-raw-via-then-not-raw+else-raw-eq0 w ↦ omega (arith, w.if-raw-eq0.false)
       | else-not-raw-via-else-not-raw w ↦ absurd (opposite _ f w.if-not-raw.false)
-    ]) (ap block_size long) (ap (λ a. line_of a (words (strip_last 13 t.text)) []) (sym long))
+    ]) (ap has_block long) (ap (λ a. line_of c.args.input.now.dialect a (words (strip_last 13 t.text)) []) (sym long)))
 
 pub returns-then-not-raw-2-clause-ok : goal.returns-then-not-raw-2-clause-ok
 returns-then-not-raw-2-clause-ok g c =
     let t = c.in-Ok.ensures.ok in
     let is : c.body.result.now ≡ strip_last 13 t.text = c.body.ensures ∙ ap (λ x. strip_last 13 x) (c.as_slice.ensures.value ∙ kept_text t c.if-raw-gt-MOST_KEPT.false) in
     let a = rw c.in-Storage.is at c.in-Ok-asked_line.ensures in
-    next_cut_storage t (is_false _ c.if-not-raw-2.true) (elim c.else-not-raw.branch [
+    rw c.requires (next_cut_storage c.args.input.now.dialect t (is_false _ c.if-not-raw-2.true) (elim c.else-not-raw.branch [
       | else-not-raw-via-then-not-raw+else-raw-eq0 w ↦ omega (arith, w.if-raw-eq0.false)
       | else-not-raw-via-else-not-raw w ↦ absurd (opposite _ (is_false _ c.if-not-raw-2.true) w.if-not-raw.false)
-    ]) (ap asked (sym is) ∙ a.0)
+    ]) (ap asked (sym is) ∙ a.0))
 
 pub returns-in-Done-clause-ok : goal.returns-in-Done-clause-ok
 returns-in-Done-clause-ok g c =
     let t = c.in-Ok.ensures.ok in
     let is : c.body.result.now ≡ strip_last 13 t.text = c.body.ensures ∙ ap (λ x. strip_last 13 x) (c.as_slice.ensures.value ∙ kept_text t c.if-raw-gt-MOST_KEPT.false) in
     let a = rw c.in-Done.is at c.in-Ok-asked_line.ensures in
-    next_done t c.body.result.now is _ (λ f. elim c.else-not-raw.branch [
+    rw c.requires (next_done c.args.input.now.dialect t c.body.result.now is _ (λ f. elim c.else-not-raw.branch [
       | else-not-raw-via-then-not-raw+else-raw-eq0 w ↦ omega (arith, w.if-raw-eq0.false)
       | else-not-raw-via-else-not-raw w ↦ absurd (opposite _ f w.if-not-raw.false)
-    ]) a.0 a.1
+    ]) a.0 (a.1 c.args.input.now.dialect))
 
 pub returns-in-Err-storage_line-clause-err : goal.returns-in-Err-storage_line-clause-err
 returns-in-Err-storage_line-clause-err g c =
     let t = c.in-Ok.ensures.ok in
     let is : c.body.result.now ≡ strip_last 13 t.text = c.body.ensures ∙ ap (λ x. strip_last 13 x) (c.as_slice.ensures.value ∙ kept_text t c.if-raw-gt-MOST_KEPT.false) in
     let a = rw c.in-Storage.is at c.in-Ok-asked_line.ensures in
-    fault_block c.in-Err-storage_line.e t (is_true _ c.if-not-raw-2.false) (ap asked (sym is) ∙ a.0) c.in-Err-storage_line.ensures.err.0 c.in-Err-storage_line.ensures.err.1
+    rw c.requires (fault_block c.args.input.now.dialect t (is_true _ c.if-not-raw-2.false) (ap asked (sym is) ∙ a.0) c.in-Err-storage_line.ensures.err)
 
 pub returns-in-Ok-storage_line-clause-ok : goal.returns-in-Ok-storage_line-clause-ok
 returns-in-Ok-storage_line-clause-ok g c =
@@ -66,5 +72,5 @@ returns-in-Ok-storage_line-clause-ok g c =
     let a = rw c.in-Storage.is at c.in-Ok-asked_line.ensures in
     let fits : SFits w32 c.in-Storage.exptime = search rules in
     let e = to_z-of_z w32 c.in-Storage.exptime fits in
-    let s = rw e at c.in-Ok-storage_line.ensures.ok in
-    next_block t (is_true _ c.if-not-raw-2.false) (ap asked (sym is) ∙ a.0) (a.1 ∙ ap (λ x. word (words x) 1) is) s
+    let s = rw (e, c.requires) at c.in-Ok-storage_line.ensures.ok in
+    rw c.requires (next_block c.args.input.now.dialect t (is_true _ c.if-not-raw-2.false) (ap asked (sym is) ∙ a.0) (a.1 ∙ ap (λ x. word (words x) 1) is) s)

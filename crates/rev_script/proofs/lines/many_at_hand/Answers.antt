@@ -9,24 +9,24 @@ use Rattle.rev_script.proofs.lines.many_at_hand.Goals as goal
 
 pub returns-in-Done-clause-ok : goal.returns-in-Done-clause-ok
 returns-in-Done-clause-ok g c =
-    let t = text_at_hand c.args.i c.requires c.pass.ensures in
+    let t = text_at_hand c.args.i c.requires.feed c.pass.ensures.taken in
     let is : c.body.result.now ≡ strip_last 13 t.text = c.body.ensures ∙ ap (λ x. strip_last 13 (take c.args.i x)) c.front.ensures in
     let a = rw c.in-Done.is at c.in-Ok-asked.ensures in
-    next_done t c.body.result.now is _ (λ f. absurd (cc)) a.0 a.1
+    rw c.requires.here (next_done c.args.input.now.dialect t c.body.result.now is _ (λ f. absurd (cc)) a.0 (a.1 c.args.input.now.dialect))
 
 pub returns-in-Err-storage_line-clause-err : goal.returns-in-Err-storage_line-clause-err
 returns-in-Err-storage_line-clause-err g c =
-    let t = text_at_hand c.args.i c.requires c.pass.ensures in
+    let t = text_at_hand c.args.i c.requires.feed c.pass.ensures.taken in
     let is : c.body.result.now ≡ strip_last 13 t.text = c.body.ensures ∙ ap (λ x. strip_last 13 (take c.args.i x)) c.front.ensures in
     let a = rw c.in-Storage.is at c.in-Ok-asked.ensures in
-    fault_block c.in-Err-storage_line.e t refl (ap asked (sym is) ∙ a.0) c.in-Err-storage_line.ensures.err.0 c.in-Err-storage_line.ensures.err.1
+    rw c.requires.here (fault_block c.args.input.now.dialect t refl (ap asked (sym is) ∙ a.0) c.in-Err-storage_line.ensures.err)
 
 pub returns-in-Ok-storage_line-clause-ok : goal.returns-in-Ok-storage_line-clause-ok
 returns-in-Ok-storage_line-clause-ok g c =
-    let t = text_at_hand c.args.i c.requires c.pass.ensures in
+    let t = text_at_hand c.args.i c.requires.feed c.pass.ensures.taken in
     let is : c.body.result.now ≡ strip_last 13 t.text = c.body.ensures ∙ ap (λ x. strip_last 13 (take c.args.i x)) c.front.ensures in
     let a = rw c.in-Storage.is at c.in-Ok-asked.ensures in
     let fits : SFits w32 c.in-Storage.exptime = search rules in
     let e = to_z-of_z w32 c.in-Storage.exptime fits in
-    let s = rw e at c.in-Ok-storage_line.ensures.ok in
-    next_block t refl (ap asked (sym is) ∙ a.0) (a.1 ∙ ap (λ x. word (words x) 1) is) s
+    let s = rw (e, c.requires.here) at c.in-Ok-storage_line.ensures.ok in
+    rw c.requires.here (next_block c.args.input.now.dialect t refl (ap asked (sym is) ∙ a.0) (a.1 ∙ ap (λ x. word (words x) 1) is) s)

@@ -1,6 +1,6 @@
 use Rattle.std.proofs.Common.{◌∷◌, [], inl, refl, sym, ◌∙◌, ap, take, get_or}
 use Rattle.rev_script.proofs.Known.{Took-then, take-two}
-use Rattle.rev_script.proofs.data_block.take_ending.Goals as goal
+use Rattle.rev_script.proofs.data_block.take_crlf.Goals as goal
 
 pub returns-clause-ok : goal.returns-clause-ok
 returns-clause-ok g c =
@@ -19,7 +19,7 @@ returns-then-front-ge2-clause-ok g c =
     let two = ap (λ l. take 2 l) (sym c.front-front.ensures) ∙ take-two f c.if-front-ge2.true in
     record {
       taken = get_or f 0 0 ∷ get_or f 1 0 ∷ [];
-      took = rw two at c.pass.ensures;
+      took = rw two at c.pass.ensures.taken;
       size_is = inl refl;
       sound_is = c.is_crlf-sound.ensures;
     }

@@ -1,0 +1,6 @@
+-- What a contract sees of a source's bytes in a dialect.
+use Rattle.rev_script.specs.Line.{PlainInput}
+use Rattle.rev_script.specs.declared.input.Input.{Input}
+
+abbrev pub input_of : {S : Type 0} → Input S → PlainInput
+input_of i = record { bytes = i.bytes; dialect = i.dialect; passes = i.passes }

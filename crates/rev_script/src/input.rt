@@ -1,0 +1,14 @@
+//! What a reader of lines reads.
+
+use crate::byte_reader::ByteReader;
+use crate::dialect::Dialect;
+use crate::source::Source;
+
+/// Bytes in a dialect.
+#[derive(Drop)]
+pub struct Input<S: Source> {
+    pub bytes: ByteReader<S>,
+    pub dialect: Dialect,
+    /// Whether the rest of a line is to be passed over before the next one: its data block was a bad one.
+    pub passes: bool,
+}
