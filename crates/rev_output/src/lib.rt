@@ -4,9 +4,9 @@
 
 pub mod exchange;
 
-ghost use Rattle.std.specs.Prelude.{◌≡◌, ◌≤◌, ℕ, List, length, IfOk, IfErr, OnErr, OnOk, true, false, Option};
+ghost use Rattle.std.specs.Prelude.{◌≡◌, ◌≤◌, ℕ, List, length, IfOk, OnErr, OnOk, Option};
 ghost use Rattle.std.specs.Io.KnownBytes.{Keeps, Appends, WriteAppends};
-ghost use Rattle.rev_output.specs.Sink.{WroteFront};
+ghost use Rattle.rev_output.specs.Sink.{WroteFront, one_more};
 
 use std::io::{ErrorKind, Write};
 use thiserror::Error;
@@ -18,33 +18,34 @@ pub struct WriteFailed;
 
 /// A writer whose contracts tell its bytes and its faults, which those of `std::io::Write` do not.
 pub trait Sink {
-    ghost use Rattle.rev_output.specs.Sink.{failed_of};
-    ghost use Rattle.std.specs.Prelude.{Bool, ◌||◌};
+    ghost use Rattle.rev_output.specs.Sink.{failed_of, is_failed, failures_after};
 
     // The bytes that it holds, where they are known.
     ghost contents: { Self → Option (List ℕ) };
 
-    // Whether a write or a flush answered an error, or a write of some bytes took none.
-    ghost has_failed: { Self → Bool };
+    // How many writes and flushes failed: they answered an error, or a write of some bytes took none. It is counted
+    // modulo 2 ^ 64.
+    ghost failures: { Self → ℕ };
 
     /// Takes bytes from the front of `buf`, as many as it answers.
     fn write(&mut self, buf: &[u8]) -> Result<usize, WriteFailed>
         ensures bound { IfOk result (λ n. n ≤ length buf.now) }
         ensures bytes { WriteAppends (contents self.old) (contents self.new) result buf.now }
-        ensures failed { has_failed self.new ≡ (has_failed self.old || failed_of result (length buf.now)) };
+        ensures failures { failures self.new ≡ failures_after (failed_of result (length buf.now)) (failures self.old) };
 
     /// Sends on what was taken.
     fn flush(&mut self) -> Result<(), WriteFailed>
         ensures bytes { Keeps (contents self.old) (contents self.new) }
-        ensures failed { OnErr result (has_failed self.new ≡ true) };
+        ensures failures { failures self.new ≡ failures_after (is_failed result) (failures self.old) };
 }
 
-/// Writes all the bytes, in as many calls as it takes, and sends them on. At an error a front of
-/// them was written.
+/// Writes all the bytes, in as many calls as it takes, and sends them on; no call failed then. At an
+/// error one did, the last, and a front of the bytes was written.
 pub fn write_all<K: Sink>(sink: &mut K, text: &[u8]) -> Result<(), WriteFailed>
-    ensures ok { OnOk result (Appends (K.contents sink.old) (K.contents sink.new) text.now) }
+    ensures ok { OnOk result (Appends (K.contents sink.old) (K.contents sink.new) text.now
+        × (K.failures sink.new ≡ K.failures sink.old)) }
     ensures err { OnErr result (WroteFront (K.contents sink.old) (K.contents sink.new) text.now
-        × (K.has_failed sink.new ≡ true)) }
+        × (K.failures sink.new ≡ one_more (K.failures sink.old))) }
 {
     let mut from = 0usize;
     while from < text.len() {
@@ -71,20 +72,21 @@ const MOST_TRIES: u32 = 1000000;
 #[derive(Drop)]
 pub struct ToWrite<W> {
     writer: W,
-    failed: bool,
+    // How many writes and flushes failed. It begins at 0 again behind the largest number.
+    failures: u64,
 }
 
 impl<W: Write> ToWrite<W> {
-    ghost use Rattle.rev_output.specs.ToWrite.{writer_in, has_failed};
+    ghost use Rattle.rev_output.specs.ToWrite.{writer_in, failures_of};
 
     /// A sink that has not failed yet.
     pub fn new(writer: W) -> ToWrite<W>
         ensures writer { writer_in result ≡ writer }
-        ensures failed { has_failed result ≡ false }
+        ensures failures { failures_of result ≡ 0 }
     {
         ToWrite {
             writer,
-            failed: false,
+            failures: 0,
         }
     }
 }
@@ -110,18 +112,18 @@ fn write_again<W: Write>(writer: &mut W, buf: &[u8]) -> Result<usize, WriteFaile
 impl<W: Write> Sink for ToWrite<W> {
     ghost contents = { λ s. W.contents s.writer };
 
-    ghost has_failed = { λ s. s.failed };
+    ghost failures = { λ s. s.failures };
 
     fn write(&mut self, buf: &[u8]) -> Result<usize, WriteFailed> {
         match write_again(&mut self.writer, buf) {
             Ok(n) => {
                 if n == 0 && buf.len() > 0 {
-                    self.failed = true;
+                    self.failures = self.failures.wrapping_add(1);
                 }
                 Ok(n)
             }
             Err(e) => {
-                self.failed = true;
+                self.failures = self.failures.wrapping_add(1);
                 Err(e)
             }
         }
@@ -131,7 +133,7 @@ impl<W: Write> Sink for ToWrite<W> {
         match self.writer.flush() {
             Ok(()) => Ok(()),
             Err(_) => {
-                self.failed = true;
+                self.failures = self.failures.wrapping_add(1);
                 Err(WriteFailed)
             }
         }
