@@ -6,7 +6,8 @@ use Rattle.rev_model.specs.Actor.{Step}
 use Rattle.rev_undotree.specs.Steps.{outcome_of}
 use Rattle.rev_undotree.specs.Machine.{nesting_below}
 use Rattle.rev_undotree.specs.Positions.{SessionState}
-use Rattle.rev_shell.specs.Answers.{state_of, is_full, is_too_deep, reply, after_step, get, value_of, values, or_refused, played, if_played, after_gets}
+use Rattle.rev_shell.specs.Answers.{state_of, is_full, is_too_deep, reply, after_step, value_of, values, or_refused, played, if_played, after_gets}
+use Rattle.rev_script.specs.Steps.{get}
 use Rattle.rev_shell.specs.declared.play.Reply.{Reply}
 use Rattle.rev_shell.specs.declared.play.Reply.TheVariants.{Played, TooManyNodes, TooDeep}
 

@@ -2,8 +2,7 @@
 use Rattle.std.specs.Prelude.{ℕ, ℤ, ◌+◌, ◌++◌, Bool, true, false, cond, not, ◌&&◌, nat_eq, nat_lt, List, [], ◌∷◌, length, Option, None, Some, codes}
 use Rattle.rev_model.specs.State.{State, free_of, queue_of, find}
 use Rattle.rev_model.specs.Move.{is_class}
-use Rattle.rev_model.specs.Actor.{Step, Client, Clock}
-use Rattle.rev_model.specs.Client as client
+use Rattle.rev_model.specs.Actor.{Step, Clock}
 use Rattle.rev_model.specs.declared.Outcome.{Outcome}
 use Rattle.rev_model.specs.declared.Outcome.TheVariants as outcomes
 use Rattle.rev_undotree.specs.Steps.{outcome_of}
@@ -20,7 +19,7 @@ use Rattle.rev_script.specs.Script.{ScriptLine, StorageLine, RetrievalLine, Upda
 use Rattle.rev_shell.specs.Texts.{output, bad_text, outcome_text, found_value, item_of, found_text, place_text, entries_text, chunks_text, pages_text, counters_text, globals_text, node_text, parent_text}
 use Rattle.rev_shell.specs.Trees.{gone_to, child_at, child_text, go_text, gone, prune_text, after_prune, tree_text}
 use Rattle.rev_shell.specs.Bookmarks.{marked, with_mark, mark_text, marks_text, goto_text, gone_by}
-use Rattle.rev_shell.specs.Asked.{storage_step, update_step, flush_step, actor_step}
+use Rattle.rev_script.specs.Steps.{storage_step, update_step, flush_step, actor_step, get}
 use Rattle.rev_explain.specs.Story.{story, why_of}
 use Rattle.rev_shell.specs.Reasons.{events_text, why_text}
 use Rattle.rev_shell.specs.declared.play.Reply.{Reply}
@@ -75,9 +74,6 @@ abbrev pub reply_text : Bool → Reply → List ℕ
 reply_text noreply r = or_refused r (cond noreply [] (reply_outcome r))
 
 -- ---- get, gets: a step a key, in order; a refusal ends the line
-
-abbrev pub get : List ℕ → Step
-get k = Client (client.Gets k)
 
 abbrev pub is_hit : Outcome → Bool
 is_hit (outcomes.Hit len cas) = true

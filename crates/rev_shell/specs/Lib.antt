@@ -1,6 +1,5 @@
 pub mod Texts
 pub mod Words
-pub mod Asked
 pub mod Trees
 pub mod Bookmarks
 pub mod Reasons

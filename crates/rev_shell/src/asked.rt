@@ -3,8 +3,7 @@ ghost use Rattle.std.specs.Prelude.{◌≡◌};
 ghost use Rattle.rev_model.specs.Client.{Joins};
 ghost use Rattle.rev_model.specs.Actor.{Client, Clock};
 ghost use Rattle.rev_requests.specs.Plain.{plain_payload, plain_side, plain_step};
-ghost use Rattle.rev_shell.specs.Asked.{storage_step, update_step, flush_step, actor_step};
-ghost use Rattle.rev_shell.specs.Answers.{get};
+ghost use Rattle.rev_script.specs.Steps.{storage_step, update_step, flush_step, actor_step, get};
 
 use rev_items::Key;
 use rev_requests::{

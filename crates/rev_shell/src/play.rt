@@ -3,7 +3,8 @@ ghost use Rattle.std.specs.Prelude.{◌≡◌, ◌++◌, OnOk, IfOk};
 ghost use Rattle.rev_model.specs.Sound.{Sound};
 ghost use Rattle.rev_steps.specs.Plain.{plain_step};
 ghost use Rattle.rev_shell.specs.Texts.{item_of, found_value};
-ghost use Rattle.rev_shell.specs.Answers.{state_of, reply, after_step, reply_text, get, value_of, values, after_gets, was_hit};
+ghost use Rattle.rev_script.specs.Steps.{get};
+ghost use Rattle.rev_shell.specs.Answers.{state_of, reply, after_step, reply_text, value_of, values, after_gets, was_hit};
 
 use crate::asked::get_step;
 use crate::text::{put_outcome, put_output, put_value};

@@ -1,10 +1,9 @@
 //! A script from a reader, its answers to a writer.
-ghost use Rattle.std.specs.Prelude.{[], ◌≡◌, ◌<◌, ◌+◌, ℕ, List, Some, None, IfOk, IfErr, IfSome, OnOk, Option};
+ghost use Rattle.std.specs.Prelude.{◌≡◌, ℕ, List, IfOk, IfErr, IfSome, OnOk};
 ghost use Rattle.rev_classes.specs.Limits.{IsWithinLimits};
-ghost use Rattle.rev_script.specs.ByteReader.{given, in_piece, identity};
-ghost use Rattle.rev_script.specs.Lines.{bytes_of, fault_of as line_fault};
+ghost use Rattle.rev_script.specs.Lines.{IsFirst};
 ghost use Rattle.rev_script.specs.Line.{view};
-ghost use Rattle.rev_shell.specs.Run.{IsDone, IsLeft, IsStopped, run_fault, opened, unmarked, initial};
+ghost use Rattle.rev_shell.specs.Run.{IsDone, IsLeft, IsStopped, sink_at, run_fault, opened, unmarked, initial};
 ghost use Rattle.rev_shell.specs.Answers.{with_bookmarks, answer, after};
 
 use crate::answer::put_answer;
@@ -13,6 +12,7 @@ use rev_classes::Config;
 use rev_inverse::Store;
 use rev_output::{Sink, write_all};
 use rev_script::byte_reader::LineFault;
+use rev_script::dialect::Dialect;
 use rev_script::line::Line;
 use rev_script::lines::Lines;
 use rev_script::source::Source;
@@ -69,7 +69,7 @@ fn answer_line<A: Allocator + Clone>(
     put_answer(session, bookmarks, line, text)
 }
 
-/// Plays the lines, and writes each answer once the line is done. `text` holds one answer at a time.
+/// Plays the lines, from the first on, and writes each answer once its line is done. `text` holds one answer at a time.
 pub fn run_lines<S: Source, K: Sink, A: Allocator + Clone>(
     lines: &mut Lines<S, A>,
     session: &mut Session<A>,
@@ -77,14 +77,14 @@ pub fn run_lines<S: Source, K: Sink, A: Allocator + Clone>(
     text: &mut Vec<u8, A>,
     sink: &mut K,
 ) -> Result<Summary, RunFault>
-    requires no_fault { line_fault lines.old ≡ None }
-    requires fresh { in_piece (bytes_of lines.old) ≡ [] }
-    requires none_given { given (bytes_of lines.old) ≡ 0 }
-    ensures ok { IfOk result (λ sum. IsLeft (S.told (bytes_of lines.old).source).remaining (S.told (bytes_of lines.new).source).remaining (S.told (bytes_of lines.new).source).last
-        (K.contents sink.old) (K.contents sink.new) (with_bookmarks session.old bookmarks.old) (with_bookmarks session.new bookmarks.new) sum) }
-    ensures err { IfErr result (λ e. IsStopped (S.told (bytes_of lines.old).source).remaining (S.told (bytes_of lines.new).source).remaining (S.told (bytes_of lines.new).source).last (K.has_failed sink.new)
-        (K.contents sink.old) (K.contents sink.new) (with_bookmarks session.old bookmarks.old) e) }
-    ensures same { identity S.told (bytes_of lines.new) ≡ identity S.told (bytes_of lines.old) }
+    requires { IsFirst lines.old }
+    ensures ok { IfOk result (λ sum. IsLeft lines.old.input.dialect lines.old.input.bytes.source lines.new.input.bytes.source
+        (sink_at (K.contents sink.old) (K.failures sink.old)) (sink_at (K.contents sink.new) (K.failures sink.new))
+        (with_bookmarks session.old bookmarks.old) (with_bookmarks session.new bookmarks.new) sum) }
+    ensures err { IfErr result (λ e. IsStopped lines.old.input.dialect lines.old.input.bytes.source lines.new.input.bytes.source
+        (sink_at (K.contents sink.old) (K.failures sink.old)) (sink_at (K.contents sink.new) (K.failures sink.new))
+        (with_bookmarks session.old bookmarks.old) e) }
+    ensures same { lines.new.input.bytes.source.identity ≡ lines.old.input.bytes.source.identity }
 {
     let mut count: u64 = 0;
     'lines: loop {
@@ -138,24 +138,27 @@ pub fn open_session<A: Allocator + Clone>(alloc: &A, config: &Config) -> Option<
     }
 }
 
-/// Runs the script that the reader gives on a session, with no bookmark at first, and writes its answers. The answer of
-/// a line is written once all its steps are done. The session keeps all that was played.
+/// Runs the script that the reader gives, in a dialect, on a session, with no bookmark at first, and writes its answers.
+/// The answer of a line is written once all its steps are done. The session keeps all that was played.
 pub fn run_session<S: Source, K: Sink, A: Allocator + Clone>(
     alloc: &A,
     session: &mut Session<A>,
+    dialect: Dialect,
     reader: &mut S,
     sink: &mut K,
 ) -> Result<Summary, RunFault>
-    ensures ok { IfOk result (λ sum. (marks : List (List ℕ × ℕ)) × IsLeft (S.told reader.old).remaining (S.told reader.new).remaining (S.told reader.new).last
-        (K.contents sink.old) (K.contents sink.new) (unmarked session.old) (with_bookmarks session.new marks) sum) }
-    ensures err { IfErr result (λ e. IsStopped (S.told reader.old).remaining (S.told reader.new).remaining (S.told reader.new).last (K.has_failed sink.new)
-        (K.contents sink.old) (K.contents sink.new) (unmarked session.old) e) }
+    ensures ok { IfOk result (λ sum. (marks : List (List ℕ × ℕ)) × IsLeft dialect (S.told reader.old) (S.told reader.new)
+        (sink_at (K.contents sink.old) (K.failures sink.old)) (sink_at (K.contents sink.new) (K.failures sink.new))
+        (unmarked session.old) (with_bookmarks session.new marks) sum) }
+    ensures err { IfErr result (λ e. IsStopped dialect (S.told reader.old) (S.told reader.new)
+        (sink_at (K.contents sink.old) (K.failures sink.old)) (sink_at (K.contents sink.new) (K.failures sink.new))
+        (unmarked session.old) e) }
 {
     let Ok((handle, other)) = two_handles(alloc) else {
         return Err(RunFault::Memory { line: 0 });
     };
     let mut bookmarks = Bookmarks::new(alloc);
-    let mut lines = Lines::over(handle, reader);
+    let mut lines = Lines::of(handle, reader, dialect);
     let mut text = Vec::new(other);
     let ended = run_lines(&mut lines, session, &mut bookmarks, &mut text, sink);
     let _reader = lines.into_source();
@@ -165,24 +168,27 @@ pub fn run_session<S: Source, K: Sink, A: Allocator + Clone>(
     }
 }
 
-/// Runs the script that the reader gives on an empty store, and writes its answers, as `run` does. It is for a program
+/// Runs the script that the reader gives, in a dialect, on an empty store, and writes its answers, as `run` does. It is for a program
 /// that ends with the run: all memory goes back at once then, and the session is not taken apart.
 pub fn run_at_last<S: Source, K: Sink, A: Allocator + Clone>(
     alloc: &A,
     config: &Config,
+    dialect: Dialect,
     reader: &mut S,
     sink: &mut K,
 ) -> Result<Summary, RunFault>
     requires { IsWithinLimits config.now }
-    ensures ok { IfOk result (λ sum. IsDone (S.told reader.old).remaining (S.told reader.new).remaining (S.told reader.new).last
-        (K.contents sink.old) (K.contents sink.new) (initial config.entry.now) sum) }
-    ensures err { IfErr result (λ e. IsStopped (S.told reader.old).remaining (S.told reader.new).remaining (S.told reader.new).last (K.has_failed sink.new)
-        (K.contents sink.old) (K.contents sink.new) (initial config.entry.now) e) }
+    ensures ok { IfOk result (λ sum. IsDone dialect (S.told reader.old) (S.told reader.new)
+        (sink_at (K.contents sink.old) (K.failures sink.old)) (sink_at (K.contents sink.new) (K.failures sink.new))
+        (initial config.entry.now) sum) }
+    ensures err { IfErr result (λ e. IsStopped dialect (S.told reader.old) (S.told reader.new)
+        (sink_at (K.contents sink.old) (K.failures sink.old)) (sink_at (K.contents sink.new) (K.failures sink.new))
+        (initial config.entry.now) e) }
 {
     let ended = match open_session(alloc, config) {
         None => return Err(RunFault::Memory { line: 0 }),
         Some(mut session) => {
-            let ended = run_session(alloc, &mut session, reader, sink);
+            let ended = run_session(alloc, &mut session, dialect, reader, sink);
             let _session = ManuallyDrop::new(session);
             ended
         }
@@ -193,23 +199,26 @@ pub fn run_at_last<S: Source, K: Sink, A: Allocator + Clone>(
     }
 }
 
-/// Runs the script that the reader gives on an empty store, and writes its answers, as `run_session` does.
+/// Runs the script that the reader gives, in a dialect, on an empty store, and writes its answers, as `run_session` does.
 pub fn run<S: Source, K: Sink, A: Allocator + Clone>(
     alloc: &A,
     config: &Config,
+    dialect: Dialect,
     reader: &mut S,
     sink: &mut K,
 ) -> Result<Summary, RunFault>
     requires { IsWithinLimits config.now }
-    ensures ok { IfOk result (λ sum. IsDone (S.told reader.old).remaining (S.told reader.new).remaining (S.told reader.new).last
-        (K.contents sink.old) (K.contents sink.new) (initial config.entry.now) sum) }
-    ensures err { IfErr result (λ e. IsStopped (S.told reader.old).remaining (S.told reader.new).remaining (S.told reader.new).last (K.has_failed sink.new)
-        (K.contents sink.old) (K.contents sink.new) (initial config.entry.now) e) }
+    ensures ok { IfOk result (λ sum. IsDone dialect (S.told reader.old) (S.told reader.new)
+        (sink_at (K.contents sink.old) (K.failures sink.old)) (sink_at (K.contents sink.new) (K.failures sink.new))
+        (initial config.entry.now) sum) }
+    ensures err { IfErr result (λ e. IsStopped dialect (S.told reader.old) (S.told reader.new)
+        (sink_at (K.contents sink.old) (K.failures sink.old)) (sink_at (K.contents sink.new) (K.failures sink.new))
+        (initial config.entry.now) e) }
 {
     let ended = match open_session(alloc, config) {
         None => return Err(RunFault::Memory { line: 0 }),
         Some(mut session) => {
-            let done = run_session(alloc, &mut session, reader, sink);
+            let done = run_session(alloc, &mut session, dialect, reader, sink);
             drop(session);
             done
         }
