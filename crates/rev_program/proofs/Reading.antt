@@ -3,137 +3,118 @@ use Rattle.std.proofs.Common.{◌≡◌, ℕ, ◌+◌, inl, inr, List, [], ◌�
 use Rattle.std.proofs.Math.Seq.{take-append_seam}
 use Rattle.std.specs.Io.KnownBytes.{Consumes, IsAtEnd}
 use Rattle.rev_model.specs.Actor.{Step}
-use Rattle.rev_script.specs.ByteReader.{Took, AtEnd, given, in_piece}
-use Rattle.rev_script.specs.Script.{ScriptLine, lines, whole_lines}
-use Rattle.rev_script.specs.Line.{IsNext, IsFault}
-use Rattle.rev_script.specs.Source.{Told}
-use Rattle.rev_script.specs.declared.byte_reader.ByteReader.{ByteReader}
+use Rattle.rev_script.specs.ByteReader.{Took, AtEnd, IsEnded}
+use Rattle.rev_script.specs.Script.{ScriptLine, onwards, lines, whole_lines}
+use Rattle.rev_script.specs.Line.{PlainInput, IsNext, IsFault}
+use Rattle.rev_script.specs.Steps.{steps_of, joined, all_steps, AreSteps}
+use Rattle.rev_script.specs.declared.dialect.Dialect.{Dialect}
 use Rattle.rev_script.specs.declared.byte_reader.LineFault.{LineFault}
 use Rattle.rev_script.specs.declared.byte_reader.LineFault.TheVariants as faults
-use Rattle.rev_script.proofs.Known.{Took-then}
+use Rattle.rev_script.proofs.Known.{Took-then, Took-broke}
 use Rattle.rev_script.proofs.Front.{take_front}
+use Rattle.rev_script.proofs.Scripts.{some_inj, parts_of, all_steps-more}
 use Rattle.rev_shell.specs.Run.{AreWhole}
-use Rattle.rev_shell.proofs.Runs.{lines-nil, lines-whole, lines-more, whole_lines-more, whole_then, last_then, plain_ahead, read_of}
-use Rattle.rev_program.specs.Steps.{steps_of, joined, all_steps, AreSteps, Adds, IsRead, IsRefused, IsSoFar, script_fault}
+use Rattle.rev_shell.proofs.Runs.{lines-more, whole_lines-more, whole_then, last_then, plain_ahead, read_of, read_all, in_dialect, over_now, then_line}
+use Rattle.rev_script.specs.Source.{Told, told_by}
+use Rattle.rev_program.specs.Steps.{Because, Adds, IsRead, IsRefused, IsSoFar, script_fault}
+use Rattle.rev_program.specs.declared.steps.ScriptFault.{ScriptFault}
 use Rattle.rev_program.specs.declared.steps.ScriptFault.TheVariants as script
-
-some_inj : {X : Type 0} (x y : X) → Some x ≡ Some y → x ≡ y
-some_inj x y e = cc
-
--- both parts of steps that were joined are there
-parts_of : (p q : Option (List Step)) (all : List Step) → joined p q ≡ Some all → (own : List Step) × (more : List Step) × (p ≡ Some own) × (q ≡ Some more) × (own ++ more ≡ all)
-parts_of None q all e = absurd (cc)
-parts_of (Some own) None all e = absurd (cc)
-parts_of (Some own) (Some more) all e = (own, more, refl, refl, some_inj (own ++ more) all e)
-
--- the steps of one line more
-pub all_steps-more : (ls : List ScriptLine) (l : ScriptLine) (steps own : List Step) → all_steps ls ≡ Some steps → steps_of l ≡ Some own → all_steps (ls ++ l ∷ []) ≡ Some (steps ++ own)
-all_steps-more [] l steps own e o =
-    ap (λ p. joined p (Some [])) o ∙ ap (λ t. Some t) (append-nil own) ∙ ap (λ t. Some (t ++ own)) (some_inj [] steps e)
-all_steps-more (x ∷ xs) l steps own e o =
-    let p = parts_of (steps_of x) (all_steps xs) steps e in
-    ap (λ t. joined t (all_steps (xs ++ l ∷ []))) p.2
-    ∙ ap (λ t. joined (Some p.0) t) (all_steps-more xs l p.1 own p.3 o)
-    ∙ ap (λ t. Some t) (sym (append_assoc p.0 p.1 own) ∙ ap (λ t. t ++ own) p.4)
 
 -- the line behind so many
 at_seam : (xs ys : List ScriptLine) (y : ScriptLine) → slice_get (xs ++ y ∷ ys) (length xs) ≡ Some y
 at_seam [] ys y = refl
 at_seam (x ∷ xs) ys y = at_seam xs ys y
 
-pub still_whole : {S : Type 0} {told : S → Told} {start b : ByteReader S} {steps : List Step} {count : ℕ} (f : IsSoFar told start b steps count) → (AtEnd told b → ⊥) → AreWhole f.read f.done
+pub still_whole : {d : Dialect} {start b : PlainInput} {steps : List Step} {count : ℕ} (f : IsSoFar d start b steps count) → (AtEnd b.bytes → ⊥) → AreWhole d b.passes f.read f.done
 still_whole f never = elim f.lines_are [
   | inl w ↦ w
   | inr p ↦ absurd (never p.1)
 ]
 
-module _ {S : Type 0} (told : S → Told) (start b c : ByteReader S) (steps : List Step) (count : ℕ) (fresh : in_piece start ≡ []) (none_given : given start ≡ 0) (f : IsSoFar told start b steps count) where
-  pub progress : (line : ScriptLine) (new : List Step) → AreWhole f.read f.done → IsNext told b c (Some line) → Adds steps new line → IsSoFar told start c new (count + 1)
+module _ (d : Dialect) (start b c : PlainInput) (steps : List Step) (count : ℕ) (fresh : start.bytes.unused ≡ []) (none_given : start.bytes.given ≡ 0) (f : IsSoFar d start b steps count) where
+  pub progress : (line : ScriptLine) (new : List Step) → AreWhole d b.passes f.read f.done → IsNext b c (Some line) → Adds steps new line → IsSoFar d start c new (count + 1)
   progress line new w n a = let p = parts_of (Some steps) (steps_of line) new a in record {
     done = f.done ++ line ∷ [];
     read = f.read ++ n.0;
     took = Took-then f.took n.1;
-    lines_are = elim n.2 [
-      | inl p ↦ inl (whole_then f.read n.0 f.done line w p)
-      | inr p ↦ inr (last_then f.read n.0 f.done line w p.0, p.1)
+    dialect_is = n.2 ∙ f.dialect_is;
+    lines_are = elim (in_dialect d f.dialect_is n) [
+      | inl p ↦ inl (whole_then d b.passes c.passes f.read n.0 f.done line w p)
+      | inr p ↦ inr (last_then d b.passes f.read n.0 f.done line w p.0, p.1)
     ];
     count_is = omega (arith, length-append f.done (line ∷ []), f.count_is);
     steps_are = all_steps-more f.done line steps p.1 f.steps_are p.3 ∙ ap (λ t. Some t) (ap (λ t. t ++ p.1) (some_inj steps p.0 p.2) ∙ p.4);
   }
 
-  all_lines : lines f.read ≡ f.done
-  all_lines = elim f.lines_are [
-    | inl w ↦ ap lines (sym (append-nil f.read)) ∙ lines-more f.read [] f.done w ∙ ap (λ t. f.done ++ t) lines-nil ∙ append-nil f.done
-    | inr p ↦ p.0
-  ]
-
-  pub finished : IsNext told b c None → IsRead (told start.source).remaining (told c.source).remaining (told c.source).last steps
-  finished n =
-      let all : (f.read ++ []) ++ in_piece c ≡ f.read = ap (λ t. (f.read ++ []) ++ t) n.1.ended.1 ∙ append-nil (f.read ++ []) ∙ append-nil f.read in
+  pub finished : (IsEnded b.bytes → Took b.bytes c.bytes []) → IsNext b c None → IsRead d start.bytes.source c.bytes.source steps
+  finished stays n =
+      let o = over_now c d f.read f.done f.dialect_is f.lines_are stays n in
+      let took = Took-then f.took o.took in
       record {
-        read = f.read;
-        took = subst (λ l. Consumes (told start.source).remaining (told c.source).remaining l) all (read_of told start c (f.read ++ []) fresh (Took-then f.took n.0));
-        none_left = subst (λ a. IsAtEnd a) (plain_ahead (in_piece c) (told c.source).remaining n.1.ended.1) n.1.none_left;
-        ended = n.1.ended.0;
-        steps_are = ap all_steps all_lines ∙ f.steps_are;
+        read = f.read ++ o.taken;
+        took = read_all start.bytes c.bytes (f.read ++ o.taken) fresh o.at_end.ended.1 took.passed;
+        none_left = subst (λ a. IsAtEnd a) (plain_ahead c.bytes.unused c.bytes.source.remaining o.at_end.ended.1) o.at_end.none_left;
+        ended = o.at_end.ended.0;
+        reads = took.steady;
+        steps_are = ap all_steps o.lines_are ∙ f.steps_are;
       }
 
   -- the lines done are the first of all bytes that begin with those taken for them
-  first_done : (more all : List ℕ) (j : ℕ) → AreWhole f.read f.done → all ≡ f.read ++ more → j ≡ length f.done → AreSteps (take j (lines all))
+  first_done : (more all : List ℕ) (j : ℕ) → AreWhole d b.passes f.read f.done → all ≡ f.read ++ more → j ≡ length f.done → AreSteps (take j (lines d all))
   first_done more all j w e k = (
     steps,
-    ap all_steps (ap (λ t. take t (lines all)) k ∙ ap (λ t. take (length f.done) (lines t)) e ∙ ap (λ t. take (length f.done) t) (lines-more f.read more f.done w) ∙ take-append_seam f.done (lines more)) ∙ f.steps_are,
+    ap all_steps (ap (λ t. take t (lines d all)) k ∙ ap (λ t. take (length f.done) (lines d t)) e ∙ ap (λ t. take (length f.done) t) (lines-more d b.passes f.read more f.done w)
+        ∙ take-append_seam f.done (lines d (onwards b.passes more))) ∙ f.steps_are,
   )
 
-  pub fault_now : (fault : LineFault) → AreWhole f.read f.done → IsFault told b c fault → IsRefused (told start.source).remaining (told c.source).remaining (told c.source).last (script_fault fault)
+  -- none of the bytes behind the lines that are done makes a whole line
+  none_more : (more : List ℕ) → AreWhole d b.passes f.read f.done → whole_lines b.dialect (onwards b.passes more) ≡ 0 → whole_lines d (f.read ++ more) ≡ length f.done
+  none_more more w e =
+      let none : whole_lines d (onwards b.passes more) ≡ 0 = subst (λ x. whole_lines x (onwards b.passes more) ≡ 0) f.dialect_is e in
+      omega (arith, whole_lines-more d b.passes f.read more f.done w, none)
+
+  pub fault_now : (fault : LineFault) → AreWhole d b.passes f.read f.done → IsFault b c fault → IsRefused d start.bytes.source c.bytes.source (script_fault fault)
   fault_now faults.Memory w n = record {
-    read = (f.read ++ n.0) ++ in_piece c;
-    took = read_of told start c (f.read ++ n.0) fresh (Took-then f.took n.1);
+    read = (f.read ++ n.0) ++ c.bytes.unused;
+    took = read_of start.bytes c.bytes (f.read ++ n.0) fresh (Took-broke f.took n.1).passed;
     because = tt;
   }
   fault_now faults.Read w n =
-      let all : (f.read ++ n.0) ++ in_piece c ≡ f.read ++ n.0 = ap (λ t. (f.read ++ n.0) ++ t) n.3.1 ∙ append-nil (f.read ++ n.0) in
+      let both = Took-broke f.took n.1 in
       record {
         read = f.read ++ n.0;
-        took = subst (λ l. Consumes (told start.source).remaining (told c.source).remaining l) all (read_of told start c (f.read ++ n.0) fresh (Took-then f.took n.1));
-        because = (n.3.0, first_done n.0 (f.read ++ n.0) (whole_lines (f.read ++ n.0)) w refl (omega (arith, whole_lines-more f.read n.0 f.done w, n.2 (λ e. cc e))));
+        took = read_all start.bytes c.bytes (f.read ++ n.0) fresh both.stopped.2 both.passed;
+        because = (both.stopped.1, both.stopped.0, first_done n.0 (f.read ++ n.0) (whole_lines d (f.read ++ n.0)) w refl (none_more n.0 w (n.2 (λ e. cc e))));
       }
   fault_now faults.TooLong w n =
-      let both : Took told start c (f.read ++ n.0) = Took-then f.took n.1 in
-      let size : length (f.read ++ n.0) ≡ 4294967296 = omega (arith, both.count, none_given, n.3.0) in
-      let front : take 4294967296 ((f.read ++ n.0) ++ in_piece c) ≡ f.read ++ n.0 = take_front 4294967296 (f.read ++ n.0) (in_piece c) size in
+      let both = Took-broke f.took n.1 in
+      let size : length (f.read ++ n.0) ≡ 4294967296 = omega (arith, both.passed.count, none_given, both.stopped.0) in
+      let front : take 4294967296 ((f.read ++ n.0) ++ c.bytes.unused) ≡ f.read ++ n.0 = take_front 4294967296 (f.read ++ n.0) c.bytes.unused size in
       record {
-        read = (f.read ++ n.0) ++ in_piece c;
-        took = read_of told start c (f.read ++ n.0) fresh both;
+        read = (f.read ++ n.0) ++ c.bytes.unused;
+        took = read_of start.bytes c.bytes (f.read ++ n.0) fresh both.passed;
         because = (
-          omega (arith, length-append (f.read ++ n.0) (in_piece c), size, n.3.1),
-          first_done (n.0 ++ in_piece c) ((f.read ++ n.0) ++ in_piece c) (whole_lines (take 4294967296 ((f.read ++ n.0) ++ in_piece c))) w (append_assoc f.read n.0 (in_piece c))
-              (ap whole_lines front ∙ omega (arith, whole_lines-more f.read n.0 f.done w, n.2 (λ e. cc e))),
+          omega (arith, length-append (f.read ++ n.0) c.bytes.unused, size, both.stopped.1),
+          first_done (n.0 ++ c.bytes.unused) ((f.read ++ n.0) ++ c.bytes.unused) (whole_lines d (take 4294967296 ((f.read ++ n.0) ++ c.bytes.unused))) w (append_assoc f.read n.0 c.bytes.unused)
+              (ap (whole_lines d) front ∙ none_more n.0 w (n.2 (λ e. cc e))),
         );
       }
 
   -- no memory for the steps of a line
-  pub memory_now : (line : ScriptLine) → IsNext told b c (Some line) → IsRefused (told start.source).remaining (told c.source).remaining (told c.source).last script.Memory
+  pub memory_now : (line : ScriptLine) → IsNext b c (Some line) → IsRefused d start.bytes.source c.bytes.source script.Memory
   memory_now line n = record {
-    read = (f.read ++ n.0) ++ in_piece c;
-    took = read_of told start c (f.read ++ n.0) fresh (Took-then f.took n.1);
+    read = (f.read ++ n.0) ++ c.bytes.unused;
+    took = read_of start.bytes c.bytes (f.read ++ n.0) fresh (Took-then f.took n.1).passed;
     because = tt;
   }
 
-  -- the line stands behind those that are done
-  then_line : (line : ScriptLine) → AreWhole f.read f.done → (n : IsNext told b c (Some line)) → (rest : List ScriptLine) × (lines ((f.read ++ n.0) ++ in_piece c) ≡ f.done ++ line ∷ rest)
-  then_line line w n = elim n.2 [
-    | inl p ↦ (lines (in_piece c), ap lines (append_assoc f.read n.0 (in_piece c)) ∙ lines-more f.read (n.0 ++ in_piece c) f.done w ∙ ap (λ t. f.done ++ t) (lines-whole n.0 (in_piece c) line p))
-    | inr p ↦ ([], ap (λ t. lines ((f.read ++ n.0) ++ t)) p.1.ended.1 ∙ ap lines (append-nil (f.read ++ n.0)) ∙ last_then f.read n.0 f.done line w p.0)
-  ]
-
   -- the line makes no step
-  pub other_now : (line : ScriptLine) (number : ℕ) → number ≡ count + 1 → AreWhole f.read f.done → IsNext told b c (Some line) → steps_of line ≡ None → IsRefused (told start.source).remaining (told c.source).remaining (told c.source).last (script.NotAStep number)
+  pub other_now : (line : ScriptLine) (number : ℕ) → number ≡ count + 1 → AreWhole d b.passes f.read f.done → IsNext b c (Some line) → steps_of line ≡ None → IsRefused d start.bytes.source c.bytes.source (script.NotAStep number)
   other_now line number is w n o =
-      let r = then_line line w n in
+      let r = then_line d f.read f.done line f.dialect_is w n in
       record {
-        read = (f.read ++ n.0) ++ in_piece c;
-        took = read_of told start c (f.read ++ n.0) fresh (Took-then f.took n.1);
+        read = (f.read ++ n.0) ++ c.bytes.unused;
+        took = read_of start.bytes c.bytes (f.read ++ n.0) fresh (Took-then f.took n.1).passed;
         because = (
           length f.done,
           line,
@@ -143,3 +124,17 @@ module _ {S : Type 0} (told : S → Told) (start b c : ByteReader S) (steps : Li
           (steps, ap all_steps (ap (λ t. take (length f.done) t) r.1 ∙ take-append_seam f.done (line ∷ r.0)) ∙ f.steps_are),
         );
       }
+
+-- ---- a source that is lent: it tells the same, but for which source it is
+
+because_told : (e : ScriptFault) (d : Dialect) (read : List ℕ) (a b : Told) (n m : ℕ) → Because e d read (told_by a n) (told_by b m) → Because e d read a b
+because_told (script.NotAStep line) d read a b n m p = p
+because_told script.Memory d read a b n m p = p
+because_told script.Read d read a b n m p = p
+because_told script.TooLong d read a b n m p = p
+
+pub read_told : {d : Dialect} {steps : List Step} (a b : Told) (n m : ℕ) → IsRead d (told_by a n) (told_by b m) steps → IsRead d a b steps
+read_told a b n m x = record { read = x.read; took = x.took; none_left = x.none_left; ended = x.ended; reads = x.reads; steps_are = x.steps_are }
+
+pub refused_told : {d : Dialect} {e : ScriptFault} (a b : Told) (n m : ℕ) → IsRefused d (told_by a n) (told_by b m) e → IsRefused d a b e
+refused_told {d} {e} a b n m x = record { read = x.read; took = x.took; because = because_told e d x.read a b n m x.because }

@@ -15,7 +15,8 @@ use Rattle.rev_recorder.specs.Hands.{PlainHand, Settles}
 use Rattle.rev_recorder.specs.Running.{AllRan}
 use Rattle.rev_recorder.specs.Settling.{AreNew, IsLegalLog}
 use Rattle.rev_shell.specs.Texts.{output}
-use Rattle.rev_program.specs.Steps.{all_steps, IsFirstOther}
+use Rattle.rev_script.specs.Steps.{all_steps, IsFirstOther}
+use Rattle.rev_script.specs.declared.dialect.Dialect.TheVariants.{CrLf}
 use Rattle.rev_program.specs.Rows.{rows_text, ends_text, IsEnd}
 use Rattle.rev_program.specs.declared.fault.RecordingFault.{RecordingFault}
 use Rattle.rev_program.specs.declared.fault.RecordingFault.TheVariants.{NotAStep, CannotRead, TooLong, Memory, CannotWrite, LogDiffers}
@@ -23,7 +24,7 @@ use Rattle.rev_program.specs.declared.fault.RecordingFault.TheVariants.{NotAStep
 -- the steps are those of all lines of the file, where its bytes are known
 abbrev pub IsScript : Option (List ℕ) → List model.Step → Type 0
 IsScript None steps = Unit {0}
-IsScript (Some bytes) steps = all_steps (lines bytes) ≡ Some steps
+IsScript (Some bytes) steps = all_steps (lines CrLf bytes) ≡ Some steps
 
 -- the files, one by one, hold these steps
 abbrev pub AreScripts : {F A : Type 0} → (F → Option (List ℕ)) → List (String Global × F) → List (Vec (Step A)) → Type 0
@@ -34,7 +35,7 @@ AreScripts remaining (file ∷ files) (steps ∷ scripts) = IsScript (remaining 
 
 -- why a file of this name did not become steps: of a line that makes no step, it is the first such line of the bytes read
 abbrev pub Spoils : Option (List ℕ) → String Global → RecordingFault → Type 0
-Spoils reader name (NotAStep file line) = (file ≡ name) × ((read : List ℕ) × (rest : Option (List ℕ)) × Consumes reader rest read × IsFirstOther line (lines read))
+Spoils reader name (NotAStep file line) = (file ≡ name) × ((read : List ℕ) × (rest : Option (List ℕ)) × Consumes reader rest read × IsFirstOther line (lines CrLf read))
 Spoils reader name (CannotRead file) = file ≡ name
 Spoils reader name TooLong = Unit {0}
 Spoils reader name Memory = Unit {0}

@@ -17,6 +17,7 @@ use crate::steps::read_steps;
 use rev_classes::Config;
 use rev_recorder::{Gate, Hand, RecordFault, Recorder, Settled, run_actors};
 use rev_requests::Step;
+use rev_script::dialect::Dialect;
 use rev_script::source::FromRead;
 use rev_shell::run::open_session;
 use std::alloc::{AllocError, Global};
@@ -56,7 +57,7 @@ fn read_file<F: Read + Drop>(
     ensures err { IfErr result (λ e. Spoils (F.remaining reader) name e) }
 {
     let mut source = FromRead::new(reader);
-    match read_steps(alloc, &mut source) {
+    match read_steps(alloc, Dialect::CrLf, &mut source) {
         Ok(steps) => Ok(steps),
         Err(fault) => Err(RecordingFault::of(fault, name)),
     }

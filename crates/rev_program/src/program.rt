@@ -11,6 +11,7 @@ use rev_classes::{Config, fault_of};
 use rev_options::{Request, parse_words};
 use rev_output::ToWrite;
 use rev_output::exchange::{Exchange, Incoming, Outgoing};
+use rev_script::dialect::Dialect;
 use rev_script::source::FromRead;
 use rev_shell::run::{RunFault, run_at_last};
 use std::alloc::{Allocator, Global};
@@ -50,7 +51,7 @@ where
 {
     let mut source = FromRead::new(reader);
     let mut sink = ToWrite::new(Outgoing::new(exchange));
-    let done = run_at_last(alloc, config, &mut source, &mut sink);
+    let done = run_at_last(alloc, config, Dialect::CrLf, &mut source, &mut sink);
     // What was answered before a fault is sent all the same.
     let sent = exchange.send();
     match done {

@@ -1,15 +1,15 @@
 //! The steps that a script's lines ask for.
 ghost use Rattle.std.specs.Prelude.{[], ◌∷◌, ◌≡◌, ◌++◌, map, MatchBool, None, IfOk, IfErr, OnOk};
 ghost use Rattle.rev_requests.specs.Plain.{plain_step};
-ghost use Rattle.rev_script.specs.ByteReader.{given, in_piece, identity};
-ghost use Rattle.rev_script.specs.Lines.{bytes_of, fault_of};
+ghost use Rattle.rev_script.specs.Lines.{IsFirst};
 ghost use Rattle.rev_script.specs.Line.{view, client_view};
-ghost use Rattle.rev_shell.specs.Answers.{get};
-ghost use Rattle.rev_program.specs.Steps.{steps_of, Adds, IsRead, IsRefused, script_fault};
+ghost use Rattle.rev_script.specs.Steps.{get, steps_of};
+ghost use Rattle.rev_program.specs.Steps.{Adds, IsRead, IsRefused, script_fault};
 
 use rev_items::Key;
 use rev_requests::Step;
 use rev_script::byte_reader::LineFault;
+use rev_script::dialect::Dialect;
 use rev_script::line::{ClientLine, Line};
 use rev_script::lines::Lines;
 use rev_script::source::Source;
@@ -99,12 +99,10 @@ fn gather<S: Source>(
     steps: &mut Vec<Step<Global>>,
 ) -> Result<(), ScriptFault>
     requires none { steps.old.items ≡ [] }
-    requires no_fault { fault_of lines.old ≡ None }
-    requires fresh { in_piece (bytes_of lines.old) ≡ [] }
-    requires none_given { given (bytes_of lines.old) ≡ 0 }
-    ensures ok { OnOk result (IsRead (S.told (bytes_of lines.old).source).remaining (S.told (bytes_of lines.new).source).remaining (S.told (bytes_of lines.new).source).last (map plain_step steps.new.items)) }
-    ensures err { IfErr result (λ e. IsRefused (S.told (bytes_of lines.old).source).remaining (S.told (bytes_of lines.new).source).remaining (S.told (bytes_of lines.new).source).last e) }
-    ensures same { identity S.told (bytes_of lines.new) ≡ identity S.told (bytes_of lines.old) }
+    requires first { IsFirst lines.old }
+    ensures ok { OnOk result (IsRead lines.old.input.dialect lines.old.input.bytes.source lines.new.input.bytes.source (map plain_step steps.new.items)) }
+    ensures err { IfErr result (λ e. IsRefused lines.old.input.dialect lines.old.input.bytes.source lines.new.input.bytes.source e) }
+    ensures same { lines.new.input.bytes.source.identity ≡ lines.old.input.bytes.source.identity }
 {
     let mut count: u64 = 0;
     'lines: loop {
@@ -125,17 +123,18 @@ fn gather<S: Source>(
     }
 }
 
-/// All the steps of the script that the source gives, in order: a `get` of several keys is as many steps. The first line
-/// that makes no step ends it, and so do a read that fails and a want of memory.
+/// All the steps of the script that the source gives, in a dialect, in order: a `get` of several keys is as many steps.
+/// The first line that makes no step ends it, and so do a read that fails and a want of memory.
 pub fn read_steps<S: Source>(
     alloc: Global,
+    dialect: Dialect,
     source: &mut S,
 ) -> Result<Vec<Step<Global>>, ScriptFault>
-    ensures ok { IfOk result (λ steps. IsRead (S.told source.old).remaining (S.told source.new).remaining (S.told source.new).last (map plain_step steps.items)) }
-    ensures err { IfErr result (λ e. IsRefused (S.told source.old).remaining (S.told source.new).remaining (S.told source.new).last e) }
+    ensures ok { IfOk result (λ steps. IsRead dialect (S.told source.old) (S.told source.new) (map plain_step steps.items)) }
+    ensures err { IfErr result (λ e. IsRefused dialect (S.told source.old) (S.told source.new) e) }
 {
     let mut steps = Vec::new(alloc);
-    let mut lines = Lines::over(alloc, source);
+    let mut lines = Lines::of(alloc, source, dialect);
     let gathered = gather(&mut lines, &mut steps);
     let _source = lines.into_source();
     match gathered {

@@ -1,6 +1,6 @@
 use Rattle.std.proofs.Common.{◌≡◌, ◌++◌, map}
 use Rattle.rev_requests.specs.Plain.{plain_step}
-use Rattle.rev_shell.specs.Answers.{get}
+use Rattle.rev_script.specs.Steps.{get}
 use Rattle.rev_program.proofs.steps.add_gets.Given as goal
 
 -- with the gets of the keys that are left, the steps are those of the line
