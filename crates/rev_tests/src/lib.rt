@@ -1,4 +1,5 @@
-//! The tests that cross crates: cut input, failing readers and writers, the class table, the program's words,
+//! The tests that cross crates: cut input, failing readers and writers, the class table, data blocks in each dialect, the
+//! program's words,
 //! want of memory, recordings on threads and over files; and fast paths beside plain ones.
 #![tactic(auto)]
 
@@ -8,6 +9,8 @@ mod actors;
 mod buckets;
 #[cfg(test)]
 mod classes;
+#[cfg(test)]
+mod dialects;
 #[cfg(test)]
 mod memory;
 #[cfg(test)]

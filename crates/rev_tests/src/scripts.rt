@@ -4,6 +4,7 @@ use crate::classes::DEFAULTS;
 use crate::streams::{Narrow, Stutter};
 use rev_classes::{Config, fault_of};
 use rev_output::ToWrite;
+use rev_script::dialect::Dialect;
 use rev_script::source::FromRead;
 use rev_shell::run::{RunFault, Summary, run};
 use std::alloc::Global;
@@ -18,12 +19,24 @@ pub fn run_with<R: Abort, I: Read + Drop, O: Write + Drop>(
     reader: I,
     writer: O,
 ) -> Result<Summary, RunFault> {
+    run_in(rt, alloc, config, Dialect::CrLf, reader, writer)
+}
+
+/// The same, in a dialect.
+pub fn run_in<R: Abort, I: Read + Drop, O: Write + Drop>(
+    rt: &R,
+    alloc: Global,
+    config: &Config,
+    dialect: Dialect,
+    reader: I,
+    writer: O,
+) -> Result<Summary, RunFault> {
     if let Some(fault) = fault_of(config) {
         panic!(rt; "{fault}");
     }
     let mut source = FromRead::new(reader);
     let mut sink = ToWrite::new(writer);
-    run(&alloc, config, &mut source, &mut sink)
+    run(&alloc, config, dialect, &mut source, &mut sink)
 }
 
 /// Adds bytes to a text.

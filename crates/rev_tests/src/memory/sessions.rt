@@ -13,6 +13,7 @@ use rev_explain::story;
 use rev_inverse::Store;
 use rev_items::Key;
 use rev_output::ToWrite;
+use rev_script::dialect::Dialect;
 use rev_script::source::FromRead;
 use rev_shell::run::{RunFault, Summary, run};
 use rev_steps::{ActorStep, KeyCommand, Step, StoreVerb};
@@ -376,6 +377,7 @@ fn run_script<R: Abort>(
     run(
         &heap,
         &SMALL,
+        Dialect::CrLf,
         &mut FromRead::new(script),
         &mut ToWrite::new(written),
     )
