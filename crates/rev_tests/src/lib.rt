@@ -1,6 +1,5 @@
 //! The tests that cross crates: cut input, failing readers and writers, the class table, data blocks in each dialect, the
-//! program's words,
-//! want of memory, recordings on threads and over files; and fast paths beside plain ones.
+//! program's words, want of memory, recordings on threads and over files; and fast paths beside plain ones.
 #![tactic(auto)]
 
 #[cfg(test)]
