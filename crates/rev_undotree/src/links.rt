@@ -7,16 +7,20 @@ ghost use Rattle.rev_undotree.specs.Links.{mention_of, mentions_of, IsLinked, Is
 use crate::mention::Mention;
 use rev_items::bucket;
 
-// An entry that is so many back is far: a play of a key that is seldom mentioned would wait for its memory, and so looks
-// at none.
-const FAR: usize = 1024;
+// An entry that is so many back, or more, is far. A play of a key that is seldom mentioned would wait for the memory of
+// far entries, and so looks at none.
+const FAR: u32 = 1024;
+
+// A tree that is so high takes in no more. Without far entries it would have more entries than there are links: it took
+// in lone entries one after another, and a walk would pass as many of its own one by one.
+const TALLEST: u8 = 32;
 
 /// A mention, with the link to the entry before it in its bucket.
 ///
 /// The skip is a link to an earlier entry, or 0: a hint, on which nothing that is promised rests. The entries of a
 /// bucket are a stack of trees as for a skew-binary number (Myers, "An applicative random-access stack", 1983): each
 /// entry is the root of a tree, and its skip leads to the first entry behind that tree. So a walk by skips and links
-/// comes past n entries in O(log n) steps, and at most one more for each of them that was far from the one before it.
+/// comes past n entries in O(log n) steps, and at most three more for each of them that is far from the one before it.
 #[derive(Clone, Copy)]
 pub struct Entry {
     pub hash: u32,
@@ -46,27 +50,38 @@ fn follow(entries: &[Entry], link: u32) -> Option<Entry>
     entries.get(at).copied()
 }
 
-// The mention as the entry `at`, the last of a bucket whose last one `earlier` led to. Where of the two trees in front the
-// second is not the higher one, it is the root of both, and else it is a tree of its own, as it is behind a far entry.
-fn behind(entries: &[Entry], at: usize, earlier: u32, mention: Mention) -> Entry
-    ensures mention { mention_of result ≡ mention }
-    ensures earlier { result.earlier ≡ earlier }
-{
-    let first = if at.saturating_sub(earlier as usize) < FAR {
-        follow(entries, earlier)
-    } else {
-        None
+// Whether one link leads to an entry that is far from the later one which the other leads to.
+fn is_far(later: u32, earlier: u32) -> bool {
+    later.saturating_sub(earlier) >= FAR
+}
+
+// The skip and the height of the entry that `own` leads to, where `earlier` leads to the last entry of its bucket. Its
+// tree takes in the two trees in front where the second is not the higher one. Behind a far entry it takes in none, and
+// a lone entry in front of a far one is taken in alone: so no far entry of a key that is seldom mentioned is looked at.
+fn skip_of(entries: &[Entry], own: u32, earlier: u32) -> (u32, u8) {
+    if is_far(own, earlier) {
+        return (earlier, 0);
+    }
+    let Some(first) = follow(entries, earlier) else {
+        return (earlier, 0);
     };
-    let second = match first {
-        Some(first) => follow(entries, first.skip),
-        None => None,
-    };
-    let (skip, height) = match (first, second) {
-        (Some(first), Some(second)) if second.height <= first.height => {
+    if first.height == 0 && is_far(earlier, first.skip) {
+        return (first.skip, 1);
+    }
+    match follow(entries, first.skip) {
+        Some(second) if second.height <= first.height && first.height < TALLEST => {
             (second.skip, first.height.saturating_add(1))
         }
         _ => (earlier, 0),
-    };
+    }
+}
+
+// The mention as the entry that the link `own` leads to, the last of a bucket whose last one `earlier` led to.
+fn behind(entries: &[Entry], own: u32, earlier: u32, mention: Mention) -> Entry
+    ensures mention { mention_of result ≡ mention }
+    ensures earlier { result.earlier ≡ earlier }
+{
+    let (skip, height) = skip_of(entries, own, earlier);
     Entry {
         hash: mention.hash,
         node: mention.node,
@@ -86,8 +101,9 @@ pub fn link(heads: &mut [u32], entries: &mut [Entry], at: usize)
 {
     let mention = entries[at].mention();
     let place = bucket(mention.hash, heads.len());
-    entries[at] = behind(entries, at, heads[place], mention);
-    heads[place] = at as u32 + 1;
+    let own = at as u32 + 1;
+    entries[at] = behind(entries, own, heads[place], mention);
+    heads[place] = own;
 }
 
 /// Links every entry anew.
@@ -139,6 +155,7 @@ pub fn seek(heads: &[u32], entries: &[Entry], hash: u32, bound: u32) -> u32
             return entry.node;
         }
         cursor = if entry.node > bound
+            && entry.skip != entry.earlier
             && leads_past(entries, entry.skip, cursor, bound, place, heads.len())
         {
             entry.skip
