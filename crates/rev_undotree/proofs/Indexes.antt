@@ -1,5 +1,5 @@
 -- The index leads to each node that stands: as nodes are noted, and as the tree changes.
-use Rattle.std.proofs.Common.{◌≡◌, ℕ, suc, zero, ◌-◌, ◌<◌, ◌≤◌, Bool, true, false, is_some, eqb, List, [], ◌∷◌, ◌++◌, length, take, reverse, get_or, slice_get, refl, ap, sym, ◌∙◌, subst, arith, Option, Some, None, IfNone, IfSome, ◌⊎◌, inl, inr, ⊎_elim}
+use Rattle.std.proofs.Common.{◌≡◌, ℕ, suc, zero, ◌-◌, ◌<◌, ◌≤◌, Bool, true, false, is_some, eqb, List, [], ◌∷◌, ◌++◌, length, take, reverse, get_or, slice_get, refl, ap, sym, ◌∙◌, subst, arith, Option, Some, None, ◌⊎◌, inl, inr, ⊎_elim}
 use Rattle.std.proofs.Math.ListN.{get_or-append}
 use Rattle.std.proofs.Math.Seq.{get_or-append_seam}
 use Rattle.std.proofs.lemmas.List.{append-nil, length-append, length-reverse, length_push, reverse-append, take-append-le, take_all}
@@ -12,6 +12,7 @@ use Rattle.rev_undotree.specs.Paths.{IsPath}
 use Rattle.rev_undotree.specs.Finds.{Fitted, IsMissing, IsElsewhere}
 use Rattle.rev_undotree.specs.Index.{PlainIndex, branch_of, leaving_of, then_up, ups, way_to, next_branch, next_leaving, noted, forgotten}
 use Rattle.rev_undotree.specs.Leading.{LeadsTo, IsClosed, IsIndex, Notes, noted_along, noted_off}
+use Rattle.rev_undotree.specs.Forks.{way_into}
 use Rattle.rev_undotree.proofs.Growth.{length_rows}
 use Rattle.rev_undotree.proofs.Positions.{Proper-zero, number_at-same}
 use Rattle.rev_undotree.proofs.Fits.{path_proper, fitted_way}
@@ -158,11 +159,9 @@ closed_noted : (i : PlainIndex) (n : ℕ) (f : Option Junction) → IsClosed i �
 closed_noted i n f c = record { named = closed_named i n f c; left = closed_left i n f c }
 
 -- what the code notes, and where it goes
-pub noted_code : (i j : PlainIndex) (n m : ℕ) (w v : List Junction) (f : Option Junction) (here end forks : ℕ) → j ≡ noted i m f → m ≡ n → IfNone f (here ≡ end) → IfSome f (λ p. p ≡ record { taken = here; fork = forks }) → IfSome f (λ p. here ≡ end → ⊥) → (here ≡ end → v ≡ w) → ((here ≡ end → ⊥) → v ≡ w ++ record { taken = here; fork = forks } ∷ []) → Notes i n w j v
-noted_code i j n m w v None here end forks ej em x y z along off =
-    subst (λ a. Notes i n w a v) (sym (ej ∙ ap (λ a. noted i a None) em)) (subst (λ a. Notes i n w (noted i n None) a) (sym (along x)) noted_along)
-noted_code i j n m w v (Some p) here end forks ej em x y z along off =
-    subst (λ a. Notes i n w a v) (sym (ej ∙ ap (λ a. noted i a (Some p)) em)) (subst (λ a. Notes i n w (noted i n (Some p)) a) (sym (off z ∙ ap (λ a. w ++ a ∷ []) (sym y))) (noted_off p))
+pub noted_code : (i j : PlainIndex) (n m : ℕ) (w v : List Junction) (f : Option Junction) → j ≡ noted i m f → m ≡ n → v ≡ way_into w f → Notes i n w j v
+noted_code i j n m w v None ej em ev = subst (λ a. Notes i n w a v) (sym (ej ∙ ap (λ a. noted i a None) em)) (subst (λ a. Notes i n w (noted i n None) a) (sym ev) noted_along)
+noted_code i j n m w v (Some p) ej em ev = subst (λ a. Notes i n w a v) (sym (ej ∙ ap (λ a. noted i a (Some p)) em)) (subst (λ a. Notes i n w (noted i n (Some p)) a) (sym ev) (noted_off p))
 
 pub record Noting (i : PlainIndex) (n issued : ℕ) (j : PlainIndex) (v : List Junction) : Type 0 where
   pub fork : Option Junction

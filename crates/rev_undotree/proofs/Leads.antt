@@ -1,10 +1,14 @@
 -- The way to a branch, walked from the branch up.
-use Rattle.std.proofs.Common.{◌≡◌, ℕ, suc, zero, ◌-◌, ◌<◌, ◌≤◌, List, [], ◌∷◌, ◌++◌, length, reverse, take, drop, refl, ap, sym, ◌∙◌, arith, append_assoc, None, Some, true, false, eqb-true, eq-eqb, ⊎_elim}
+use Rattle.std.proofs.Common.{◌≡◌, ℕ, Bool, cond, eqb, suc, zero, ◌-◌, ◌<◌, ◌≤◌, List, [], ◌∷◌, ◌++◌, length, reverse, take, drop, refl, ap, sym, ◌∙◌, arith, append_assoc, None, Some, true, false, eqb-true, eq-eqb, Option, ⊎_elim}
 use Rattle.std.proofs.Math.Seq.{take-length, drop-length}
 use Rattle.std.proofs.lemmas.List.{append-nil, length_push}
+use Rattle.std.proofs.lemmas.Bool.Decides.{nat_tests}
 use Rattle.std.specs.List.{refill}
 use Rattle.std.specs.Bool.{◌==◌}
 use Rattle.rev_undotree.proofs.Finds.{less_or_same}
+use Rattle.rev_undotree.specs.Tree.{PlainBranch, count}
+use Rattle.rev_undotree.specs.Places.{placed}
+use Rattle.rev_undotree.specs.Forks.{next_fork}
 use Rattle.rev_undotree.specs.Index.{PlainIndex, branch_of, leaving_of, then_up, ups, way_to}
 use Rattle.rev_undotree.specs.declared.junction.Junction.{Junction}
 use Rattle.rev_undotree.specs.declared.index.Leaving.{Leaving}
@@ -61,3 +65,41 @@ is_less n m h l = ⊎_elim (λ z. z) (λ e. let t = eq-eqb n m e in cc) (less_or
 
 pub is_same : (n m : ℕ) → true ≡ (n == m) → m ≤ n
 is_same n m h = let e = eqb-true n m (sym h) in omega (arith, e)
+
+-- whether a play forks, as the code asks the branch that it reached
+eqb-apart : (n m : ℕ) → (n ≡ m → ⊥) → eqb n m ≡ false
+eqb-apart n m h = grind (arith, nat_tests)
+
+abbrev off_at : PlainBranch → ℕ → Option Junction
+off_at b k = Some (record { taken = k; fork = count b.forks })
+
+pub asked_along : (a b : PlainBranch) (k n : ℕ) → a ≡ placed 0 b → n ≡ length a.run → k ≡ n → ◌≡◌ {A = Option Junction} None (next_fork b k)
+asked_along a b k n e l h =
+    let t : eqb k (length b.run) ≡ true = eq-eqb k (length b.run) (h ∙ l ∙ ap (λ (z : PlainBranch). length z.run) e) in
+    sym (ap (λ z. cond z None (off_at b k)) t)
+
+pub asked_off : (a b : PlainBranch) (k n m : ℕ) → a ≡ placed 0 b → n ≡ length a.run → (k ≡ n → ⊥) → m ≡ count a.forks → ◌≡◌ {A = Option Junction} (Some (record { taken = k; fork = m })) (next_fork b k)
+asked_off a b k n m e l h f =
+    let t : eqb k (length b.run) ≡ false = eqb-apart k (length b.run) (λ z. h (z ∙ sym (l ∙ ap (λ (y : PlainBranch). length y.run) e))) in
+    ap (λ z. let y : Junction = record { taken = k; fork = z } in Some y) (f ∙ ap (λ (z : PlainBranch). count z.forks) e) ∙ sym (ap (λ z. cond z None (off_at b k)) t)
+
+-- what it says that a play does not fork, or where it does
+not_some : {X : Type 0} (x : X) → Some x ≡ None → ⊥
+not_some x e = cc
+
+some_inj : {X : Type 0} (x y : X) → Some x ≡ Some y → x ≡ y
+some_inj x y e = cc
+
+pub next_along : (b : PlainBranch) (k : ℕ) → ◌≡◌ {A = Option Junction} None (next_fork b k) → k ≡ length b.run
+next_along b k e = go (eqb k (length b.run)) refl e
+  where
+    go : (t : Bool) → eqb k (length b.run) ≡ t → None ≡ cond t None (off_at b k) → k ≡ length b.run
+    go true s f = eqb-true k (length b.run) s
+    go false s f = absurd (not_some _ (sym f))
+
+pub next_off : (b : PlainBranch) (k : ℕ) (j : Junction) → Some j ≡ next_fork b k → (j ≡ record { taken = k; fork = count b.forks }) × (k ≡ length b.run → ⊥)
+next_off b k j e = go (eqb k (length b.run)) refl e
+  where
+    go : (t : Bool) → eqb k (length b.run) ≡ t → Some j ≡ cond t None (off_at b k) → (j ≡ record { taken = k; fork = count b.forks }) × (k ≡ length b.run → ⊥)
+    go true s f = absurd (not_some _ f)
+    go false s f = (some_inj j _ f, λ h. let u = eq-eqb k (length b.run) h in cc)

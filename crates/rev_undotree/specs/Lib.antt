@@ -12,6 +12,7 @@ pub mod Positions
 pub mod Paths
 pub mod Order
 pub mod Finds
+pub mod Forks
 pub mod Machine
 pub mod Faults
 pub mod Trips

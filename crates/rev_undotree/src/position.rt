@@ -8,6 +8,7 @@ ghost use Rattle.rev_undotree.specs.States.{rewind};
 ghost use Rattle.rev_undotree.specs.Paths.{IsPath, IsOnWay};
 ghost use Rattle.rev_undotree.specs.Finds.{Rises, Fitted, Placed, IsMissing};
 ghost use Rattle.rev_undotree.specs.Leading.{LeadsTo, Notes};
+ghost use Rattle.rev_undotree.specs.Forks.{next_fork, way_into};
 ghost use Rattle.rev_undotree.specs.Positions.{Stands, Moved, Grown, Proper, Below, depth};
 ghost use Rattle.rev_undotree.specs.Trails.{cut};
 ghost use Rattle.rev_undotree.specs.Trips.{Trip};
@@ -199,16 +200,16 @@ impl<A: Allocator> Position<A> {
     // Where a node that is played below the position leaves the run, if it does.
     fn next_fork(&self) -> Option<Junction>
         requires { IsWay self.now.base self.now.way.items }
-        ensures none { IfNone result (self.now.here ≡ length (reach self.now.base self.now.way.items).run) }
-        ensures some { IfSome result (λ j. j ≡ record { taken = self.now.here; fork = count (reach self.now.base self.now.way.items).forks }) }
-        ensures amid { IfSome result (λ j. self.now.here ≡ length (reach self.now.base self.now.way.items).run → ⊥) }
+        ensures fork { result ≡ next_fork (reach self.now.base self.now.way.items) self.now.here }
+        ensures small { length (reach self.now.base self.now.way.items).run < 2 ^ 63 }
     {
-        if self.is_last() {
+        let branch = self.base.reach(self.way.as_slice());
+        if self.here == branch.len() {
             return None;
         }
         Some(Junction {
             taken: self.here,
-            fork: self.base.reach(self.way.as_slice()).fork_count(),
+            fork: branch.fork_count(),
         })
     }
 
@@ -233,7 +234,7 @@ impl<A: Allocator> Position<A> {
         let parent = self.number();
         let fork = self.next_fork();
         self.index.note(parent, fork)?;
-        match self.hang(alloc, node) {
+        match self.hang(alloc, fork, node) {
             Ok(()) => Ok(()),
             Err(_) => {
                 self.index.forget(fork.is_some());
@@ -242,35 +243,43 @@ impl<A: Allocator> Position<A> {
         }
     }
 
-    // Adds the node that is held out to the tree below the position and moves to it. Err: a growth was refused, and the node
-    // is still there.
-    fn hang(&mut self, alloc: &A, node: &mut Node<A>) -> Result<(), AllocError>
+    // Adds the node that is held out to the tree below the position, in a new fork or along the run, and moves to it.
+    // Err: a growth was refused, and the node is still there.
+    fn hang(
+        &mut self,
+        alloc: &A,
+        fork: Option<Junction>,
+        node: &mut Node<A>,
+    ) -> Result<(), AllocError>
     where
         A: Clone,
         requires way { IsWay self.old.base self.old.way.items }
         requires proper { Proper self.old.way.items self.old.here }
         requires room { (self.old.here ≡ length (reach self.old.base self.old.way.items).run) ⊎ (length self.old.way.items < 64) }
+        requires fork { fork ≡ next_fork (reach self.old.base self.old.way.items) self.old.here }
+        requires small { length (reach self.old.base self.old.way.items).run < 2 ^ 63 }
         requires node { IsSome node.old }
         ensures ok { OnOk result ((n : PlainNode) → node.old ≡ Some n → (root before : State) → Stands root before self.old.base self.old.way.items self.old.here → self.old.store ≡ next before n.step → Undoes n.undo before n.step → n.outcome ≡ outcome_of before n.step → Grown root self.old.base self.old.way.items self.old.here self.new.store self.new.base self.new.way.items self.new.here n.number n.step (eqb self.old.here (length (reach self.old.base self.old.way.items).run))) }
         ensures err { OnErr result ((self.new.store ≡ self.old.store) × (self.new.base ≡ self.old.base) × (self.new.way ≡ self.old.way) × (self.new.here ≡ self.old.here)) }
-        ensures along { OnOk result (self.old.here ≡ length (reach self.old.base self.old.way.items).run → self.new.way.items ≡ self.old.way.items) }
-        ensures off { OnOk result ((self.old.here ≡ length (reach self.old.base self.old.way.items).run → ⊥) → self.new.way.items ≡ self.old.way.items ++ record { taken = self.old.here; fork = count (reach self.old.base self.old.way.items).forks } ∷ []) }
+        ensures way { OnOk result (self.new.way.items ≡ way_into self.old.way.items fork) }
         ensures index { self.new.index ≡ self.old.index }
         ensures taken { OnOk result (node.new ≡ None) }
         ensures returned { OnErr result (node.new ≡ node.old) }
     {
-        if self.is_last() {
-            self.base.extend(self.way.as_slice(), node)?;
-            self.here += 1;
-            return Ok(());
+        match fork {
+            None => {
+                self.base.extend(self.way.as_slice(), node)?;
+                self.here += 1;
+                Ok(())
+            }
+            Some(junction) => {
+                self.base
+                    .split(self.way.as_slice(), alloc, junction.taken, node)?;
+                self.way.push(junction);
+                self.here = 1;
+                Ok(())
+            }
         }
-        let fork = self.base.reach(self.way.as_slice()).fork_count();
-        self.base
-            .split(self.way.as_slice(), alloc, self.here, node)?;
-        let taken = self.here;
-        self.way.push(Junction { taken, fork });
-        self.here = 1;
-        Ok(())
     }
 
     /// Whether the position is the one at `at` behind `target`, or further on.

@@ -1,6 +1,4 @@
-use Rattle.std.proofs.Common.{length, ◌∙◌, ap}
-use Rattle.rev_undotree.specs.Tree.{count}
-use Rattle.rev_undotree.specs.Ways.{reach}
+use Rattle.std.proofs.Common.{◌∙◌, ap}
 use Rattle.rev_undotree.specs.Index.{noted, forgotten}
 use Rattle.rev_undotree.proofs.Indexes.{noted_code, forgotten_noted}
 use Rattle.rev_undotree.proofs.position.Position.grow.Goals as goal
@@ -8,9 +6,8 @@ use Rattle.rev_undotree.proofs.position.Position.grow.Goals as goal
 pub returns-in-Ok-clause-notes : goal.returns-in-Ok-clause-notes
 returns-in-Ok-clause-notes g c =
     let i = c.args.self.now in
-    let fork = c.next_fork-fork.result in
-    noted_code i.index c.hang.new.self.index _ c.number-parent.result i.way.items c.hang.new.self.way.items fork i.here (length (reach i.base i.way.items).run) (count (reach i.base i.way.items).forks)
-    (c.in-Ok.ensures.index ∙ c.in_ok-note.ensures.ok) c.number-parent.ensures c.next_fork-fork.ensures.none c.next_fork-fork.ensures.some c.next_fork-fork.ensures.amid c.in-Ok.ensures.along c.in-Ok.ensures.off
+    noted_code i.index c.hang.new.self.index _ c.number-parent.result i.way.items c.hang.new.self.way.items c.next_fork-fork.result
+    (c.in-Ok.ensures.index ∙ c.in_ok-note.ensures.ok) c.number-parent.ensures c.in-Ok.ensures.way
 
 pub returns-in-Err-clause-index : goal.returns-in-Err-clause-index
 returns-in-Err-clause-index g c =
