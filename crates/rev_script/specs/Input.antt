@@ -2,5 +2,5 @@
 use Rattle.rev_script.specs.Line.{PlainInput}
 use Rattle.rev_script.specs.declared.input.Input.{Input}
 
-abbrev pub input_of : {S : Type 0} → Input S → PlainInput
+abbrev pub input_of : {S A : Type 0} → Input S A → PlainInput
 input_of i = record { bytes = i.bytes; dialect = i.dialect; passes = i.passes }

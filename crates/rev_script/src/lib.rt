@@ -2,7 +2,8 @@
 //!
 //! [`lines::Lines`] gives one line after another, a storage line with its data block. What the lines
 //! of some bytes are is a function of the whole list of bytes; however a source cuts it into pieces,
-//! the same lines come. [`source::Source`] is the reader that all of this reads from, and
+//! the same lines come. [`dialect::Dialect`] says what has to stand behind the data of a block.
+//! [`source::Source`] is the reader that all of this reads from, and
 //! [`source::FromRead`] makes one of any `std::io::Read`. The grammar, in `grammar` and the modules
 //! that it uses, looks at a line by itself, without the data block that may follow it.
 #![tactic(auto)]

@@ -31,7 +31,7 @@ use crate::raw_line::{MOST_KEPT, first_feed, pass_line, read_text};
 use crate::source::Source;
 use crate::words::{few_words, few_words_in, word, words};
 use arrayvec::ArrayVec;
-use rev_items::Key;
+use rev_items::{Filler, Key};
 use rev_requests::Payload;
 use std::alloc::{AllocError, Allocator};
 use std::marker::Model;
@@ -205,18 +205,22 @@ fn asked_line<A: Allocator + Clone>(alloc: A, body: &[u8]) -> Result<Asked<A>, A
 }
 
 // The data of a storage line, from what was kept of its data block.
-fn payload_of<A: Allocator + Clone>(size: u32, kept: Vec<u8, A>) -> Result<Payload<A>, AllocError>
+fn payload_of<A: Allocator + Clone>(
+    filler: &mut Filler<A>,
+    size: u32,
+    kept: Vec<u8, A>,
+) -> Result<Payload<A>, AllocError>
     ensures { IfOk result (λ payload. plain_payload payload ≡ (if nat_lt 1048576 size then Skipped size else Bytes kept.items)) }
 {
     if size > MOST_DATA {
         return Ok(Payload::Skipped(size));
     }
-    Payload::from_vec(kept)
+    Ok(Payload::Bytes(filler.data(kept)?))
 }
 
 // Takes a storage line's data block, and makes the line.
 fn storage_line<S: Source, A: Allocator + Clone>(
-    input: &mut Input<S>,
+    input: &mut Input<S, A>,
     alloc: A,
     command: StorageCommand,
     key: Key<A>,
@@ -240,7 +244,7 @@ fn storage_line<S: Source, A: Allocator + Clone>(
             answer: BadAnswer::BadChunk,
         });
     }
-    let payload = match payload_of(size, kept) {
+    let payload = match payload_of(&mut input.filler, size, kept) {
         Err(_) => return Err(LineFault::Memory),
         Ok(payload) => payload,
     };
@@ -260,7 +264,7 @@ fn two_handles<A: Allocator + Clone>(text: &Vec<u8, A>) -> Result<(A, A), AllocE
 
 // Reads a line whose LF is perhaps not read yet, through its data block.
 fn copied_line<S: Source, A: Allocator + Clone>(
-    input: &mut Input<S>,
+    input: &mut Input<S, A>,
     text: &mut Vec<u8, A>,
 ) -> Result<Option<Line<A>>, LineFault>
     requires { input.old.passes ≡ false }
@@ -313,7 +317,7 @@ fn copied_line<S: Source, A: Allocator + Clone>(
 
 // Takes a line whose LF stands at this place of the bytes at the front, and its data block: a line of any number of words.
 fn many_at_hand<S: Source, A: Allocator + Clone>(
-    input: &mut Input<S>,
+    input: &mut Input<S, A>,
     text: &Vec<u8, A>,
     i: usize,
 ) -> Result<Option<Line<A>>, LineFault>
@@ -352,7 +356,7 @@ fn many_at_hand<S: Source, A: Allocator + Clone>(
 // Takes a line whose LF stands at this place of the bytes at the front, and its data block. A line of few words is looked at
 // where it lies.
 fn line_at_hand<S: Source, A: Allocator + Clone>(
-    input: &mut Input<S>,
+    input: &mut Input<S, A>,
     text: &Vec<u8, A>,
     i: usize,
 ) -> Result<Option<Line<A>>, LineFault>
@@ -422,7 +426,7 @@ fn line_at_hand<S: Source, A: Allocator + Clone>(
 
 // Reads a line that begins at the next byte, through its data block. One that was read whole, as most are, is not copied.
 fn line_here<S: Source, A: Allocator + Clone>(
-    input: &mut Input<S>,
+    input: &mut Input<S, A>,
     text: &mut Vec<u8, A>,
 ) -> Result<Option<Line<A>>, LineFault>
     requires { input.old.passes ≡ false }
@@ -445,7 +449,7 @@ fn line_here<S: Source, A: Allocator + Clone>(
 
 // Passes over the rest of a line, and reads the line behind it.
 fn line_behind_rest<S: Source, A: Allocator + Clone>(
-    input: &mut Input<S>,
+    input: &mut Input<S, A>,
     text: &mut Vec<u8, A>,
 ) -> Result<Option<Line<A>>, LineFault>
     requires { input.old.passes ≡ true }
@@ -464,7 +468,7 @@ fn line_behind_rest<S: Source, A: Allocator + Clone>(
 
 // Reads the next line, through its data block.
 fn next_line<S: Source, A: Allocator + Clone>(
-    input: &mut Input<S>,
+    input: &mut Input<S, A>,
     text: &mut Vec<u8, A>,
 ) -> Result<Option<Line<A>>, LineFault>
     ensures ok { IfOk result (λ line. IsNext (input_of input.old) (input_of input.new) (option_map view line)) }
@@ -481,7 +485,7 @@ fn next_line<S: Source, A: Allocator + Clone>(
 /// The lines of a script, from a source that gives its bytes in pieces of any size.
 #[derive(Drop)]
 pub struct Lines<S: Source, A: Allocator> {
-    input: Input<S>,
+    input: Input<S, A>,
     text: Vec<u8, A>,
     fault: Option<LineFault>,
 }
@@ -515,6 +519,7 @@ impl<S: Source, A: Allocator + Clone> Lines<S, A> {
                 bytes: ByteReader::over(source),
                 dialect,
                 passes: false,
+                filler: Filler::new(),
             },
             text: Vec::new(alloc),
             fault: None,
