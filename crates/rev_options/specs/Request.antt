@@ -1,5 +1,5 @@
 -- What holds of a request that was read.
-use Rattle.std.specs.Prelude.{ℤ, pos, negsuc, Bool, true, nat_eq, ◌≡◌, ◌≤◌, length}
+use Rattle.std.specs.Prelude.{ℕ, ℤ, pos, negsuc, Bool, true, nat_eq, ◌≡◌, ◌≤◌, length, IfSome}
 use Rattle.rev_options.specs.declared.Request.{Request}
 use Rattle.rev_options.specs.declared.Request.TheVariants.{Run, Record}
 
@@ -8,7 +8,11 @@ abbrev pub is_temp_ttl : ℤ → Bool
 is_temp_ttl (pos n) = true
 is_temp_ttl (negsuc n) = nat_eq n 0
 
--- a time to live that there is, and for a recording one to eight files
+-- bytes of a heap that may be asked for: from a page of the machine's memory to 1 GiB
+abbrev pub IsHeap : ℕ → Type 0
+IsHeap bytes = (4096 ≤ bytes) × (bytes ≤ 1073741824)
+
+-- a time to live that there is; for a run a heap that may be asked for, where one is; for a recording one to eight files
 abbrev pub IsInRange : Request → Type 0
-IsInRange (Run config) = is_temp_ttl config.temp_ttl ≡ true
+IsInRange (Run config heap) = (is_temp_ttl config.temp_ttl ≡ true) × IfSome heap IsHeap
 IsInRange (Record config files) = (is_temp_ttl config.temp_ttl ≡ true) × (1 ≤ length files.items) × (length files.items ≤ 8)

@@ -1,8 +1,8 @@
 //! The command line of `lrudb`: which words ask for what.
 #![tactic(auto)]
 
-ghost use Rattle.std.specs.Prelude.{◌≡◌, ◌≤◌, length, IfOk, true};
-ghost use Rattle.rev_options.specs.Request.{IsInRange, is_temp_ttl};
+ghost use Rattle.std.specs.Prelude.{◌≡◌, ◌≤◌, length, IfOk, IfSome, true};
+ghost use Rattle.rev_options.specs.Request.{IsInRange, IsHeap, is_temp_ttl};
 
 use clap::error::ErrorKind;
 use clap::{Arg, ArgAction, ArgMatches, Command, Error, value_parser};
@@ -16,11 +16,17 @@ const NEVER: i32 = -1;
 /// The most files that are played at once, each by an actor (this project's own figure).
 pub const MOST_FILES: usize = 8;
 
+/// The least bytes of a heap that may be asked for (this project's own figure).
+pub const MIN_HEAP: usize = 4096;
+
+/// The most bytes of a heap that may be asked for: 1 GiB (this project's own figure).
+pub const MAX_HEAP: usize = 1073741824;
+
 /// What a command line asks for.
 #[derive(Debug, Drop)]
 pub enum Request {
-    /// Run the script of the standard input.
-    Run { config: Config },
+    /// Run the script of the standard input. With `heap`, all that the run keeps lies in one heap of so many bytes.
+    Run { config: Config, heap: Option<usize> },
     /// Play the scripts of one to eight files at once, each as an actor.
     Record { config: Config, files: Vec<String> },
 }
@@ -119,11 +125,21 @@ fn with_config<'a>(alloc: Global, command: Command<'a>) -> Result<Command<'a>, A
     command.arg(temp_ttl(alloc))
 }
 
+fn heap<'a>(alloc: Global) -> Arg<'a> {
+    Arg::new(alloc, "heap")
+        .long("heap")
+        .value_name("BYTES")
+        .value_parser(value_parser!(usize).range(4096..=1073741824))
+        .help(
+            "All that the run keeps lies in one heap of so many bytes: 4096 to 1073741824 [without it: no such limit]",
+        )
+}
+
 fn run_command<'a>(alloc: Global) -> Result<Command<'a>, AllocError> {
     let run = Command::new(alloc, "run").about(
         "Runs a script from the standard input, and answers each line",
     );
-    with_config(alloc, run)
+    with_config(alloc, run)?.arg(heap(alloc))
 }
 
 fn files<'a>(alloc: Global) -> Arg<'a> {
@@ -183,6 +199,27 @@ fn config_of(matches: &ArgMatches<'_>) -> Config
     }
 }
 
+// The bytes of the heap that is asked for, none where none is, or the parser's error.
+fn heap_of(alloc: Global, matches: &ArgMatches<'_>) -> Result<Option<usize>, Error>
+    ensures { IfOk result (λ heap. IfSome heap IsHeap) }
+{
+    match matches.get_one("heap") {
+        None => Ok(None),
+        Some(bytes) if MIN_HEAP <= bytes && bytes <= MAX_HEAP => Ok(Some(bytes)),
+        // The parser has looked at the range, and its contracts do not say so.
+        Some(_) => Err(fault(alloc, ErrorKind::ValueValidation, "run: no such heap")?),
+    }
+}
+
+// The run that the words ask for, or the parser's error.
+fn run(alloc: Global, matches: &ArgMatches<'_>) -> Result<Request, Error>
+    ensures { IfOk result IsInRange }
+{
+    let config = config_of(matches);
+    let heap = heap_of(alloc, matches)?;
+    Ok(Request::Run { config, heap })
+}
+
 // The names of the files, in order.
 fn files_of(alloc: Global, matches: &ArgMatches<'_>) -> Result<Vec<String>, AllocError> {
     let mut files = Vec::new(alloc);
@@ -220,8 +257,7 @@ fn request_of(alloc: Global, matches: &ArgMatches<'_>) -> Result<Request, Error>
     ensures { IfOk result IsInRange }
 {
     if let Some(inner) = matches.subcommand_matches("run") {
-        let config = config_of(inner);
-        return Ok(Request::Run { config });
+        return run(alloc, inner);
     }
     if let Some(inner) = matches.subcommand_matches("record") {
         return recording(alloc, inner);
