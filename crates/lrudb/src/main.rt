@@ -1,6 +1,7 @@
 //! The program `lrudb`: its words and the standard streams are handed over.
 #![tactic(auto)]
 
+use rev_output::ToWrite;
 use rev_program::program::program;
 use std::process::ExitCode;
 use std::rt::Env;
@@ -30,7 +31,7 @@ fn main(rt: HostRuntime) -> ExitCode {
         words.as_slice(),
         rt.stdin(),
         rt.stdout(),
-        &mut rt.stderr(),
+        &mut ToWrite::new(rt.stderr()),
     );
     ExitCode::from(status)
 }

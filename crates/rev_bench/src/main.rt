@@ -13,6 +13,7 @@ mod words;
 use crate::script::Script;
 use crate::tally::{Sink, Tally};
 use crate::words::Asked;
+use rev_output::ToWrite;
 use rev_program::Stop;
 use rev_program::program::run_script;
 use std::alloc::Global;
@@ -43,7 +44,7 @@ fn run(alloc: Global, asked: Asked, bytes: &Cell<u64>, tally: &Cell<Tally>) -> R
     let Ok(script) = Script::new(alloc, job, seed, bytes) else {
         return Err(Stop::Memory);
     };
-    run_script(alloc, config, script, Sink::new(tally))
+    run_script(alloc, config, None, script, Sink::new(tally))
 }
 
 fn main(rt: HostRuntime) -> ExitCode {
@@ -55,7 +56,7 @@ fn main(rt: HostRuntime) -> ExitCode {
     let bytes = Cell::new(0);
     let tally = Cell::new(Tally::new());
     if let Err(stop) = run(rt.alloc(), asked, &bytes, &tally) {
-        let _ = stop.tell(&mut rt.stderr());
+        let _ = stop.tell(&mut ToWrite::new(rt.stderr()));
         return ExitCode::from(stop.status());
     }
     let read = bytes.get();

@@ -1,15 +1,41 @@
--- What the status of a recording tells of how it ended.
-use Rattle.std.proofs.Common.{◌≡◌, ◌≢◌, ℕ, Result, Ok, Err, IsErr, OnOk, IfErr, MatchResult, refl, ◌∙◌}
+-- What the status tells of how the program ended.
+use Rattle.std.proofs.Common.{◌≡◌, ◌≢◌, ◌⊎◌, inl, inr, ℕ, Bool, List, Option, String, Result, Ok, Err, IsErr, OnOk, IfErr, MatchResult, refl}
+use Rattle.std.specs.declared.alloc.Global.{Global}
+use Rattle.std.specs.Io.KnownBytes.{Keeps}
+use Rattle.rev_program.specs.Fault as fault
+use Rattle.rev_program.specs.Program.{StopsBy, FailsBy, EndsEarly, EndsUnwritten}
+use Rattle.rev_program.specs.Recordings.{EndedBy, HasNoRows}
+use Rattle.rev_program.specs.Stop as stop
+use Rattle.rev_program.specs.Telling.{Told}
+use Rattle.rev_program.specs.declared.fault.RecordingFault.{RecordingFault}
+use Rattle.rev_program.specs.declared.fault.RecordingFault.TheVariants.{CannotWrite}
+use Rattle.rev_program.specs.declared.stop.Stop.{Stop}
 
-module _ {F : Type 0} (status : F → ℕ) where
-  pub rows_of : (r : Result (Unit {0}) F) (n : ℕ) (X : Type 0) → OnOk r X → (IsErr r → n ≢ 0) → n ≡ 0 → X
-  rows_of (Ok t) n X done some e = done
-  rows_of (Err f) n X done some e = absurd (some refl e)
+-- only what ended well has the status 0
+pub rows_of : {F : Type 0} (r : Result (Unit {0}) F) (n : ℕ) (X : Type 0) → OnOk r X → (IsErr r → n ≢ 0) → n ≡ 0 → X
+rows_of (Ok t) n X done some e = done
+rows_of (Err f) n X done some e = absurd (some refl e)
 
-  pub why_of : (r : Result (Unit {0}) F) (n : ℕ) (P : F → Type 0) → MatchResult r (λ _. n ≡ 0) (λ f. n ≡ status f) → IfErr r P → n ≢ 0 → (e : F) × (n ≡ status e) × P e
-  why_of (Ok t) n P is why some = absurd (some is)
-  why_of (Err f) n P is why some = (f, is, why)
+module _ (told tells : Option (List ℕ)) (failed : Bool) where
+  pub no_rows_of : {F : Type 0} (remaining : F → Option (List ℕ)) (files : List (String Global × F)) (old new : Option (List ℕ)) (r : Result (Unit {0}) RecordingFault) (n : ℕ) →
+      MatchResult r (λ _. n ≡ 0) (λ f. n ≡ fault.status f) → IfErr r (λ e. EndedBy remaining files e) → IfErr r (λ e. e ≢ CannotWrite → Keeps old new) → IfErr r (λ e. Told told tells failed (fault.text e)) →
+      n ≢ 0 → (e : RecordingFault) × HasNoRows remaining files old new told tells failed n e
+  no_rows_of remaining files old new (Ok t) n is why kept text some = absurd (some is)
+  no_rows_of remaining files old new (Err f) n is why kept text some = (f, record { why = why; status_is = is; text_is = text; unwritten = kept })
 
-  pub none_of : (r : Result (Unit {0}) F) (n : ℕ) (X : Type 0) → MatchResult r (λ _. n ≡ 0) (λ f. n ≡ status f) → IfErr r (λ e. status e ≢ 4 → X) → n ≢ 0 → n ≢ 4 → X
-  none_of (Ok t) n X is why some other = absurd (some is)
-  none_of (Err f) n X is why some other = why (λ e. other (is ∙ e))
+  pub stopped_of : (r : Result (Unit {0}) Stop) (n : ℕ) →
+      MatchResult r (λ _. n ≡ 0) (λ s. n ≡ stop.status s) → IfErr r (λ s. Told told tells failed (stop.text s)) → n ≢ 0 → (s : Stop) × StopsBy told tells failed n s
+  stopped_of (Ok t) n is text some = absurd (some is)
+  stopped_of (Err s) n is text some = (s, record { status_is = is; text_is = text })
+
+  -- a recording of files, seen by the one who opened them
+  pub files_end : {F : Type 0} (remaining : F → Option (List ℕ)) (files : List (String Global × F)) (old new : Option (List ℕ)) (n : ℕ) →
+      ((e : RecordingFault) × HasNoRows remaining files old new told tells failed n e) → EndsUnwritten told tells failed n old new
+  files_end remaining files old new n h = inr (h.0, record { status_is = h.1.status_is; text_is = h.1.text_is }, h.1.unwritten)
+
+  -- what was written left aside
+  pub early_of : (old new : Option (List ℕ)) (n : ℕ) → EndsUnwritten told tells failed n old new → EndsEarly told tells failed n
+  early_of old new n h = elim h [
+    | inl s ↦ inl (s.0, s.1)
+    | inr e ↦ inr (e.0, e.1)
+  ]

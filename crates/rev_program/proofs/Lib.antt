@@ -2,3 +2,4 @@ pub mod Reading
 pub mod Logs
 mod Scripts
 mod Ends
+mod Parts

@@ -1,9 +1,9 @@
 -- A whole recording: what the files ask for, what was played, and what is printed of it.
-use Rattle.std.specs.Prelude.{ℕ, ◌≡◌, ◌⊎◌, List, [], ◌∷◌, ◌++◌, length, map, All, codes, Option, None, Some, Result, String}
+use Rattle.std.specs.Prelude.{ℕ, Bool, ◌≡◌, ◌≢◌, ◌⊎◌, List, [], ◌∷◌, ◌++◌, length, map, All, codes, Option, None, Some, Result, String}
 use Rattle.std.specs.List.{zip}
 use Rattle.std.specs.Global.{Vec}
 use Rattle.std.specs.declared.alloc.Global.{Global}
-use Rattle.std.specs.Io.KnownBytes.{Consumes, Appends}
+use Rattle.std.specs.Io.KnownBytes.{Consumes, Appends, Keeps}
 use Rattle.rev_model.specs.Actor as model
 use Rattle.rev_requests.specs.declared.steps.Step.{Step}
 use Rattle.rev_requests.specs.Plain.{plain_step}
@@ -17,6 +17,8 @@ use Rattle.rev_recorder.specs.Settling.{AreNew, IsLegalLog}
 use Rattle.rev_shell.specs.Texts.{output}
 use Rattle.rev_script.specs.Steps.{all_steps, IsFirstOther}
 use Rattle.rev_script.specs.declared.dialect.Dialect.TheVariants.{CrLf}
+use Rattle.rev_program.specs.Fault.{status, text}
+use Rattle.rev_program.specs.Telling.{Told}
 use Rattle.rev_program.specs.Rows.{rows_text, ends_text, IsEnd}
 use Rattle.rev_program.specs.declared.fault.RecordingFault.{RecordingFault}
 use Rattle.rev_program.specs.declared.fault.RecordingFault.TheVariants.{NotAStep, CannotRead, TooLong, Memory, CannotWrite, LogDiffers}
@@ -104,3 +106,11 @@ pub record IsRecorded {F : Type 0} (remaining : F → Option (List ℕ)) (files 
   pub stopped : List ℕ
   pub played : IsPlayed scripts log session stopped
   pub wrote : Appends old new (recording_text log session stopped)
+
+-- the recording ended without its rows: the status and what the user was told are those of the reason, and nothing was written but where a
+-- write failed
+pub record HasNoRows {F : Type 0} (remaining : F → Option (List ℕ)) (files : List (String Global × F)) (old new told tells : Option (List ℕ)) (failed : Bool) (result : ℕ) (e : RecordingFault) : Type 0 where
+  pub why : EndedBy remaining files e
+  pub status_is : result ≡ status e
+  pub text_is : Told told tells failed (text e)
+  pub unwritten : e ≢ CannotWrite → Keeps old new

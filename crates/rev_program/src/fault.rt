@@ -1,11 +1,13 @@
 //! Why a recording ends without rows, in the words and statuses that its user sees.
-ghost use Rattle.std.specs.Prelude.{◌≡◌, ◌≢◌, OnOk, IsErr, Some, MatchResult};
+ghost use Rattle.std.specs.Prelude.{◌≡◌, ◌≢◌, OnOk, OnErr, IfErr, IsErr, MatchResult, true};
 ghost use Rattle.std.specs.Io.KnownBytes.{Appends, Keeps};
 ghost use Rattle.rev_program.specs.Fault.{status, text, IsStatus, fault_of};
+ghost use Rattle.rev_program.specs.Telling.{Told};
 
 use crate::steps::ScriptFault;
-use std::io::Write;
-use std::{fmt, io};
+use crate::telling::tell_parts;
+use itoa::Buffer;
+use rev_output::{Sink, WriteFailed};
 
 /// Why a recording ends without rows.
 #[derive(Debug, Drop)]
@@ -50,38 +52,40 @@ impl RecordingFault {
         }
     }
 
-    /// Writes what the user is told.
-    pub fn tell<E: Write>(&self, errors: &mut E) -> io::Result<()>
-        ensures { OnOk result (Appends (E.contents errors.old) (E.contents errors.new) (text self.now)) }
+    /// Writes what the user is told. At an error a front of it was written.
+    pub fn tell<E: Sink>(&self, errors: &mut E) -> Result<(), WriteFailed>
+        ensures told { Told (E.contents errors.old) (E.contents errors.new) (E.has_failed errors.new) (text self.now) }
+        ensures ok { OnOk result (Appends (E.contents errors.old) (E.contents errors.new) (text self.now)) }
+        ensures err { OnErr result (E.has_failed errors.new ≡ true) }
     {
-        write!(errors, "{self}")
-    }
-}
-
-impl fmt::Display for RecordingFault {
-    ghost output = { λ s. Some (text s) };
-
-    fn fmt<W: fmt::Write>(&self, f: &mut fmt::Formatter<W>) -> fmt::Result {
         match self {
             RecordingFault::NotAStep { file, line } => {
-                write!(f, "lrudb: {file}: line ")?;
-                write!(f, "{line}: not a step\n")
+                let mut number = Buffer::new();
+                let digits = number.format(*line);
+                let file = file.as_str();
+                tell_parts(
+                    errors,
+                    &["lrudb: ", file, ": line ", digits, ": not a step\n"],
+                )
             }
-            RecordingFault::CannotRead { file } => write!(f, "lrudb: {file}: cannot read\n"),
-            RecordingFault::TooLong => f.write_str("lrudb: input too long\n"),
-            RecordingFault::Memory => f.write_str("lrudb: out of memory\n"),
-            RecordingFault::CannotWrite => f.write_str("lrudb: cannot write\n"),
-            RecordingFault::LogDiffers => f.write_str("lrudb: log differs\n"),
+            RecordingFault::CannotRead { file } => {
+                tell_parts(errors, &["lrudb: ", file.as_str(), ": cannot read\n"])
+            }
+            RecordingFault::TooLong => tell_parts(errors, &["lrudb: input too long\n"]),
+            RecordingFault::Memory => tell_parts(errors, &["lrudb: out of memory\n"]),
+            RecordingFault::CannotWrite => tell_parts(errors, &["lrudb: cannot write\n"]),
+            RecordingFault::LogDiffers => tell_parts(errors, &["lrudb: log differs\n"]),
         }
     }
 }
 
 /// The status of a recording that ended so. Where it has no rows its user is told why, and else nothing is told.
-pub fn ended<E: Write>(done: Result<(), RecordingFault>, errors: &mut E) -> u8
+pub fn ended<E: Sink>(done: Result<(), RecordingFault>, errors: &mut E) -> u8
     ensures status { MatchResult done (λ _. result ≡ 0) (λ fault. result ≡ status fault) }
     ensures zero { IsErr done → result ≢ 0 }
     ensures range { IsStatus result }
     ensures quiet { result ≡ 0 → Keeps (E.contents errors.old) (E.contents errors.new) }
+    ensures told { IfErr done (λ fault. Told (E.contents errors.old) (E.contents errors.new) (E.has_failed errors.new) (text fault)) }
 {
     match done {
         Ok(()) => 0,

@@ -8,6 +8,7 @@ pub mod program;
 mod rows;
 mod steps;
 mod stop;
+mod telling;
 
 pub use fault::RecordingFault;
 pub use stop::Stop;

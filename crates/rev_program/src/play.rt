@@ -6,15 +6,16 @@ ghost use Rattle.rev_classes.specs.Limits.{IsWithinLimits};
 ghost use Rattle.rev_requests.specs.Plain.{plain_step};
 ghost use Rattle.rev_recorder.specs.Hands.{Settles};
 ghost use Rattle.rev_recorder.specs.Settling.{AreNew, IsLegalLog};
-ghost use Rattle.rev_program.specs.Fault.{IsStatus, status};
+ghost use Rattle.rev_program.specs.Fault.{IsStatus};
 ghost use Rattle.rev_program.specs.Rows.{ends_text, IsEnd};
-ghost use Rattle.rev_program.specs.Recordings.{IsScript, AreScripts, Spoils, IsSpoilt, EndedBy, IsOfPlay, IsOfPrint, HaveRun, IsPlayed, IsRecorded, recording_text};
+ghost use Rattle.rev_program.specs.Recordings.{IsScript, AreScripts, Spoils, IsSpoilt, EndedBy, IsOfPlay, IsOfPrint, HaveRun, IsPlayed, IsRecorded, HasNoRows, recording_text};
 ghost use Rattle.rev_program.specs.declared.fault.RecordingFault.{RecordingFault};
 
 use crate::fault::{RecordingFault, ended};
 use crate::rows::{put_end, text_of};
 use crate::steps::read_steps;
 use rev_classes::Config;
+use rev_output::Sink;
 use rev_recorder::{Gate, Hand, RecordFault, Recorder, Settled, run_actors};
 use rev_requests::Step;
 use rev_script::dialect::Dialect;
@@ -209,7 +210,7 @@ fn play_scripts<R: Threads + Wait + Sync>(
 // Writes all that a recording prints, in one piece.
 fn print<W: Write>(played: Played, writer: &mut W) -> Result<(), RecordingFault>
     ensures ok { OnOk result (Appends (W.contents writer.old) (W.contents writer.new) (recording_text played.settled.log.items played.settled.session played.stopped.items)) }
-    ensures err { IfErr result (λ e. IsOfPrint e × (status e ≢ 4 → Keeps (W.contents writer.old) (W.contents writer.new))) }
+    ensures err { IfErr result (λ e. IsOfPrint e × (e ≢ RecordingFault.CannotWrite → Keeps (W.contents writer.old) (W.contents writer.new))) }
 {
     let Played { settled, stopped } = played;
     let text = text_of(settled.log.as_slice(), &settled.session, stopped);
@@ -237,7 +238,7 @@ fn record<R: Threads + Wait + Sync + AllocGlobal, F: Read + Drop, W: Write>(
     requires count { (1 ≤ length files.items) × (length files.items ≤ 8) }
     requires limits { IsWithinLimits config.now }
     ensures ok { OnOk result (IsRecorded F.remaining files.items (W.contents writer.old) (W.contents writer.new)) }
-    ensures err { IfErr result (λ e. status e ≢ 4 → Keeps (W.contents writer.old) (W.contents writer.new)) }
+    ensures err { IfErr result (λ e. e ≢ RecordingFault.CannotWrite → Keeps (W.contents writer.old) (W.contents writer.new)) }
     ensures why { IfErr result (λ e. EndedBy F.remaining files.items e) }
 {
     let scripts = read_files(rt.alloc(), files)?;
@@ -250,9 +251,10 @@ fn record<R: Threads + Wait + Sync + AllocGlobal, F: Read + Drop, W: Write>(
 
 /// `lrudb record` once its files are open, each a name and a reader: reads them in order and line by line, plays them at
 /// once, the i-th file from 0 as actor i, and writes the rows to `writer`. A file that is not steps from its first line to
-/// its last ends it before anything is played. Answers the exit status, 0, 3, 4, 5 or 6; what the user is told goes to
-/// `errors`, and nothing is told at status 0. Threads may wait for one another.
-pub fn play_files<R: Threads + Wait + Sync + AllocGlobal, F: Read + Drop, W: Write, E: Write>(
+/// its last ends it before anything is played. Answers the exit status, 0, 3, 4, 5 or 6. At status 0 nothing goes to
+/// `errors`; at any other the text of the reason does, whole where no write to `errors` has failed, and nothing is written
+/// to `writer` but where a write to it failed. Threads may wait for one another.
+pub fn play_files<R: Threads + Wait + Sync + AllocGlobal, F: Read + Drop, W: Write, E: Sink>(
     rt: &R,
     config: &Config,
     files: Vec<(String, F)>,
@@ -263,8 +265,8 @@ pub fn play_files<R: Threads + Wait + Sync + AllocGlobal, F: Read + Drop, W: Wri
     requires limits { IsWithinLimits config.now }
     ensures status { IsStatus result }
     ensures rows { result ≡ 0 → IsRecorded F.remaining files.items (W.contents writer.old) (W.contents writer.new) }
-    ensures why { result ≢ 0 → (e : RecordingFault) × (result ≡ status e) × EndedBy F.remaining files.items e }
-    ensures none { result ≢ 0 → result ≢ 4 → Keeps (W.contents writer.old) (W.contents writer.new) }
+    ensures fault { result ≢ 0 → (e : RecordingFault) × HasNoRows F.remaining files.items (W.contents writer.old) (W.contents writer.new)
+        (E.contents errors.old) (E.contents errors.new) (E.has_failed errors.new) result e }
     ensures quiet { result ≡ 0 → Keeps (E.contents errors.old) (E.contents errors.new) }
 {
     ended(record(rt, config, files, writer), errors)

@@ -1,16 +1,18 @@
 //! The whole program.
-ghost use Rattle.std.specs.Prelude.{◌≡◌, ◌≤◌, length, Err, IfOk, IfSome, MatchResult};
+ghost use Rattle.std.specs.Prelude.{◌≡◌, ◌≢◌, ◌≤◌, length, Err, IfOk, IfErr, IfSome, MatchResult};
 ghost use Rattle.std.specs.Io.KnownBytes.{Keeps};
 ghost use Rattle.rev_classes.specs.Limits.{IsWithinLimits, fault_of};
-ghost use Rattle.rev_program.specs.Program.{IsStatus};
-ghost use Rattle.rev_program.specs.Stop.{status, stop_of_config};
+ghost use Rattle.rev_program.specs.Program.{IsStatus, StopsBy, EndsEarly, EndsUnwritten};
+ghost use Rattle.rev_program.specs.Stop.{status, text, stop_of_config};
+ghost use Rattle.rev_program.specs.Telling.{Told};
 
 use crate::play::play_files;
 use crate::stop::Stop;
+use linked_list_allocator::LocalHeap;
 use rev_classes::{Config, fault_of};
 use rev_options::{Request, parse_words};
-use rev_output::ToWrite;
 use rev_output::exchange::{Exchange, Incoming, Outgoing};
+use rev_output::{Sink, ToWrite};
 use rev_script::dialect::Dialect;
 use rev_script::source::FromRead;
 use rev_shell::run::{RunFault, run_at_last};
@@ -23,10 +25,11 @@ use std::thread::Threads;
 use std::{fs, io};
 
 // The status of a program that ended so. Where it was stopped its user is told, and where it was not nothing is.
-fn ended<E: Write>(done: Result<(), Stop>, errors: &mut E) -> u8
+fn ended<E: Sink>(done: Result<(), Stop>, errors: &mut E) -> u8
     ensures status { MatchResult done (λ _. result ≡ 0) (λ stop. result ≡ status stop) }
     ensures range { IsStatus result }
     ensures quiet { result ≡ 0 → Keeps (E.contents errors.old) (E.contents errors.new) }
+    ensures told { IfErr done (λ stop. Told (E.contents errors.old) (E.contents errors.new) (E.has_failed errors.new) (text stop)) }
 {
     match done {
         Ok(()) => 0,
@@ -63,10 +66,29 @@ where
     }
 }
 
-/// Runs the script of the reader and writes its answers. A configuration at fault is told before anything is read.
+// Runs the script of the reader, with all that the run keeps in one heap of so many bytes.
+fn run_in_heap<I: Read + Drop, O: Write + Drop>(
+    alloc: Global,
+    bytes: usize,
+    config: &Config,
+    reader: I,
+    exchange: &Exchange<O>,
+) -> Result<(), Stop>
+    requires { IsWithinLimits config.now }
+{
+    let Ok(heap) = LocalHeap::new(alloc, bytes) else {
+        return Err(Stop::Memory);
+    };
+    run_in(&&heap, config, reader, exchange)
+}
+
+/// Runs the script of the reader and writes its answers. With `heap`, all that the run keeps lies in one heap of so many
+/// bytes, but for the buffers of the streams. A configuration at fault is told before anything is read and before the heap
+/// is made.
 pub fn run_script<I: Read + Drop, O: Write + Drop>(
     alloc: Global,
     config: Config,
+    heap: Option<usize>,
     reader: I,
     writer: O,
 ) -> Result<(), Stop>
@@ -81,7 +103,10 @@ pub fn run_script<I: Read + Drop, O: Write + Drop>(
     let Ok(incoming) = Incoming::new(alloc, reader, &exchange) else {
         return Err(Stop::Memory);
     };
-    run_in(&alloc, &config, incoming, &exchange)
+    match heap {
+        None => run_in(&alloc, &config, incoming, &exchange),
+        Some(bytes) => run_in_heap(alloc, bytes, &config, incoming, &exchange),
+    }
 }
 
 // The file of a name, opened to be read.
@@ -111,9 +136,10 @@ fn all_opened<R: Files>(
     Ok(files)
 }
 
-/// Plays the scripts of the files at once, each as an actor, and writes the rows. A configuration at fault is told before
-/// a file is opened, and a file that cannot be opened before one is read. Answers the exit status.
-pub fn record_files<R: Files + Threads + Wait + Sync + AllocGlobal, O: Write, E: Write>(
+// Plays the scripts of the files at once, each as an actor, and writes the rows. A configuration at fault is told before
+// a file is opened, and a file that cannot be opened before one is read. Answers the exit status, and tells as
+// `play_files` does.
+fn record_files<R: Files + Threads + Wait + Sync + AllocGlobal, O: Write, E: Sink>(
     rt: &R,
     config: Config,
     names: Vec<String>,
@@ -121,8 +147,10 @@ pub fn record_files<R: Files + Threads + Wait + Sync + AllocGlobal, O: Write, E:
     errors: &mut E,
 ) -> u8
     requires count { (1 ≤ length names.items) × (length names.items ≤ 8) }
-    ensures config { IfSome (fault_of config) (λ fault. result ≡ status (stop_of_config fault)) }
+    ensures config { IfSome (fault_of config) (λ fault. StopsBy (E.contents errors.old) (E.contents errors.new) (E.has_failed errors.new) result (stop_of_config fault)) }
     ensures status { IsStatus result }
+    ensures early { result ≢ 0 → EndsUnwritten (E.contents errors.old) (E.contents errors.new) (E.has_failed errors.new) result
+        (O.contents writer.old) (O.contents writer.new) }
     ensures quiet { result ≡ 0 → Keeps (E.contents errors.old) (E.contents errors.new) }
 {
     if let Some(fault) = fault_of(&config) {
@@ -136,22 +164,23 @@ pub fn record_files<R: Files + Threads + Wait + Sync + AllocGlobal, O: Write, E:
 
 /// The whole program: does what the words behind its name ask for, and answers its exit status, 0 or 2 to 6.
 ///
-/// Answers go to `writer`, what the user is told goes to `errors`, and nothing is told at status 0. The actors of a
-/// recording wait for one another.
+/// Answers go to `writer`. At status 0 nothing goes to `errors`; at any other the text of the reason does, whole where no
+/// write to `errors` has failed. The actors of a recording wait for one another.
 pub fn program<
     R: Files + Threads + Wait + Sync + AllocGlobal,
     S: AsStr,
     I: Read + Drop,
     O: Write + Drop,
-    E: Write,
+    E: Sink,
 >(rt: &R, words: &[S], reader: I, mut writer: O, errors: &mut E) -> u8
     ensures status { IsStatus result }
+    ensures early { result ≢ 0 → EndsEarly (E.contents errors.old) (E.contents errors.new) (E.has_failed errors.new) result }
     ensures quiet { result ≡ 0 → Keeps (E.contents errors.old) (E.contents errors.new) }
 {
     match parse_words(rt.alloc(), words) {
         Err(refused) => ended(Err(Stop::from(refused)), errors),
-        Ok(Request::Run { config }) => {
-            ended(run_script(rt.alloc(), config, reader, writer), errors)
+        Ok(Request::Run { config, heap }) => {
+            ended(run_script(rt.alloc(), config, heap, reader, writer), errors)
         }
         Ok(Request::Record { config, files }) => {
             record_files(rt, config, files, &mut writer, errors)

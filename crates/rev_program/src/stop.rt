@@ -1,13 +1,14 @@
 //! Why the program ends before all is done, in the words and statuses that its user sees.
-ghost use Rattle.std.specs.Prelude.{◌≡◌, ◌≢◌, OnOk, Some};
+ghost use Rattle.std.specs.Prelude.{◌≡◌, ◌≢◌, OnOk, OnErr, true};
 ghost use Rattle.std.specs.Io.KnownBytes.{Appends};
 ghost use Rattle.rev_program.specs.Stop.{status, text, stop_of_config, stop_of_run};
+ghost use Rattle.rev_program.specs.Telling.{Told};
 
+use crate::telling::tell_parts;
 use rev_classes::ConfigFault;
 use rev_options::Refused;
+use rev_output::{Sink, WriteFailed};
 use rev_shell::run::RunFault;
-use std::io::Write;
-use std::{fmt, io};
 
 /// Why the program ends before all is done.
 #[derive(Debug, Drop)]
@@ -42,29 +43,25 @@ impl Stop {
         }
     }
 
-    /// Writes what the user is told.
-    pub fn tell<E: Write>(&self, errors: &mut E) -> io::Result<()>
-        ensures { OnOk result (Appends (E.contents errors.old) (E.contents errors.new) (text self.now)) }
+    /// Writes what the user is told. At an error a front of it was written.
+    pub fn tell<E: Sink>(&self, errors: &mut E) -> Result<(), WriteFailed>
+        ensures told { Told (E.contents errors.old) (E.contents errors.new) (E.has_failed errors.new) (text self.now) }
+        ensures ok { OnOk result (Appends (E.contents errors.old) (E.contents errors.new) (text self.now)) }
+        ensures err { OnErr result (E.has_failed errors.new ≡ true) }
     {
-        write!(errors, "{self}")
-    }
-}
-
-impl fmt::Display for Stop {
-    ghost output = { λ s. Some (text s) };
-
-    fn fmt<W: fmt::Write>(&self, f: &mut fmt::Formatter<W>) -> fmt::Result {
         match self {
-            Stop::Usage(text) => f.write_str(text.as_str()),
-            Stop::BadPage => f.write_str("lrudb: bad configuration: page\n"),
-            Stop::BadFactor => f.write_str("lrudb: bad configuration: factor\n"),
-            Stop::TooManyClasses => f.write_str("lrudb: bad configuration: classes\n"),
-            Stop::BadLimit => f.write_str("lrudb: bad configuration: limit\n"),
-            Stop::Memory => f.write_str("lrudb: out of memory\n"),
-            Stop::CannotRead => f.write_str("lrudb: cannot read\n"),
-            Stop::CannotOpen(name) => write!(f, "lrudb: {name}: cannot read\n"),
-            Stop::CannotWrite => f.write_str("lrudb: cannot write\n"),
-            Stop::TooLong => f.write_str("lrudb: input too long\n"),
+            Stop::Usage(text) => tell_parts(errors, &[text.as_str()]),
+            Stop::BadPage => tell_parts(errors, &["lrudb: bad configuration: page\n"]),
+            Stop::BadFactor => tell_parts(errors, &["lrudb: bad configuration: factor\n"]),
+            Stop::TooManyClasses => tell_parts(errors, &["lrudb: bad configuration: classes\n"]),
+            Stop::BadLimit => tell_parts(errors, &["lrudb: bad configuration: limit\n"]),
+            Stop::Memory => tell_parts(errors, &["lrudb: out of memory\n"]),
+            Stop::CannotRead => tell_parts(errors, &["lrudb: cannot read\n"]),
+            Stop::CannotOpen(name) => {
+                tell_parts(errors, &["lrudb: ", name.as_str(), ": cannot read\n"])
+            }
+            Stop::CannotWrite => tell_parts(errors, &["lrudb: cannot write\n"]),
+            Stop::TooLong => tell_parts(errors, &["lrudb: input too long\n"]),
         }
     }
 }

@@ -1,5 +1,6 @@
 //! What the program writes where, and its status, for words and streams.
 use crate::streams::{Narrow, Stutter};
+use rev_output::ToWrite;
 use rev_program::program::program;
 
 struct Case {
@@ -158,7 +159,13 @@ fn words(rt: HostRuntime) {
         let words = case.words;
         let mut output: Vec<u8> = Vec::new(rt.alloc());
         let mut errors: Vec<u8> = Vec::new(rt.alloc());
-        let status = program(&rt, words, case.input, &mut output, &mut errors);
+        let status = program(
+            &rt,
+            words,
+            case.input,
+            &mut output,
+            &mut ToWrite::new(&mut errors),
+        );
         let told = std::str::from_utf8(errors.as_slice()).unwrap_or("");
         assert!(rt;
             status == case.status
@@ -190,7 +197,7 @@ fn help(rt: HostRuntime) {
         &["run", "-h"],
         b"".as_slice(),
         &mut output,
-        &mut errors,
+        &mut ToWrite::new(&mut errors),
     );
     let told = std::str::from_utf8(errors.as_slice()).unwrap_or("");
     for option in &OPTIONS {
@@ -253,7 +260,13 @@ fn faulty_streams(rt: HostRuntime) {
             fails: true,
         };
         let mut errors: Vec<u8> = Vec::new(rt.alloc());
-        let status = program(&rt, &["run"], reader, &mut writer, &mut errors);
+        let status = program(
+            &rt,
+            &["run"],
+            reader,
+            &mut writer,
+            &mut ToWrite::new(&mut errors),
+        );
         assert!(rt;
             status == case.status
                 && writer.bytes.as_slice() == case.output.as_bytes()

@@ -1,6 +1,7 @@
 //! Files in memory, played at once.
 use crate::actors::streams::{File, Full, Lines};
 use rev_classes::{Config, fault_of};
+use rev_output::ToWrite;
 use rev_program::play::play_files;
 use std::io::{Read, Write};
 use std::process::Abort;
@@ -120,7 +121,7 @@ fn status_of<R: Threads + Wait + Sync + AllocGlobal + Abort, F: Read + Drop, W: 
     if let Some(fault) = fault_of(&CONFIG) {
         panic!(rt; "{fault}");
     }
-    play_files(rt, &CONFIG, files, writer, errors)
+    play_files(rt, &CONFIG, files, writer, &mut ToWrite::new(errors))
 }
 
 fn files_of<R: AllocGlobal + Abort>(

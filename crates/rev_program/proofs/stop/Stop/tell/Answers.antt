@@ -1,5 +1,69 @@
-use Rattle.std.proofs.Common.{rules}
 use Rattle.rev_program.proofs.stop.Stop.tell.Goals as goal
 
-pub returns : goal.returns
-returns g c = search rules steps 4000000
+pub returns-in-Usage-clause-told : goal.returns-in-Usage-clause-told
+returns-in-Usage-clause-told g c =
+    let t = rw c.as_str.ensures.value at c.tell_parts.ensures.told in
+    rw c.in-Usage.is t
+
+pub returns-in-BadPage-clause-told : goal.returns-in-BadPage-clause-told
+returns-in-BadPage-clause-told g c = rw c.in-BadPage.is c.tell_parts-in-BadPage.ensures.told
+
+pub returns-in-BadFactor-clause-told : goal.returns-in-BadFactor-clause-told
+returns-in-BadFactor-clause-told g c = rw c.in-BadFactor.is c.tell_parts-in-BadFactor.ensures.told
+
+pub returns-in-TooManyClasses-clause-told : goal.returns-in-TooManyClasses-clause-told
+returns-in-TooManyClasses-clause-told g c = rw c.in-TooManyClasses.is c.tell_parts-in-TooManyClasses.ensures.told
+
+pub returns-in-BadLimit-clause-told : goal.returns-in-BadLimit-clause-told
+returns-in-BadLimit-clause-told g c = rw c.in-BadLimit.is c.tell_parts-in-BadLimit.ensures.told
+
+pub returns-in-Memory-clause-told : goal.returns-in-Memory-clause-told
+returns-in-Memory-clause-told g c = rw c.in-Memory.is c.tell_parts-in-Memory.ensures.told
+
+pub returns-in-CannotRead-clause-told : goal.returns-in-CannotRead-clause-told
+returns-in-CannotRead-clause-told g c = rw c.in-CannotRead.is c.tell_parts-in-CannotRead.ensures.told
+
+pub returns-in-CannotWrite-clause-told : goal.returns-in-CannotWrite-clause-told
+returns-in-CannotWrite-clause-told g c = rw c.in-CannotWrite.is c.tell_parts-in-CannotWrite.ensures.told
+
+pub returns-in-TooLong-clause-told : goal.returns-in-TooLong-clause-told
+returns-in-TooLong-clause-told g c = rw c.in-TooLong.is c.tell_parts-in-TooLong.ensures.told
+
+pub returns-in-CannotOpen-clause-told : goal.returns-in-CannotOpen-clause-told
+returns-in-CannotOpen-clause-told g c =
+    let t = rw c.as_str-in-CannotOpen.ensures.value at c.tell_parts-in-CannotOpen.ensures.told in
+    rw c.in-CannotOpen.is t
+
+pub returns-in-Usage-clause-ok : goal.returns-in-Usage-clause-ok
+returns-in-Usage-clause-ok g c =
+    let t = rw c.as_str.ensures.value at c.tell_parts.ensures.ok in
+    rw c.in-Usage.is t
+
+pub returns-in-BadPage-clause-ok : goal.returns-in-BadPage-clause-ok
+returns-in-BadPage-clause-ok g c = rw c.in-BadPage.is c.tell_parts-in-BadPage.ensures.ok
+
+pub returns-in-BadFactor-clause-ok : goal.returns-in-BadFactor-clause-ok
+returns-in-BadFactor-clause-ok g c = rw c.in-BadFactor.is c.tell_parts-in-BadFactor.ensures.ok
+
+pub returns-in-TooManyClasses-clause-ok : goal.returns-in-TooManyClasses-clause-ok
+returns-in-TooManyClasses-clause-ok g c = rw c.in-TooManyClasses.is c.tell_parts-in-TooManyClasses.ensures.ok
+
+pub returns-in-BadLimit-clause-ok : goal.returns-in-BadLimit-clause-ok
+returns-in-BadLimit-clause-ok g c = rw c.in-BadLimit.is c.tell_parts-in-BadLimit.ensures.ok
+
+pub returns-in-Memory-clause-ok : goal.returns-in-Memory-clause-ok
+returns-in-Memory-clause-ok g c = rw c.in-Memory.is c.tell_parts-in-Memory.ensures.ok
+
+pub returns-in-CannotRead-clause-ok : goal.returns-in-CannotRead-clause-ok
+returns-in-CannotRead-clause-ok g c = rw c.in-CannotRead.is c.tell_parts-in-CannotRead.ensures.ok
+
+pub returns-in-CannotWrite-clause-ok : goal.returns-in-CannotWrite-clause-ok
+returns-in-CannotWrite-clause-ok g c = rw c.in-CannotWrite.is c.tell_parts-in-CannotWrite.ensures.ok
+
+pub returns-in-TooLong-clause-ok : goal.returns-in-TooLong-clause-ok
+returns-in-TooLong-clause-ok g c = rw c.in-TooLong.is c.tell_parts-in-TooLong.ensures.ok
+
+pub returns-in-CannotOpen-clause-ok : goal.returns-in-CannotOpen-clause-ok
+returns-in-CannotOpen-clause-ok g c =
+    let t = rw c.as_str-in-CannotOpen.ensures.value at c.tell_parts-in-CannotOpen.ensures.ok in
+    rw c.in-CannotOpen.is t
