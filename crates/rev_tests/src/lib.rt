@@ -11,6 +11,10 @@ mod classes;
 #[cfg(test)]
 mod dialects;
 #[cfg(test)]
+mod endless;
+#[cfg(test)]
+mod heaps;
+#[cfg(test)]
 mod memory;
 #[cfg(test)]
 mod mentions;

@@ -177,7 +177,7 @@ fn words(rt: HostRuntime) {
 }
 
 // What each option is called, in the help of `run`.
-static OPTIONS: [&str; 8] = [
+static OPTIONS: [&str; 9] = [
     "--page-size <BYTES>",
     "--pages <COUNT>",
     "--num <NUMBER>",
@@ -186,6 +186,7 @@ static OPTIONS: [&str; 8] = [
     "--hash-power <POWER>",
     "--now <SECONDS>",
     "--temp-ttl <SECONDS>",
+    "--heap <BYTES>",
 ];
 
 #[test]
