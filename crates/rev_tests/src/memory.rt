@@ -2,6 +2,7 @@
 
 mod fillers;
 mod fixed;
+mod granted;
 mod growth;
 mod heap;
 mod parts;
