@@ -3,6 +3,7 @@ use Rattle.std.proofs.Common.{◌≡◌, ◌<◌, ℕ, zero, suc, ◌+◌, Bool,
 use Rattle.std.specs.Io.KnownBytes.{Appends}
 use Rattle.std.proofs.KnownBytes.{Appends-nil, Appends-trans}
 use Rattle.rev_output.specs.Sink.{WroteFront}
+use Rattle.rev_output.specs.Sink as failures
 use Rattle.std.specs.List.{concat}
 use Rattle.rev_program.specs.Telling.{Told, joined, joined_to}
 
@@ -43,16 +44,19 @@ one_more old now new part rest left all s e w = record {
 pub all_of : (old now : Option (List ℕ)) (rest all : List ℕ) → IsSoFar old now rest all → rest ≡ [] → Appends old now all
 all_of old now rest all s none = let e : s.front ≡ all = sym (append-nil s.front) ∙ ap (λ l. s.front ++ l) (sym none) ∙ s.all_is in subst (λ l. Appends old now l) e s.wrote
 
-pub told_all : (old now : Option (List ℕ)) (failed : Bool) (all : List ℕ) → Appends old now all → Told old now failed all
-told_all old now failed all w = record { front = (all, [], w, append-nil all); whole = λ _. w }
+one_more-differs : (n : ℕ) → failures.one_more n ≡ n → ⊥
+one_more-differs n e = omega (arith, e)
 
-pub told_front : (old now new : Option (List ℕ)) (failed : Bool) (part rest left all : List ℕ) → IsSoFar old now left all → left ≡ part ++ rest → WroteFront now new part → failed ≡ true → Told old new failed all
-told_front old now new failed part rest left all s e w bad = record {
+pub told_all : (old now : Option (List ℕ)) (before after : ℕ) (all : List ℕ) → Appends old now all → Told old now before after all
+told_all old now before after all w = record { front = (all, [], w, append-nil all); whole = λ _. w }
+
+pub told_front : (old now new : Option (List ℕ)) (before after : ℕ) (part rest left all : List ℕ) → IsSoFar old now left all → left ≡ part ++ rest → WroteFront now new part → after ≡ failures.one_more before → Told old new before after all
+told_front old now new before after part rest left all s e w bad = record {
   front = (
     s.front ++ w.0,
     w.1 ++ rest,
     Appends-trans old now new s.front w.0 s.wrote w.2,
     append_assoc s.front w.0 (w.1 ++ rest) ∙ ap (λ l. s.front ++ l) (sym (append_assoc w.0 w.1 rest) ∙ ap (λ l. l ++ rest) w.3 ∙ sym e) ∙ s.all_is,
   );
-  whole = λ good. let x : true ≡ false = sym bad ∙ good in absurd (cc x);
+  whole = λ good. absurd (one_more-differs before (sym bad ∙ good));
 }

@@ -1,5 +1,5 @@
 -- How the program may end.
-use Rattle.std.specs.Prelude.{◌≡◌, ◌≢◌, ◌≤◌, ◌⊎◌, ℕ, Bool, List, Option}
+use Rattle.std.specs.Prelude.{◌≡◌, ◌≢◌, ◌≤◌, ◌⊎◌, ℕ, List, Option}
 use Rattle.std.specs.Io.KnownBytes.{Keeps}
 use Rattle.rev_program.specs.Fault as fault
 use Rattle.rev_program.specs.Stop as stop
@@ -14,21 +14,21 @@ abbrev pub IsStatus : ℕ → Type 0
 IsStatus n = (n ≤ 6) × (n ≢ 1)
 
 -- the program was stopped so: this is its status, and its user was told why
-pub record StopsBy (told tells : Option (List ℕ)) (failed : Bool) (result : ℕ) (s : Stop) : Type 0 where
+pub record StopsBy (told tells : Option (List ℕ)) (before after : ℕ) (result : ℕ) (s : Stop) : Type 0 where
   pub status_is : result ≡ stop.status s
-  pub text_is : Told told tells failed (stop.text s)
+  pub text_is : Told told tells before after (stop.text s)
 
 -- a recording ended so: this is the status, and the user was told why
-pub record FailsBy (told tells : Option (List ℕ)) (failed : Bool) (result : ℕ) (e : RecordingFault) : Type 0 where
+pub record FailsBy (told tells : Option (List ℕ)) (before after : ℕ) (result : ℕ) (e : RecordingFault) : Type 0 where
   pub status_is : result ≡ fault.status e
-  pub text_is : Told told tells failed (fault.text e)
+  pub text_is : Told told tells before after (fault.text e)
 
 -- the program ended early: it was stopped, or its recording ended without rows
-abbrev pub EndsEarly : Option (List ℕ) → Option (List ℕ) → Bool → ℕ → Type 0
-EndsEarly told tells failed result = ((s : Stop) × StopsBy told tells failed result s) ⊎ ((e : RecordingFault) × FailsBy told tells failed result e)
+abbrev pub EndsEarly : Option (List ℕ) → Option (List ℕ) → ℕ → ℕ → ℕ → Type 0
+EndsEarly told tells before after result = ((s : Stop) × StopsBy told tells before after result s) ⊎ ((e : RecordingFault) × FailsBy told tells before after result e)
 
 -- the same, and nothing was written but where a write failed
-abbrev pub EndsUnwritten : Option (List ℕ) → Option (List ℕ) → Bool → ℕ → Option (List ℕ) → Option (List ℕ) → Type 0
-EndsUnwritten told tells failed result old new =
-    ((s : Stop) × StopsBy told tells failed result s × Keeps old new)
-    ⊎ ((e : RecordingFault) × FailsBy told tells failed result e × (e ≢ CannotWrite → Keeps old new))
+abbrev pub EndsUnwritten : Option (List ℕ) → Option (List ℕ) → ℕ → ℕ → ℕ → Option (List ℕ) → Option (List ℕ) → Type 0
+EndsUnwritten told tells before after result old new =
+    ((s : Stop) × StopsBy told tells before after result s × Keeps old new)
+    ⊎ ((e : RecordingFault) × FailsBy told tells before after result e × (e ≢ CannotWrite → Keeps old new))

@@ -109,8 +109,8 @@ pub record IsRecorded {F : Type 0} (remaining : F → Option (List ℕ)) (files 
 
 -- the recording ended without its rows: the status and what the user was told are those of the reason, and nothing was written but where a
 -- write failed
-pub record HasNoRows {F : Type 0} (remaining : F → Option (List ℕ)) (files : List (String Global × F)) (old new told tells : Option (List ℕ)) (failed : Bool) (result : ℕ) (e : RecordingFault) : Type 0 where
+pub record HasNoRows {F : Type 0} (remaining : F → Option (List ℕ)) (files : List (String Global × F)) (old new told tells : Option (List ℕ)) (before after : ℕ) (result : ℕ) (e : RecordingFault) : Type 0 where
   pub why : EndedBy remaining files e
   pub status_is : result ≡ status e
-  pub text_is : Told told tells failed (text e)
+  pub text_is : Told told tells before after (text e)
   pub unwritten : e ≢ CannotWrite → Keeps old new

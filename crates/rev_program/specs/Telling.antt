@@ -1,5 +1,5 @@
 -- What the user was told.
-use Rattle.std.specs.Prelude.{◌≡◌, ℕ, Bool, false, List, [], ◌∷◌, ◌++◌, Option}
+use Rattle.std.specs.Prelude.{◌≡◌, ℕ, List, [], ◌∷◌, ◌++◌, Option}
 use Rattle.std.specs.Io.KnownBytes.{Appends}
 use Rattle.rev_output.specs.Sink.{WroteFront}
 
@@ -13,7 +13,7 @@ abbrev pub joined : List (List ℕ) → List ℕ
 joined [] = []
 joined (x ∷ xs) = joined_to x xs
 
--- a front of the text was written; where no write of it failed, the whole text, and nothing else
-pub record Told (old new : Option (List ℕ)) (failed : Bool) (text : List ℕ) : Type 0 where
+-- a front of the text was written; where as many writes have failed as before, the whole text, and nothing else
+pub record Told (old new : Option (List ℕ)) (before after : ℕ) (text : List ℕ) : Type 0 where
   pub front : WroteFront old new text
-  pub whole : failed ≡ false → Appends old new text
+  pub whole : after ≡ before → Appends old new text

@@ -1,7 +1,8 @@
 //! Why a recording ends without rows, in the words and statuses that its user sees.
-ghost use Rattle.std.specs.Prelude.{◌≡◌, ◌≢◌, OnOk, OnErr, IfErr, IsErr, MatchResult, true};
+ghost use Rattle.std.specs.Prelude.{◌≡◌, ◌≢◌, OnOk, OnErr, IfErr, IsErr, MatchResult};
 ghost use Rattle.std.specs.Io.KnownBytes.{Appends, Keeps};
 ghost use Rattle.rev_program.specs.Fault.{status, text, IsStatus, fault_of};
+ghost use Rattle.rev_output.specs.Sink.{one_more};
 ghost use Rattle.rev_program.specs.Telling.{Told};
 
 use crate::steps::ScriptFault;
@@ -54,9 +55,9 @@ impl RecordingFault {
 
     /// Writes what the user is told. At an error a front of it was written.
     pub fn tell<E: Sink>(&self, errors: &mut E) -> Result<(), WriteFailed>
-        ensures told { Told (E.contents errors.old) (E.contents errors.new) (E.has_failed errors.new) (text self.now) }
+        ensures told { Told (E.contents errors.old) (E.contents errors.new) (E.failures errors.old) (E.failures errors.new) (text self.now) }
         ensures ok { OnOk result (Appends (E.contents errors.old) (E.contents errors.new) (text self.now)) }
-        ensures err { OnErr result (E.has_failed errors.new ≡ true) }
+        ensures err { OnErr result (E.failures errors.new ≡ one_more (E.failures errors.old)) }
     {
         match self {
             RecordingFault::NotAStep { file, line } => {
@@ -85,7 +86,7 @@ pub fn ended<E: Sink>(done: Result<(), RecordingFault>, errors: &mut E) -> u8
     ensures zero { IsErr done → result ≢ 0 }
     ensures range { IsStatus result }
     ensures quiet { result ≡ 0 → Keeps (E.contents errors.old) (E.contents errors.new) }
-    ensures told { IfErr done (λ fault. Told (E.contents errors.old) (E.contents errors.new) (E.has_failed errors.new) (text fault)) }
+    ensures told { IfErr done (λ fault. Told (E.contents errors.old) (E.contents errors.new) (E.failures errors.old) (E.failures errors.new) (text fault)) }
 {
     match done {
         Ok(()) => 0,

@@ -266,7 +266,7 @@ pub fn play_files<R: Threads + Wait + Sync + AllocGlobal, F: Read + Drop, W: Wri
     ensures status { IsStatus result }
     ensures rows { result ≡ 0 → IsRecorded F.remaining files.items (W.contents writer.old) (W.contents writer.new) }
     ensures fault { result ≢ 0 → (e : RecordingFault) × HasNoRows F.remaining files.items (W.contents writer.old) (W.contents writer.new)
-        (E.contents errors.old) (E.contents errors.new) (E.has_failed errors.new) result e }
+        (E.contents errors.old) (E.contents errors.new) (E.failures errors.old) (E.failures errors.new) result e }
     ensures quiet { result ≡ 0 → Keeps (E.contents errors.old) (E.contents errors.new) }
 {
     ended(record(rt, config, files, writer), errors)

@@ -29,7 +29,7 @@ fn ended<E: Sink>(done: Result<(), Stop>, errors: &mut E) -> u8
     ensures status { MatchResult done (λ _. result ≡ 0) (λ stop. result ≡ status stop) }
     ensures range { IsStatus result }
     ensures quiet { result ≡ 0 → Keeps (E.contents errors.old) (E.contents errors.new) }
-    ensures told { IfErr done (λ stop. Told (E.contents errors.old) (E.contents errors.new) (E.has_failed errors.new) (text stop)) }
+    ensures told { IfErr done (λ stop. Told (E.contents errors.old) (E.contents errors.new) (E.failures errors.old) (E.failures errors.new) (text stop)) }
 {
     match done {
         Ok(()) => 0,
@@ -147,9 +147,9 @@ fn record_files<R: Files + Threads + Wait + Sync + AllocGlobal, O: Write, E: Sin
     errors: &mut E,
 ) -> u8
     requires count { (1 ≤ length names.items) × (length names.items ≤ 8) }
-    ensures config { IfSome (fault_of config) (λ fault. StopsBy (E.contents errors.old) (E.contents errors.new) (E.has_failed errors.new) result (stop_of_config fault)) }
+    ensures config { IfSome (fault_of config) (λ fault. StopsBy (E.contents errors.old) (E.contents errors.new) (E.failures errors.old) (E.failures errors.new) result (stop_of_config fault)) }
     ensures status { IsStatus result }
-    ensures early { result ≢ 0 → EndsUnwritten (E.contents errors.old) (E.contents errors.new) (E.has_failed errors.new) result
+    ensures early { result ≢ 0 → EndsUnwritten (E.contents errors.old) (E.contents errors.new) (E.failures errors.old) (E.failures errors.new) result
         (O.contents writer.old) (O.contents writer.new) }
     ensures quiet { result ≡ 0 → Keeps (E.contents errors.old) (E.contents errors.new) }
 {
@@ -174,7 +174,7 @@ pub fn program<
     E: Sink,
 >(rt: &R, words: &[S], reader: I, mut writer: O, errors: &mut E) -> u8
     ensures status { IsStatus result }
-    ensures early { result ≢ 0 → EndsEarly (E.contents errors.old) (E.contents errors.new) (E.has_failed errors.new) result }
+    ensures early { result ≢ 0 → EndsEarly (E.contents errors.old) (E.contents errors.new) (E.failures errors.old) (E.failures errors.new) result }
     ensures quiet { result ≡ 0 → Keeps (E.contents errors.old) (E.contents errors.new) }
 {
     match parse_words(rt.alloc(), words) {

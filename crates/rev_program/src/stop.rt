@@ -1,7 +1,8 @@
 //! Why the program ends before all is done, in the words and statuses that its user sees.
-ghost use Rattle.std.specs.Prelude.{◌≡◌, ◌≢◌, OnOk, OnErr, true};
+ghost use Rattle.std.specs.Prelude.{◌≡◌, ◌≢◌, OnOk, OnErr};
 ghost use Rattle.std.specs.Io.KnownBytes.{Appends};
 ghost use Rattle.rev_program.specs.Stop.{status, text, stop_of_config, stop_of_run};
+ghost use Rattle.rev_output.specs.Sink.{one_more};
 ghost use Rattle.rev_program.specs.Telling.{Told};
 
 use crate::telling::tell_parts;
@@ -45,9 +46,9 @@ impl Stop {
 
     /// Writes what the user is told. At an error a front of it was written.
     pub fn tell<E: Sink>(&self, errors: &mut E) -> Result<(), WriteFailed>
-        ensures told { Told (E.contents errors.old) (E.contents errors.new) (E.has_failed errors.new) (text self.now) }
+        ensures told { Told (E.contents errors.old) (E.contents errors.new) (E.failures errors.old) (E.failures errors.new) (text self.now) }
         ensures ok { OnOk result (Appends (E.contents errors.old) (E.contents errors.new) (text self.now)) }
-        ensures err { OnErr result (E.has_failed errors.new ≡ true) }
+        ensures err { OnErr result (E.failures errors.new ≡ one_more (E.failures errors.old)) }
     {
         match self {
             Stop::Usage(text) => tell_parts(errors, &[text.as_str()]),
