@@ -23,14 +23,6 @@ struct Case {
     stages: &'static [Stage],
 }
 
-const fn stage(bytes: &'static str, waiting: &'static str, ended: &'static str) -> Stage {
-    Stage {
-        bytes,
-        waiting,
-        ended,
-    }
-}
-
 const BAD: &str = "CLIENT_ERROR bad data chunk\r\n";
 
 static CASES: [Case; 9] = [
@@ -38,114 +30,254 @@ static CASES: [Case; 9] = [
         name: "LF behind the data",
         dialect: Dialect::AnyFeed,
         stages: &[
-            stage("set a 0 0 ", "", "ERROR\r\n"),
-            stage("2\nhi", "", BAD),
-            stage("\n", "STORED\r\n", "STORED\r\n"),
-            stage("get ", "STORED\r\n", "STORED\r\nERROR\r\n"),
-            stage("a", "STORED\r\n", "STORED\r\nVALUE a 0 2\r\nhi\r\nEND\r\n"),
-            stage(
-                "\n",
-                "STORED\r\nVALUE a 0 2\r\nhi\r\nEND\r\n",
-                "STORED\r\nVALUE a 0 2\r\nhi\r\nEND\r\n",
-            ),
+            Stage {
+                bytes: "set a 0 0 ",
+                waiting: "",
+                ended: "ERROR\r\n",
+            },
+            Stage {
+                bytes: "2\nhi",
+                waiting: "",
+                ended: BAD,
+            },
+            Stage {
+                bytes: "\n",
+                waiting: "STORED\r\n",
+                ended: "STORED\r\n",
+            },
+            Stage {
+                bytes: "get ",
+                waiting: "STORED\r\n",
+                ended: "STORED\r\nERROR\r\n",
+            },
+            Stage {
+                bytes: "a",
+                waiting: "STORED\r\n",
+                ended: "STORED\r\nVALUE a 0 2\r\nhi\r\nEND\r\n",
+            },
+            Stage {
+                bytes: "\n",
+                waiting: "STORED\r\nVALUE a 0 2\r\nhi\r\nEND\r\n",
+                ended: "STORED\r\nVALUE a 0 2\r\nhi\r\nEND\r\n",
+            },
         ],
     },
     Case {
         name: "CR LF behind the data",
         dialect: Dialect::AnyFeed,
         stages: &[
-            stage("set a 0 0 ", "", "ERROR\r\n"),
-            stage("2\r\nhi\r", "", BAD),
-            stage("\n", "STORED\r\n", "STORED\r\n"),
+            Stage {
+                bytes: "set a 0 0 ",
+                waiting: "",
+                ended: "ERROR\r\n",
+            },
+            Stage {
+                bytes: "2\r\nhi\r",
+                waiting: "",
+                ended: BAD,
+            },
+            Stage {
+                bytes: "\n",
+                waiting: "STORED\r\n",
+                ended: "STORED\r\n",
+            },
         ],
     },
     Case {
         name: "feeds and returns in the data",
         dialect: Dialect::AnyFeed,
         stages: &[
-            stage("set a 0 0 ", "", "ERROR\r\n"),
-            stage("4\n\n\r\n\r", "", BAD),
-            stage("\n", "STORED\r\n", "STORED\r\n"),
+            Stage {
+                bytes: "set a 0 0 ",
+                waiting: "",
+                ended: "ERROR\r\n",
+            },
+            Stage {
+                bytes: "4\n\n\r\n\r",
+                waiting: "",
+                ended: BAD,
+            },
+            Stage {
+                bytes: "\n",
+                waiting: "STORED\r\n",
+                ended: "STORED\r\n",
+            },
         ],
     },
     Case {
         name: "no data",
         dialect: Dialect::AnyFeed,
         stages: &[
-            stage("set a 0 0 ", "", "ERROR\r\n"),
-            stage("0\n", "", BAD),
-            stage("\n", "STORED\r\n", "STORED\r\n"),
+            Stage {
+                bytes: "set a 0 0 ",
+                waiting: "",
+                ended: "ERROR\r\n",
+            },
+            Stage {
+                bytes: "0\n",
+                waiting: "",
+                ended: BAD,
+            },
+            Stage {
+                bytes: "\n",
+                waiting: "STORED\r\n",
+                ended: "STORED\r\n",
+            },
         ],
     },
     Case {
         name: "another byte behind the data",
         dialect: Dialect::AnyFeed,
         stages: &[
-            stage("set a 0 0 ", "", "ERROR\r\n"),
-            stage("2\nhi", "", BAD),
-            stage("X get a\r more\n", BAD, BAD),
-            stage("get ", BAD, "CLIENT_ERROR bad data chunk\r\nERROR\r\n"),
-            stage("a", BAD, "CLIENT_ERROR bad data chunk\r\nEND\r\n"),
-            stage(
-                "\n",
-                "CLIENT_ERROR bad data chunk\r\nEND\r\n",
-                "CLIENT_ERROR bad data chunk\r\nEND\r\n",
-            ),
+            Stage {
+                bytes: "set a 0 0 ",
+                waiting: "",
+                ended: "ERROR\r\n",
+            },
+            Stage {
+                bytes: "2\nhi",
+                waiting: "",
+                ended: BAD,
+            },
+            Stage {
+                bytes: "X get a\r more\n",
+                waiting: BAD,
+                ended: BAD,
+            },
+            Stage {
+                bytes: "get ",
+                waiting: BAD,
+                ended: "CLIENT_ERROR bad data chunk\r\nERROR\r\n",
+            },
+            Stage {
+                bytes: "a",
+                waiting: BAD,
+                ended: "CLIENT_ERROR bad data chunk\r\nEND\r\n",
+            },
+            Stage {
+                bytes: "\n",
+                waiting: "CLIENT_ERROR bad data chunk\r\nEND\r\n",
+                ended: "CLIENT_ERROR bad data chunk\r\nEND\r\n",
+            },
         ],
     },
     Case {
         name: "CR alone behind the data",
         dialect: Dialect::AnyFeed,
         stages: &[
-            stage("set a 0 0 ", "", "ERROR\r\n"),
-            stage("2\nhi\r", "", BAD),
-            stage("\r\n", BAD, BAD),
-            stage("get ", BAD, "CLIENT_ERROR bad data chunk\r\nERROR\r\n"),
-            stage("a", BAD, "CLIENT_ERROR bad data chunk\r\nEND\r\n"),
-            stage("\r\n", BAD, "CLIENT_ERROR bad data chunk\r\nEND\r\n"),
+            Stage {
+                bytes: "set a 0 0 ",
+                waiting: "",
+                ended: "ERROR\r\n",
+            },
+            Stage {
+                bytes: "2\nhi\r",
+                waiting: "",
+                ended: BAD,
+            },
+            Stage {
+                bytes: "\r\n",
+                waiting: BAD,
+                ended: BAD,
+            },
+            Stage {
+                bytes: "get ",
+                waiting: BAD,
+                ended: "CLIENT_ERROR bad data chunk\r\nERROR\r\n",
+            },
+            Stage {
+                bytes: "a",
+                waiting: BAD,
+                ended: "CLIENT_ERROR bad data chunk\r\nEND\r\n",
+            },
+            Stage {
+                bytes: "\r\n",
+                waiting: BAD,
+                ended: "CLIENT_ERROR bad data chunk\r\nEND\r\n",
+            },
         ],
     },
     Case {
         name: "two bad blocks, one behind the other",
         dialect: Dialect::AnyFeed,
         stages: &[
-            stage("set a 0 0 ", "", "ERROR\r\n"),
-            stage("0\n", "", BAD),
-            stage("X\n", BAD, BAD),
-            stage(
-                "set b 0 0 ",
-                BAD,
-                "CLIENT_ERROR bad data chunk\r\nERROR\r\n",
-            ),
-            stage(
-                "1\nb",
-                BAD,
-                "CLIENT_ERROR bad data chunk\r\nCLIENT_ERROR bad data chunk\r\n",
-            ),
-            stage(
-                "XX",
-                "CLIENT_ERROR bad data chunk\r\nCLIENT_ERROR bad data chunk\r\n",
-                "CLIENT_ERROR bad data chunk\r\nCLIENT_ERROR bad data chunk\r\n",
-            ),
+            Stage {
+                bytes: "set a 0 0 ",
+                waiting: "",
+                ended: "ERROR\r\n",
+            },
+            Stage {
+                bytes: "0\n",
+                waiting: "",
+                ended: BAD,
+            },
+            Stage {
+                bytes: "X\n",
+                waiting: BAD,
+                ended: BAD,
+            },
+            Stage {
+                bytes: "set b 0 0 ",
+                waiting: BAD,
+                ended: "CLIENT_ERROR bad data chunk\r\nERROR\r\n",
+            },
+            Stage {
+                bytes: "1\nb",
+                waiting: BAD,
+                ended: "CLIENT_ERROR bad data chunk\r\nCLIENT_ERROR bad data chunk\r\n",
+            },
+            Stage {
+                bytes: "XX",
+                waiting: "CLIENT_ERROR bad data chunk\r\nCLIENT_ERROR bad data chunk\r\n",
+                ended: "CLIENT_ERROR bad data chunk\r\nCLIENT_ERROR bad data chunk\r\n",
+            },
         ],
     },
     Case {
         name: "LF behind the data, where CR LF is due",
         dialect: Dialect::CrLf,
         stages: &[
-            stage("set a 0 0 ", "", "ERROR\r\n"),
-            stage("2\nhi\n", "", BAD),
-            stage("g", BAD, BAD),
-            stage("et ", BAD, "CLIENT_ERROR bad data chunk\r\nERROR\r\n"),
+            Stage {
+                bytes: "set a 0 0 ",
+                waiting: "",
+                ended: "ERROR\r\n",
+            },
+            Stage {
+                bytes: "2\nhi\n",
+                waiting: "",
+                ended: BAD,
+            },
+            Stage {
+                bytes: "g",
+                waiting: BAD,
+                ended: BAD,
+            },
+            Stage {
+                bytes: "et ",
+                waiting: BAD,
+                ended: "CLIENT_ERROR bad data chunk\r\nERROR\r\n",
+            },
         ],
     },
     Case {
         name: "CR LF behind the data, where it is due",
         dialect: Dialect::CrLf,
         stages: &[
-            stage("set a 0 0 ", "", "ERROR\r\n"),
-            stage("2\nhi\r", "", BAD),
-            stage("\n", "STORED\r\n", "STORED\r\n"),
+            Stage {
+                bytes: "set a 0 0 ",
+                waiting: "",
+                ended: "ERROR\r\n",
+            },
+            Stage {
+                bytes: "2\nhi\r",
+                waiting: "",
+                ended: BAD,
+            },
+            Stage {
+                bytes: "\n",
+                waiting: "STORED\r\n",
+                ended: "STORED\r\n",
+            },
         ],
     },
 ];
