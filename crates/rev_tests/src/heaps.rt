@@ -1,8 +1,14 @@
 //! `lrudb run --heap`: what the program writes where, and its status.
-use crate::scripts::{put, put_data};
+use crate::scripts::put;
 use crate::streams::Stutter;
 use rev_output::ToWrite;
 use rev_program::program::program;
+
+// Adds so many `x` to a text.
+fn put_data<R: Abort>(rt: &R, text: &mut Vec<u8>, bytes: usize) {
+    let end = text.len().saturating_add(bytes);
+    text.resize(end, b'x').expect(rt, "no memory");
+}
 
 // Words at fault, and how what the user is told begins.
 struct Refused {
