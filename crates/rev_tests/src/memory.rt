@@ -2,7 +2,6 @@
 
 mod fillers;
 mod fixed;
-mod granted;
 mod growth;
 mod heap;
 mod parts;

@@ -171,8 +171,8 @@ fn refusal<'a>(
     }
 }
 
-/// Plays the command with so many bytes left, and tells the refusal, and whether the step that was handed back is as it was.
-pub fn try_play<'a, R: Abort>(
+// Plays the command with so many bytes left, and tells the refusal.
+fn try_play<'a, R: Abort>(
     rt: &R,
     alloc: Global,
     heap: &'a LocalHeap,
@@ -224,8 +224,8 @@ const BUCKETS: usize = 1024;
 // Bytes of a heap in which it has them.
 const ROOM: usize = 65536;
 
-/// A session whose index wants more buckets at the next play.
-pub fn crowded<'a, R: Abort>(rt: &R, heap: &'a LocalHeap) -> Session<&'a LocalHeap> {
+// A session that holds all of the keys.
+fn crowded<'a, R: Abort>(rt: &R, heap: &'a LocalHeap) -> Session<&'a LocalHeap> {
     let config = Config { pages: 4, ..SMALL };
     let store = Store::open(heap, config).expect(rt, "no store");
     let mut session = session_over(rt, heap, store);
