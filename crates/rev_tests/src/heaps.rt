@@ -3,6 +3,7 @@ use crate::scripts::put;
 use crate::streams::Stutter;
 use rev_output::ToWrite;
 use rev_program::program::program;
+use std::process::Abort;
 
 // Adds so many `x` to a text.
 fn put_data<R: Abort>(rt: &R, text: &mut Vec<u8>, bytes: usize) {
