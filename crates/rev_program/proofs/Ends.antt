@@ -1,5 +1,5 @@
 -- What the status tells of how the program ended.
-use Rattle.std.proofs.Common.{◌≡◌, ◌≢◌, ◌⊎◌, inl, inr, ℕ, Bool, List, Option, String, Result, Ok, Err, IsErr, OnOk, IfErr, MatchResult, refl}
+use Rattle.std.proofs.Common.{◌≡◌, ◌≢◌, ◌⊎◌, inl, inr, ℕ, List, Option, String, Result, Ok, Err, IsErr, OnOk, IfErr, MatchResult, refl}
 use Rattle.std.specs.declared.alloc.Global.{Global}
 use Rattle.std.specs.Io.KnownBytes.{Keeps}
 use Rattle.rev_program.specs.Fault as fault
@@ -16,25 +16,25 @@ pub rows_of : {F : Type 0} (r : Result (Unit {0}) F) (n : ℕ) (X : Type 0) → 
 rows_of (Ok t) n X done some e = done
 rows_of (Err f) n X done some e = absurd (some refl e)
 
-module _ (told tells : Option (List ℕ)) (failed : Bool) where
+module _ (told tells : Option (List ℕ)) (before after : ℕ) where
   pub no_rows_of : {F : Type 0} (remaining : F → Option (List ℕ)) (files : List (String Global × F)) (old new : Option (List ℕ)) (r : Result (Unit {0}) RecordingFault) (n : ℕ) →
-      MatchResult r (λ _. n ≡ 0) (λ f. n ≡ fault.status f) → IfErr r (λ e. EndedBy remaining files e) → IfErr r (λ e. e ≢ CannotWrite → Keeps old new) → IfErr r (λ e. Told told tells failed (fault.text e)) →
-      n ≢ 0 → (e : RecordingFault) × HasNoRows remaining files old new told tells failed n e
+      MatchResult r (λ _. n ≡ 0) (λ f. n ≡ fault.status f) → IfErr r (λ e. EndedBy remaining files e) → IfErr r (λ e. e ≢ CannotWrite → Keeps old new) → IfErr r (λ e. Told told tells before after (fault.text e)) →
+      n ≢ 0 → (e : RecordingFault) × HasNoRows remaining files old new told tells before after n e
   no_rows_of remaining files old new (Ok t) n is why kept text some = absurd (some is)
   no_rows_of remaining files old new (Err f) n is why kept text some = (f, record { why = why; status_is = is; text_is = text; unwritten = kept })
 
   pub stopped_of : (r : Result (Unit {0}) Stop) (n : ℕ) →
-      MatchResult r (λ _. n ≡ 0) (λ s. n ≡ stop.status s) → IfErr r (λ s. Told told tells failed (stop.text s)) → n ≢ 0 → (s : Stop) × StopsBy told tells failed n s
+      MatchResult r (λ _. n ≡ 0) (λ s. n ≡ stop.status s) → IfErr r (λ s. Told told tells before after (stop.text s)) → n ≢ 0 → (s : Stop) × StopsBy told tells before after n s
   stopped_of (Ok t) n is text some = absurd (some is)
   stopped_of (Err s) n is text some = (s, record { status_is = is; text_is = text })
 
   -- a recording of files, seen by the one who opened them
   pub files_end : {F : Type 0} (remaining : F → Option (List ℕ)) (files : List (String Global × F)) (old new : Option (List ℕ)) (n : ℕ) →
-      ((e : RecordingFault) × HasNoRows remaining files old new told tells failed n e) → EndsUnwritten told tells failed n old new
+      ((e : RecordingFault) × HasNoRows remaining files old new told tells before after n e) → EndsUnwritten told tells before after n old new
   files_end remaining files old new n h = inr (h.0, record { status_is = h.1.status_is; text_is = h.1.text_is }, h.1.unwritten)
 
   -- what was written left aside
-  pub early_of : (old new : Option (List ℕ)) (n : ℕ) → EndsUnwritten told tells failed n old new → EndsEarly told tells failed n
+  pub early_of : (old new : Option (List ℕ)) (n : ℕ) → EndsUnwritten told tells before after n old new → EndsEarly told tells before after n
   early_of old new n h = elim h [
     | inl s ↦ inl (s.0, s.1)
     | inr e ↦ inr (e.0, e.1)
