@@ -1,0 +1,11 @@
+use Rattle.std.proofs.Common.{sym, subst, ◌∷◌, [], codes, false}
+use Rattle.rev_script.specs.declared.command.UpdateCommand.TheVariants.{Delete}
+use Rattle.rev_script.specs.Script.{UpdateLine}
+use Rattle.rev_import.specs.Writing.{IsLine, line_text}
+use Rattle.rev_import.proofs.Rows.{adds_row, delete_row}
+use Rattle.rev_import.proofs.writing.put_delete.Goals as goal
+
+pub returns : goal.returns
+returns g c =
+    adds_row c.put_words.result _ _ _ _ c.put_words.ensures
+    (subst (λ w. IsLine (line_text (codes "delete") (w ∷ [])) (UpdateLine Delete c.args.key.now false)) (sym c.bytes.ensures.same) (delete_row c.args.key.now c.bytes.ensures.rule))

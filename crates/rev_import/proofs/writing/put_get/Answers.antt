@@ -1,0 +1,10 @@
+use Rattle.std.proofs.Common.{sym, subst, ◌∷◌, [], codes, false}
+use Rattle.rev_script.specs.Script.{RetrievalLine}
+use Rattle.rev_import.specs.Writing.{IsLine, line_text}
+use Rattle.rev_import.proofs.Rows.{adds_row, get_row}
+use Rattle.rev_import.proofs.writing.put_get.Goals as goal
+
+pub returns : goal.returns
+returns g c =
+    adds_row c.put_words.result _ _ _ _ c.put_words.ensures
+    (subst (λ w. IsLine (line_text (codes "get") (w ∷ [])) (RetrievalLine (c.args.key.now ∷ []) false)) (sym c.bytes.ensures.same) (get_row c.args.key.now c.bytes.ensures.rule))

@@ -1,0 +1,59 @@
+-- What an import writes: lines of a script, one behind another, each whole with its data block.
+use Rattle.std.specs.Prelude.{◌≡◌, ℕ, Bool, true, ◌&&◌, nat_lt, List, ◌∷◌, ◌++◌, length, map, codes}
+use Rattle.std.specs.List.{list_all, concat}
+use Rattle.rev_model.specs.declared.Queue.{Queue}
+use Rattle.rev_model.specs.declared.Queue.TheVariants.{Hot, Warm, Cold, Temp}
+use Rattle.rev_script.specs.declared.command.StorageCommand.{StorageCommand}
+use Rattle.rev_script.specs.declared.command.StorageCommand.TheVariants as storages
+use Rattle.rev_script.specs.declared.dialect.Dialect.TheVariants.{CrLf}
+use Rattle.rev_script.specs.Script.{ScriptLine, Cut, cuts}
+use Rattle.rev_import.specs.declared.writing.Storing.{Storing}
+use Rattle.rev_import.specs.declared.writing.Storing.TheVariants.{Set, Add, Replace}
+
+-- a line that lies whole in the bytes
+abbrev pub whole_line : ScriptLine → Cut
+whole_line line = record { line = line; whole = true }
+
+-- the bytes are this line, whole, whatever follows them
+pub record IsLine (text : List ℕ) (line : ScriptLine) : Type 0 where
+  pub cut : (more : List ℕ) → cuts CrLf (text ++ more) ≡ whole_line line ∷ cuts CrLf more
+
+-- the bytes are these lines, each whole, whatever follows them
+pub record AreLines (text : List ℕ) (ls : List ScriptLine) : Type 0 where
+  pub cut : (more : List ℕ) → cuts CrLf (text ++ more) ≡ map whole_line ls ++ cuts CrLf more
+
+-- behind what was written before stand these lines
+pub record Adds (old new : List ℕ) (ls : List ScriptLine) : Type 0 where
+  pub text : List ℕ
+  pub behind : new ≡ old ++ text
+  pub lines_are : AreLines text ls
+
+-- a word of a line: at least one byte, and none that ends a word or a line
+abbrev pub is_word : List ℕ → Bool
+is_word w = nat_lt 0 (length w) && list_all (nat_lt 32) w
+
+-- a space in front of each word
+abbrev pub spaced : List (List ℕ) → List ℕ
+spaced ws = concat (map (λ w. 32 ∷ w) ws)
+
+-- the words of a line, parted by single spaces, and CR LF
+abbrev pub line_text : List ℕ → List (List ℕ) → List ℕ
+line_text first rest = first ++ spaced rest ++ codes "\r\n"
+
+-- the storage command, and its name
+abbrev pub storage : Storing → StorageCommand
+storage Set = storages.Set
+storage Add = storages.Add
+storage Replace = storages.Replace
+
+abbrev pub storage_name : Storing → List ℕ
+storage_name Set = codes "set"
+storage_name Add = codes "add"
+storage_name Replace = codes "replace"
+
+-- how a line names a queue
+abbrev pub queue_name : Queue → List ℕ
+queue_name Hot = codes "hot"
+queue_name Warm = codes "warm"
+queue_name Cold = codes "cold"
+queue_name Temp = codes "temp"
