@@ -191,8 +191,13 @@ static CASES: [Case; 9] = [
                 ended: "CLIENT_ERROR bad data chunk\r\nEND\r\n",
             },
             Stage {
-                bytes: "\r\n",
+                bytes: "\r",
                 waiting: BAD,
+                ended: "CLIENT_ERROR bad data chunk\r\nEND\r\n",
+            },
+            Stage {
+                bytes: "\n",
+                waiting: "CLIENT_ERROR bad data chunk\r\nEND\r\n",
                 ended: "CLIENT_ERROR bad data chunk\r\nEND\r\n",
             },
         ],
