@@ -21,7 +21,7 @@ mod keys;
 pub mod line;
 pub mod lines;
 mod marks;
-mod number;
+pub mod number;
 mod raw_line;
 pub mod source;
 mod words;

@@ -93,7 +93,7 @@ fn place_of(b: u8, w: &[u8]) -> usize
 }
 
 /// Whether the word is digits, or digits, a point and one to three digits.
-pub fn is_factor(w: &[u8]) -> bool
+pub(crate) fn is_factor(w: &[u8]) -> bool
     ensures { result ≡ is_factor w.now }
 {
     let p = place_of(b'.', w);
@@ -154,7 +154,7 @@ fn id_of(w: &[u8]) -> u32
 }
 
 /// The classes of a crawler's list, parted by commas, as a set of bits.
-pub fn ids(list: &[u8]) -> u64
+pub(crate) fn ids(list: &[u8]) -> u64
     ensures { result ≡ ids (slice_split (λ b. b == 44) list.now) }
 {
     let mut rest = list;
