@@ -1,0 +1,4 @@
+pub mod WordLemmas
+pub mod Ordered
+pub mod ReaderLemmas
+pub mod ReadLemmas

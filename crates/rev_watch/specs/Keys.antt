@@ -1,0 +1,24 @@
+-- Keys stand in a line percent-encoded.
+use Rattle.std.specs.Prelude.{ℕ, ◌==◌, Bool, true, false, ◌&&◌, not, if◌then◌else◌, List, [], ◌∷◌, Result, Ok, Err}
+use Rattle.std.specs.Char.{is_digit}
+use Rattle.percent_encoding.specs.Percent.{percent_decode}
+use Rattle.rev_items.specs.Keys.{is_key}
+use Rattle.rev_watch.specs.declared.fault.LineFault.{LineFault}
+use Rattle.rev_watch.specs.declared.fault.LineFault.TheVariants.{BadEscape, BadKey}
+
+-- two hexadecimal digits stand in front
+abbrev pub are_digits : List ℕ → Bool
+are_digits [] = false
+are_digits (a ∷ []) = false
+are_digits (a ∷ b ∷ rest) = is_digit a 16 && is_digit b 16
+
+-- behind each `%`, 37, two hexadecimal digits stand
+abbrev pub is_encoded : List ℕ → Bool
+is_encoded [] = true
+is_encoded (b ∷ rest) = (if b == 37 then are_digits rest else true) && is_encoded rest
+
+-- the key that a field's value stands for
+unfoldable pub key_of : List ℕ → Result (List ℕ) LineFault
+key_of text =
+    if not (is_encoded text) then Err BadEscape
+    else (if is_key (percent_decode text) then Ok (percent_decode text) else Err BadKey)

@@ -1,0 +1,10 @@
+pub mod Field
+pub mod Words
+pub mod Keys
+pub mod Fields
+pub mod Kinds
+pub mod Line
+pub mod Reader
+pub mod Window
+pub mod Order
+pub mod Settings

@@ -1,0 +1,49 @@
+//! Parts of a text of bytes.
+ghost use Rattle.std.specs.Prelude.{◌≡◌, Some, None, if◌then◌else◌};
+ghost use Rattle.std.specs.Io.BufRead.{strip_last};
+ghost use Rattle.std.specs.Option.{option_copied};
+ghost use Rattle.std.specs.Str.{bytes_eq};
+ghost use Rattle.rev_script.specs.Number.{until, past, has};
+ghost use Rattle.rev_watch.specs.Words.{value_behind};
+
+use memchr::memchr;
+
+/// The bytes before the first such byte, or all; and those behind it, where there is one.
+pub fn cut(text: &[u8], byte: u8) -> (&[u8], Option<&[u8]>)
+    ensures front { result.0.now ≡ until byte text.now }
+    ensures back { option_copied result.1 ≡ (if has byte text.now then Some (past byte text.now) else None) }
+{
+    match memchr(byte, text) {
+        Some(i) => (&text[..i], Some(&text[i + 1..])),
+        None => (text, None),
+    }
+}
+
+/// The text without one CR at its end.
+pub fn without_cr(text: &[u8]) -> &[u8]
+    ensures { result.now ≡ strip_last 13 text.now }
+{
+    match text.split_last() {
+        Some((b'\r', front)) => front,
+        _ => text,
+    }
+}
+
+/// Whether a word is this one.
+pub fn is_word(word: &[u8], name: &[u8]) -> bool
+    ensures { result ≡ bytes_eq word.now name.now }
+{
+    word == name
+}
+
+/// What stands behind a name and a sign, in a text that begins with them.
+#[tactic(auto, unfolding(crate::specs::Words::value_behind))]
+pub fn value_behind<'a>(name: &[u8], sign: u8, text: &'a [u8]) -> Option<&'a [u8]>
+    ensures { option_copied result ≡ value_behind name.now sign text.now }
+{
+    let rest = text.strip_prefix(name)?;
+    match rest.split_first() {
+        Some((first, value)) if *first == sign => Some(value),
+        _ => None,
+    }
+}
