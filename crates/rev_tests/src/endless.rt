@@ -18,7 +18,7 @@ impl Read for Endless {
 
 // It is one line that has no end, so nothing is answered.
 #[test]
-fn endless(rt: HostRuntime) {
+fn script_without_end(rt: HostRuntime) {
     let mut written: Vec<u8> = Vec::new(rt.alloc());
     let ended = run_with(&rt, rt.alloc(), &DEFAULTS, Endless, &mut written);
     assert!(rt; ended == Err(RunFault::TooLong) && written.is_empty());

@@ -10,9 +10,9 @@ pub returns-in-Append : goal.returns-in-Append
 returns-in-Append g c =
     let i = c.in-Some.old.now in
     let l = lives c.args.store.now c.requires.well c.args.key.now i (sym c.in-Some.ensures) in
-    joins_ok c.args.store.now c.args.key.now i l c.plan_data.result (plain_side c.args.side) (plain_payload c.args.payload.now) (Bytes (c.value.result.now ++ c.as_slice.result.now))
-    (ap (λ (v : List ℕ). Bytes (v ++ c.as_slice.result.now)) c.value.ensures
-    ∙ ap (λ (v : List ℕ). Bytes (i.value ++ v)) c.as_slice.ensures
+    joins_ok c.args.store.now c.args.key.now i l c.plan_data.result (plain_side c.args.side) (plain_payload c.args.payload.now) (Bytes (c.value-kept.result.now ++ c.as_slice-added.result.now))
+    (ap (λ (v : List ℕ). Bytes (v ++ c.as_slice-added.result.now)) c.value-kept.ensures
+    ∙ ap (λ (v : List ℕ). Bytes (i.value ++ v)) c.as_slice-added.ensures
     ∙ sym (ap (λ d. joined (plain_side d) i.value (plain_payload c.args.payload.now)) c.in-Append.is
     ∙ ap (λ p. joined Appends i.value (plain_payload p)) c.in-Bytes.is))
     c.plan_data.ensures
@@ -21,9 +21,9 @@ pub returns-in-Prepend : goal.returns-in-Prepend
 returns-in-Prepend g c =
     let i = c.in-Some.old.now in
     let l = lives c.args.store.now c.requires.well c.args.key.now i (sym c.in-Some.ensures) in
-    joins_ok c.args.store.now c.args.key.now i l c.plan_data-in-Prepend.result (plain_side c.args.side) (plain_payload c.args.payload.now) (Bytes (c.as_slice.result.now ++ c.value.result.now))
-    (ap (λ (v : List ℕ). Bytes (v ++ c.value.result.now)) c.as_slice.ensures
-    ∙ ap (λ (v : List ℕ). Bytes (c.in-Bytes.value ++ v)) c.value.ensures
+    joins_ok c.args.store.now c.args.key.now i l c.plan_data-in-Prepend.result (plain_side c.args.side) (plain_payload c.args.payload.now) (Bytes (c.as_slice-added.result.now ++ c.value-kept.result.now))
+    (ap (λ (v : List ℕ). Bytes (v ++ c.value-kept.result.now)) c.as_slice-added.ensures
+    ∙ ap (λ (v : List ℕ). Bytes (c.in-Bytes.value ++ v)) c.value-kept.ensures
     ∙ sym (ap (λ d. joined (plain_side d) i.value (plain_payload c.args.payload.now)) c.in-Prepend.is
     ∙ ap (λ p. joined Prepends i.value (plain_payload p)) c.in-Bytes.is))
     c.plan_data-in-Prepend.ensures
