@@ -1,6 +1,5 @@
 //! More buckets for an index: refused and put off, or granted, so that the step behind them is refused. Whether there
 //! are more is told by what the heap has left beside the keys.
-ghost use Rattle.rev_model.specs.Sound.{Sound};
 
 use crate::memory::heap::fill;
 use crate::memory::parts::SMALL;
@@ -11,6 +10,7 @@ use rev_classes::Config;
 use rev_inverse::Store;
 use rev_steps::{ActorStep, Step, apply};
 use std::alloc::Global;
+use std::marker::Model;
 use std::process::Abort;
 
 // Room for some 160 keys and what their table takes.
@@ -36,7 +36,17 @@ struct Cache<'a> {
     store: Store<&'a LocalHeap>,
     keys: usize,
     bytes_of_a_key: usize,
-    ghost sound: { Sound store },
+}
+
+impl<'a> Model for Cache<'a> {
+    ghost use Rattle.rev_model.specs.Sound.{Sound};
+    ghost use Rattle.rev_model.specs.State.{State};
+
+    ghost Value = { State };
+
+    ghost view = { λ c. c.store };
+
+    ghost invariant = { λ c. Sound c.store };
 }
 
 impl<'a> Cache<'a> {
