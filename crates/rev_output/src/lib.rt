@@ -41,6 +41,7 @@ pub trait Sink {
 
 /// Writes all the bytes, in as many calls as it takes, and sends them on; no call failed then. At an
 /// error one did, the last, and a front of the bytes was written.
+#[inline(always)]
 pub fn write_all<K: Sink>(sink: &mut K, text: &[u8]) -> Result<(), WriteFailed>
     ensures ok { OnOk result (Appends (K.contents sink.old) (K.contents sink.new) text.now
         × (K.failures sink.new ≡ K.failures sink.old)) }

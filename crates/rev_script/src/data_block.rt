@@ -117,6 +117,7 @@ fn take_feed<S: Source>(bytes: &mut ByteReader<S>) -> Result<bool, LineFault>
 }
 
 // Takes what tells whether a block ends here; true where it does.
+#[inline(always)]
 fn take_ending<S: Source>(bytes: &mut ByteReader<S>, dialect: Dialect) -> Result<bool, LineFault>
     ensures ok { IfOk result (λ sound. IsEnding dialect bytes.old bytes.new sound) }
     ensures err { IfErr result (λ e. IsUnended dialect bytes.old bytes.new e) }

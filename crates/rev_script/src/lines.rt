@@ -425,6 +425,7 @@ fn line_at_hand<S: Source, A: Allocator + Clone>(
 }
 
 // Reads a line that begins at the next byte, through its data block. One that was read whole, as most are, is not copied.
+#[inline(always)]
 fn line_here<S: Source, A: Allocator + Clone>(
     input: &mut Input<S, A>,
     text: &mut Vec<u8, A>,

@@ -8,5 +8,5 @@ use Rattle.rev_program.proofs.telling.tell_parts.Given as goal
 abbrev pub invariant-loop-part : goal.invariant-loop-part
 invariant-loop-part g l = record {
   so_far : IsSoFar (g.E.Sink.contents l.fn.errors) (g.E.Sink.contents l.errors) (concat (map (λ p. p.now) (drop l.part-index l.parts))) (joined (map (λ p. p.now) l.fn.parts));
-  none_failed : g.E.Sink.failures l.errors ≡ g.E.Sink.failures l.fn.errors
+  none_failed : g.E.Sink.failures l.errors ≡ g.E.Sink.failures l.fn.errors;
 }
