@@ -39,10 +39,14 @@ struct Cache<'a> {
 }
 
 impl<'a> Model for Cache<'a> {
+    ghost use Rattle.std.specs.Coded.{codes};
+    ghost use Rattle.rev_model.specs.Codes.{coded_contents, coded_keys};
     ghost use Rattle.rev_model.specs.Sound.{Sound};
     ghost use Rattle.rev_model.specs.State.{State};
 
     ghost Value = { State };
+
+    ghost coded = { Prim.hlevel (codes, coded_contents, coded_keys) };
 
     ghost view = { λ c. c.store };
 
