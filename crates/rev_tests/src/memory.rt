@@ -1,6 +1,5 @@
 //! Each request for memory is refused in turn, and what the call worked on is compared before and after.
 
-mod fillers;
 mod fixed;
 mod growth;
 mod heap;
