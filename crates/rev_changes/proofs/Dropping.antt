@@ -4,7 +4,7 @@ use Rattle.std.proofs.Common.{sym, subst}
 use Rattle.rev_items.specs.Plain.{PlainItem}
 use Rattle.rev_model.specs.State.{State, WellFormed}
 use Rattle.rev_model.specs.Move.{Takes, Puts, Fills, Unbinds, moved, Possible, Fits}
-use Rattle.rev_model.specs.Drops.{drop_take, drop_unbind, drop_fill, unlinked_is, loose, free_put}
+use Rattle.rev_model.proofs.Drops.{drop_take, drop_unbind, drop_fill, unlinked_is, loose, free_put}
 use Rattle.rev_model.specs.Words.{unlinked}
 use Rattle.rev_model.specs.Sound.{Stands}
 use Rattle.rev_model.specs.declared.ChunkRef.{ChunkRef}

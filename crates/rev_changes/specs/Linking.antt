@@ -8,22 +8,22 @@ use Rattle.std.specs.FinMap as map
 use Rattle.std.specs.Ordering.{eq_by_cmp, nat_cmp}
 use Rattle.std.specs.Cmp.Lexicographic.{slice_cmp, nat_list_cmp_total}
 use Rattle.rev_items.specs.Plain.{PlainItem}
-use Rattle.rev_model.specs.Chunk.{same_chunk, same_entry, chunk_cmp, chunk_cmp_exact, chunk_cmp_total}
+use Rattle.rev_model.specs.Chunk.{same_chunk, same_entry, chunk_cmp}
+use Rattle.rev_model.proofs.Chunks.{chunk_cmp_exact, chunk_cmp_total}
 use Rattle.rev_model.specs.Lists.{count}
-use Rattle.rev_model.specs.State.{State, WellFormed, IsChunkOf, queue_place, owner_of, item_at, find, stands}
+use Rattle.rev_model.specs.State.{State, WellFormed, IsChunkOf, queue_place, owner_of, item_at, find, stands, IsClass}
 use Rattle.rev_model.specs.declared.GlobalPart.TheVariants.{LastCas}
 use Rattle.rev_model.specs.Move.{Puts, Fills, Binds, Sets, moved, Possible}
-use Rattle.rev_model.specs.Undo.{tells_chunk, get-put_at, get-put_at_same, tied}
-use Rattle.rev_model.specs.Keeps.{keeps-fill, keeps-bind, keeps-put_queue, keeps-sets}
+use Rattle.rev_model.proofs.Undo.{tells_chunk, get-put_at, get-put_at_same, tied}
+use Rattle.rev_model.proofs.Keeps.{keeps-fill, keeps-bind, keeps-put_queue, keeps-sets}
 use Rattle.rev_model.specs.declared.ChunkRef.{ChunkRef}
 use Rattle.rev_model.specs.declared.Entry.TheVariants.{Chunk}
 use Rattle.rev_model.specs.declared.Queue.{Queue}
 use Rattle.rev_model.specs.declared.Placed.TheVariants.{ToQueue}
 use Rattle.rev_model.specs.Words.{linked, with_item, queue_for, class_of}
 use Rattle.rev_items.specs.Rules.{footprint_of}
-use Rattle.rev_model.specs.Sound.{SoundBut}
-use Rattle.rev_model.specs.Drops.{Loose}
-use Rattle.rev_model.specs.Places.{IsClass, queue_in, free_in}
+use Rattle.rev_model.specs.Sound.{SoundBut, Loose}
+use Rattle.rev_model.proofs.Places.{queue_in, free_in}
 use Rattle.rev_changes.specs.Rest.{Rest}
 
 some_inj : {X : Type 0} (x y : X) → Some x ≡ Some y → x ≡ y

@@ -10,11 +10,12 @@ use Rattle.std.specs.Ordering.{eq_by_cmp, nat_cmp}
 use Rattle.std.specs.Cmp.{eq_by_cmp_equiv}
 use Rattle.std.specs.Cmp.Lexicographic.{slice_cmp, nat_list_cmp_total}
 use Rattle.rev_items.specs.Plain.{PlainItem}
-use Rattle.rev_model.specs.Chunk.{same_chunk, same_entry, chunk_cmp, chunk_cmp_exact, chunk_cmp_total}
+use Rattle.rev_model.specs.Chunk.{same_chunk, same_entry, chunk_cmp}
+use Rattle.rev_model.proofs.Chunks.{chunk_cmp_exact, chunk_cmp_total}
 use Rattle.rev_model.specs.Lists.{has, count, without}
 use Rattle.rev_model.specs.State.{State, WellFormed, free_of, queue_of, queue_place, item_at}
 use Rattle.rev_model.specs.Move.{touched}
-use Rattle.rev_model.specs.Undo.{tells_chunk, tells_entry, get-put_at, tied}
+use Rattle.rev_model.proofs.Undo.{tells_chunk, tells_entry, get-put_at, tied}
 use Rattle.rev_model.specs.declared.ChunkRef.{ChunkRef}
 use Rattle.rev_model.specs.declared.Entry.{Entry}
 use Rattle.rev_model.specs.declared.Entry.TheVariants.{Chunk}

@@ -7,7 +7,7 @@ use Rattle.std.proofs.lemmas.List.Sums.{sum_by-cons}
 use Rattle.rev_items.specs.Plain.{PlainItem}
 use Rattle.rev_model.specs.Chunk.{same_entry}
 use Rattle.rev_model.specs.Lists.{has, count}
-use Rattle.rev_model.specs.State.{State, queue_of, queue_place, owner_of, item_at}
+use Rattle.rev_model.specs.State.{State, queue_of, queue_place, owner_of, item_at, IsClass}
 use Rattle.rev_model.specs.declared.ChunkRef.{ChunkRef}
 use Rattle.rev_model.specs.declared.Entry.{Entry}
 use Rattle.rev_model.specs.declared.Entry.TheVariants.{Chunk}
@@ -15,7 +15,7 @@ use Rattle.rev_model.specs.declared.Queue.{Queue}
 use Rattle.rev_model.specs.declared.Queue.TheVariants.{Hot, Warm, Cold, Temp}
 use Rattle.rev_model.specs.Words.{queue_with}
 use Rattle.rev_model.specs.Sound.{SoundBut, Stands}
-use Rattle.rev_model.specs.Places.{IsClass, queue_in, free_in}
+use Rattle.rev_model.proofs.Places.{queue_in, free_in}
 
 -- an entry that a table counts stands in one of its lists
 pub some_place : (e : Entry) (table : List (List Entry)) → 1 ≤ sum_by (count same_entry e) table → (n : ℕ) × (has same_entry e (slice_index_or table n []) ≡ true)

@@ -6,8 +6,8 @@ use Rattle.rev_model.specs.Chunk.{same_chunk}
 use Rattle.rev_model.specs.Lists.{has, count, without}
 use Rattle.rev_model.specs.State.{State, WellFormed, IsChunkOf, free_of}
 use Rattle.rev_model.specs.Move.{Possible, Takes, moved}
-use Rattle.rev_model.specs.Undo.{tells_chunk}
-use Rattle.rev_model.specs.Keeps.{keeps-take_free}
+use Rattle.rev_model.proofs.Undo.{tells_chunk}
+use Rattle.rev_model.proofs.Keeps.{keeps-take_free}
 use Rattle.rev_model.specs.declared.ChunkRef.{ChunkRef}
 use Rattle.rev_model.specs.declared.Listed.TheVariants.{InFree}
 use Rattle.rev_model.specs.Words.{first}

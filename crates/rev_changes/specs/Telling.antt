@@ -3,8 +3,8 @@ use Rattle.std.specs.Prelude.{◌≡◌, ◌+◌, List, [], ◌∷◌, ◌++◌,
 use Rattle.std.proofs.Common.{sym, ◌∙◌, ap, subst, arith}
 use Rattle.rev_model.specs.State.{State, WellFormed}
 use Rattle.rev_model.specs.Move.{Move, moved, reverse, Possible}
-use Rattle.rev_model.specs.Track.{Removal, removals}
-use Rattle.rev_model.specs.Notes.{removed, removals-made}
+use Rattle.rev_model.specs.Track.{Removal, removals, removed}
+use Rattle.rev_model.proofs.Notes.{removals-made}
 use Rattle.rev_model.specs.declared.Cause.{Cause}
 use Rattle.rev_moves.specs.Record.{PlainRecord}
 

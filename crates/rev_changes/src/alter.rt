@@ -2,7 +2,7 @@
 ghost use Rattle.std.specs.Prelude.{◌≡◌, ℕ, ◌+◌, ◌<◌, ◌≤◌, ◌++◌, ◌∷◌, [], length, Option, None, Some, true};
 ghost use Rattle.std.specs.Option.{option_map};
 ghost use Rattle.rev_items.specs.Plain.{PlainItem};
-ghost use Rattle.rev_model.specs.State.{State, WellFormed, item_at, queue_of, queue_place};
+ghost use Rattle.rev_model.specs.State.{State, WellFormed, item_at, queue_of, queue_place, IsClass};
 ghost use Rattle.rev_model.specs.Move.{touched};
 ghost use Rattle.rev_model.specs.Lists.{has};
 ghost use Rattle.rev_model.specs.Chunk.{same_entry};
@@ -10,7 +10,6 @@ ghost use Rattle.rev_model.specs.declared.Entry.TheVariants.{Chunk};
 ghost use Rattle.rev_model.specs.Words.{counted, headed, with_item, header_of};
 ghost use Rattle.rev_model.specs.Pull.{warmed, cooled};
 ghost use Rattle.rev_model.specs.Sound.{Stands};
-ghost use Rattle.rev_model.specs.Places.{IsClass};
 ghost use Rattle.rev_moves.specs.Leads.{Leads};
 ghost use Rattle.rev_changes.specs.Telling.{Tells};
 

@@ -2,11 +2,10 @@
 ghost use Rattle.std.specs.Prelude.{◌≡◌, ℕ, ◌+◌, ◌<◌, ◌≤◌, ◌++◌, ◌∷◌, length, Option, None, Some, List, [], ℤ, pos, negsuc};
 ghost use Rattle.rev_items.specs.Plain.{PlainItem};
 ghost use Rattle.rev_items.specs.Rules.{footprint_of};
-ghost use Rattle.rev_model.specs.State.{State, WellFormed, IsChunkOf, free_of};
+ghost use Rattle.rev_model.specs.State.{State, WellFormed, IsChunkOf, free_of, IsClass};
 ghost use Rattle.rev_model.specs.Words.{linked, queue_for, is_brief, class_of};
 ghost use Rattle.rev_model.specs.Pull.{fronted};
 ghost use Rattle.rev_model.specs.Sound.{SoundBut, Sound};
-ghost use Rattle.rev_model.specs.Places.{IsClass};
 ghost use Rattle.rev_moves.specs.Leads.{Leads};
 ghost use Rattle.rev_changes.specs.Telling.{Tells};
 ghost use Rattle.rev_changes.specs.Linking.{Fresh};

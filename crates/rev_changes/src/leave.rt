@@ -1,11 +1,9 @@
 //! How an item leaves.
 ghost use Rattle.std.specs.Prelude.{◌≡◌, ℕ, ◌+◌, ◌<◌, ◌≤◌, ◌++◌, ◌∷◌, [], length, Option, None, Some, true};
 ghost use Rattle.rev_items.specs.Plain.{PlainItem};
-ghost use Rattle.rev_model.specs.State.{State, WellFormed, item_at, free_of};
+ghost use Rattle.rev_model.specs.State.{State, WellFormed, item_at, free_of, IsClass};
 ghost use Rattle.rev_model.specs.Words.{unlinked, freed, dropped, counted};
-ghost use Rattle.rev_model.specs.Sound.{Stands};
-ghost use Rattle.rev_model.specs.Drops.{Loose};
-ghost use Rattle.rev_model.specs.Places.{IsClass};
+ghost use Rattle.rev_model.specs.Sound.{Stands, Loose};
 ghost use Rattle.rev_moves.specs.Leads.{Leads};
 ghost use Rattle.rev_model.specs.Track.{removal};
 ghost use Rattle.rev_changes.specs.Telling.{Tells};

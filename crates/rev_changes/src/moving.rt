@@ -2,7 +2,7 @@
 ghost use Rattle.std.specs.Prelude.{◌≡◌, ◌+◌, ◌<◌, ◌++◌, ◌∷◌, [], length, None};
 ghost use Rattle.rev_model.specs.State.{WellFormed};
 ghost use Rattle.rev_model.specs.Move.{moved, Possible, reverse};
-ghost use Rattle.rev_model.specs.Notes.{removed};
+ghost use Rattle.rev_model.specs.Track.{removed};
 ghost use Rattle.rev_moves.specs.Leads.{Leads};
 ghost use Rattle.rev_moves.specs.Seen.{plain_move, IsSingle};
 ghost use Rattle.rev_changes.specs.Telling.{Tells};

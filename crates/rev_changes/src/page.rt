@@ -1,9 +1,8 @@
 //! How a class gets a page.
 ghost use Rattle.std.specs.Prelude.{◌≡◌, ℕ, ◌+◌, ◌<◌, ◌≤◌, ◌++◌, ◌∷◌, [], length, Option, None, Some, IfOk};
-ghost use Rattle.rev_model.specs.State.{State, WellFormed, free_of, per_page};
+ghost use Rattle.rev_model.specs.State.{State, WellFormed, free_of, per_page, IsClass};
 ghost use Rattle.rev_model.specs.Pull.{carved, page_of};
 ghost use Rattle.rev_model.specs.Sound.{Sound};
-ghost use Rattle.rev_model.specs.Places.{IsClass};
 ghost use Rattle.rev_moves.specs.Leads.{Leads};
 ghost use Rattle.rev_changes.specs.Telling.{Tells};
 ghost use Rattle.rev_changes.specs.Paging.{IsPlan};

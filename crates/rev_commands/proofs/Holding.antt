@@ -7,13 +7,11 @@ use Rattle.std.specs.Cmp.Lexicographic.{nat_list_cmp_total}
 use Rattle.rev_items.specs.Plain.{PlainItem}
 use Rattle.rev_model.specs.Chunk.{same_chunk}
 use Rattle.rev_model.specs.Lists.{count}
-use Rattle.rev_model.specs.State.{State, WellFormed, IsChunkOf, free_of, find}
-use Rattle.rev_model.specs.Undo.{get-put_at_same}
+use Rattle.rev_model.specs.State.{State, WellFormed, IsChunkOf, free_of, find, IsClass}
+use Rattle.rev_model.proofs.Undo.{get-put_at_same}
 use Rattle.rev_model.specs.Words.{freed}
 use Rattle.rev_model.specs.Client.{removed}
-use Rattle.rev_model.specs.Sound.{SoundBut}
-use Rattle.rev_model.specs.Places.{IsClass}
-use Rattle.rev_model.specs.Drops.{Loose}
+use Rattle.rev_model.specs.Sound.{SoundBut, Loose}
 use Rattle.rev_model.specs.declared.ChunkRef.{ChunkRef}
 use Rattle.rev_changes.specs.Rest.{Rest}
 use Rattle.rev_changes.specs.Linking.{Fresh, held_loose}

@@ -2,8 +2,7 @@
 use Rattle.std.specs.Prelude.{ℕ, ◌≡◌, List, [], None, Some}
 use Rattle.rev_items.specs.Plain.{PlainItem}
 use Rattle.rev_items.specs.Rules.{footprint_of}
-use Rattle.rev_model.specs.State.{State}
-use Rattle.rev_model.specs.Places.{IsClass}
+use Rattle.rev_model.specs.State.{State, IsClass}
 use Rattle.rev_model.specs.Words.{class_of, new_item}
 use Rattle.rev_model.specs.declared.Outcome.{Outcome}
 use Rattle.rev_model.specs.declared.Outcome.TheVariants.{TooLarge}

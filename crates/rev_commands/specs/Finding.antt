@@ -6,7 +6,7 @@ use Rattle.std.specs.FinMap as map
 use Rattle.std.specs.Cmp.Lexicographic.{nat_list_cmp_total}
 use Rattle.rev_items.specs.Plain.{PlainItem}
 use Rattle.rev_model.specs.State.{State, WellFormed, item_at, find}
-use Rattle.rev_model.specs.Undo.{get-put_at_same}
+use Rattle.rev_model.proofs.Undo.{get-put_at_same}
 use Rattle.rev_model.specs.Words.{is_dead}
 use Rattle.rev_model.specs.Client.{lookup, looked_at, looked_item}
 use Rattle.rev_model.specs.declared.ChunkRef.{ChunkRef}

@@ -2,7 +2,7 @@
 ghost use Rattle.std.specs.Prelude.{◌≡◌, ◌+◌, ◌≤◌, length, Some, IfOk, OnOk, OnErr};
 ghost use Rattle.rev_model.specs.Client.{delete as delete_of};
 ghost use Rattle.rev_model.specs.Sound.{Sound};
-ghost use Rattle.rev_model.specs.Undo.{LeadsBack};
+ghost use Rattle.rev_model.specs.Move.{LeadsBack};
 ghost use Rattle.rev_moves.specs.Leads.{Leads};
 ghost use Rattle.rev_model.specs.declared.Cause.TheVariants as causes;
 ghost use Rattle.rev_changes.specs.Telling.{Tells, TellsAll};

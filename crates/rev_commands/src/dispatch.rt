@@ -2,7 +2,7 @@
 ghost use Rattle.std.specs.Prelude.{◌≡◌, ◌≤◌, length, IfOk, OnOk, OnErr};
 ghost use Rattle.rev_model.specs.Client.{client as client_of};
 ghost use Rattle.rev_model.specs.Sound.{Sound};
-ghost use Rattle.rev_model.specs.Undo.{LeadsBack};
+ghost use Rattle.rev_model.specs.Move.{LeadsBack};
 ghost use Rattle.rev_model.specs.Causes.{client_removals};
 ghost use Rattle.rev_changes.specs.Telling.{TellsAll};
 ghost use Rattle.rev_requests.specs.Plain.{plain_client, plain_keyed};

@@ -2,7 +2,7 @@
 ghost use Rattle.std.specs.Prelude.{◌≡◌, ◌≤◌, length, List, [], Some, IfOk, OnOk, OnErr};
 ghost use Rattle.rev_model.specs.Client.{flush_all as flush_all_of, flush_moment, flush_at};
 ghost use Rattle.rev_model.specs.Sound.{Sound};
-ghost use Rattle.rev_model.specs.Undo.{LeadsBack};
+ghost use Rattle.rev_model.specs.Move.{LeadsBack};
 ghost use Rattle.rev_model.specs.State.{State};
 ghost use Rattle.rev_changes.specs.Telling.{TellsAll};
 ghost use Rattle.rev_commands.specs.Flushing.{flushed};

@@ -3,7 +3,7 @@ ghost use Rattle.std.specs.Prelude.{◌≡◌, ℕ, ◌≤◌, length, Option, S
 ghost use Rattle.rev_items.specs.Rules.{footprint};
 ghost use Rattle.rev_model.specs.Words.{new_item as new_item_of, class_of};
 ghost use Rattle.rev_model.specs.Sound.{Sound};
-ghost use Rattle.rev_model.specs.Places.{IsClass};
+ghost use Rattle.rev_model.specs.State.{IsClass};
 
 use rev_inverse::Store;
 use rev_items::{Data, Item, Key, footprint};

@@ -4,7 +4,7 @@ ghost use Rattle.rev_items.specs.Plain.{PlainItem};
 ghost use Rattle.rev_model.specs.State.{item_at};
 ghost use Rattle.rev_model.specs.Client.{get as get_of};
 ghost use Rattle.rev_model.specs.Sound.{Sound};
-ghost use Rattle.rev_model.specs.Undo.{LeadsBack};
+ghost use Rattle.rev_model.specs.Move.{LeadsBack};
 ghost use Rattle.rev_model.specs.Causes.{look_removals};
 ghost use Rattle.rev_model.specs.declared.Outcome.TheVariants as outcome;
 ghost use Rattle.rev_moves.specs.Leads.{Leads};

@@ -2,11 +2,10 @@
 ghost use Rattle.std.specs.Prelude.{◌≡◌, ℕ, ◌+◌, ◌≤◌, ◌++◌, length, List, [], Option, Some};
 ghost use Rattle.rev_items.specs.Plain.{PlainItem};
 ghost use Rattle.rev_items.specs.Rules.{footprint_of};
-ghost use Rattle.rev_model.specs.State.{State, IsChunkOf, free_of};
+ghost use Rattle.rev_model.specs.State.{State, IsChunkOf, free_of, IsClass};
 ghost use Rattle.rev_model.specs.Words.{class_of};
 ghost use Rattle.rev_model.specs.Client.{lookup as lookup_of, refusal as refusal_of};
 ghost use Rattle.rev_model.specs.Sound.{Sound, SoundBut};
-ghost use Rattle.rev_model.specs.Places.{IsClass};
 ghost use Rattle.rev_model.specs.Causes.{look_removals, settled_removals, store_in_removals};
 ghost use Rattle.rev_moves.specs.Leads.{Leads};
 ghost use Rattle.rev_changes.specs.Telling.{Tells};

@@ -2,11 +2,10 @@
 ghost use Rattle.std.specs.Prelude.{◌≡◌, ℕ, ◌+◌, ◌<◌, ◌≤◌, length, List, [], Option, None, Some};
 ghost use Rattle.rev_items.specs.Plain.{PlainItem};
 ghost use Rattle.rev_items.specs.Rules.{footprint_of};
-ghost use Rattle.rev_model.specs.State.{State, IsChunkOf, find};
+ghost use Rattle.rev_model.specs.State.{State, IsChunkOf, find, IsClass};
 ghost use Rattle.rev_model.specs.Words.{linked, freed, class_of};
 ghost use Rattle.rev_model.specs.Client.{removed};
 ghost use Rattle.rev_model.specs.Sound.{Sound, SoundBut};
-ghost use Rattle.rev_model.specs.Places.{IsClass};
 ghost use Rattle.rev_model.specs.Causes.{found_removals};
 ghost use Rattle.rev_model.specs.declared.ChunkRef.{ChunkRef as ChunkRefOf};
 ghost use Rattle.rev_moves.specs.Leads.{Leads};

@@ -1,7 +1,7 @@
 //! What a plan is carried out by.
 ghost use Rattle.std.specs.Prelude.{◌≡◌, ◌≤◌, length, [], IfOk, OnOk, OnErr};
 ghost use Rattle.rev_model.specs.Sound.{Sound};
-ghost use Rattle.rev_model.specs.Undo.{LeadsBack};
+ghost use Rattle.rev_model.specs.Move.{LeadsBack};
 ghost use Rattle.rev_model.specs.Causes.{look_removals, rewrite_in_removals};
 ghost use Rattle.rev_changes.specs.Telling.{TellsAll};
 ghost use Rattle.rev_commands.specs.Rewriting.{rewritten_in, named};

@@ -7,7 +7,7 @@ ghost use Rattle.rev_model.specs.State.{item_at};
 ghost use Rattle.rev_model.specs.Words.{header_of};
 ghost use Rattle.rev_model.specs.Client.{touch as touch_of, until, hit as hit_of};
 ghost use Rattle.rev_model.specs.Sound.{Sound};
-ghost use Rattle.rev_model.specs.Undo.{LeadsBack};
+ghost use Rattle.rev_model.specs.Move.{LeadsBack};
 ghost use Rattle.rev_model.specs.Causes.{look_removals};
 ghost use Rattle.rev_moves.specs.Leads.{Leads};
 ghost use Rattle.rev_changes.specs.Telling.{Tells, TellsAll};

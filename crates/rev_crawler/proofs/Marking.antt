@@ -7,12 +7,11 @@ use Rattle.std.proofs.lemmas.Grind.{common_steps}
 use Rattle.std.proofs.lemmas.List.Sums.{sum_by-cons}
 use Rattle.rev_model.specs.Chunk.{same_entry}
 use Rattle.rev_model.specs.Lists.{has, count}
-use Rattle.rev_model.specs.State.{State, WellFormed, queue_of, queue_place}
+use Rattle.rev_model.specs.State.{State, WellFormed, queue_of, queue_place, IsClass}
 use Rattle.rev_model.specs.Move.{moved, MarksIn, Possible, Ready, NoMarks, is_class, names, names_other, marked}
 use Rattle.rev_model.specs.Actor.{has_mark, is_busy, crawl_start}
-use Rattle.rev_model.specs.Places.{IsClass}
 use Rattle.rev_model.specs.Sound.{Sound}
-use Rattle.rev_model.specs.Undo.{count_none}
+use Rattle.rev_model.proofs.Undo.{count_none}
 use Rattle.rev_model.specs.declared.ChunkRef.{ChunkRef}
 use Rattle.rev_model.specs.declared.ClassSet.{ClassSet}
 use Rattle.rev_model.specs.declared.Entry.{Entry}

@@ -10,12 +10,12 @@ use Rattle.rev_items.specs.Plain.{PlainItem}
 use Rattle.rev_items.specs.Rules.{is_past}
 use Rattle.rev_model.specs.Chunk.{same_entry}
 use Rattle.rev_model.specs.Lists.{has, count, without, before, before_from, insert, has_after}
-use Rattle.rev_model.specs.ListLaws.{has-without}
-use Rattle.rev_model.specs.State.{State, WellFormed, queue_of, queue_place, item_at}
+use Rattle.rev_model.proofs.ListLaws.{has-without}
+use Rattle.rev_model.specs.State.{State, WellFormed, queue_of, queue_place, item_at, IsClass}
 use Rattle.rev_model.specs.Move.{is_class, Takes, Puts, moved, Possible, with_queue}
-use Rattle.rev_model.specs.Keeps.{keeps-take_queue, keeps-put_queue, count-insert}
-use Rattle.rev_model.specs.Undo.{tells_entry, queue_distinct}
-use Rattle.rev_model.specs.Places.{IsClass, queue_in, free_in}
+use Rattle.rev_model.proofs.Keeps.{keeps-take_queue, keeps-put_queue, count-insert}
+use Rattle.rev_model.proofs.Undo.{tells_entry, queue_distinct}
+use Rattle.rev_model.proofs.Places.{queue_in, free_in}
 use Rattle.rev_model.specs.Sound.{SoundBut, Stands}
 use Rattle.rev_model.specs.Actor.{passed, crawl, crawl_entry, crawl_item}
 use Rattle.rev_model.specs.Causes.{crawl_removals, crawl_entry_removals, crawl_item_removals}

@@ -3,14 +3,13 @@ ghost use Rattle.std.specs.Prelude.{◌≡◌, ◌≤◌, length, IfOk, OnOk, On
 ghost use Rattle.rev_items.specs.Plain.{PlainItem};
 ghost use Rattle.rev_model.specs.Chunk.{same_entry};
 ghost use Rattle.rev_model.specs.Lists.{has, without, before};
-ghost use Rattle.rev_model.specs.State.{item_at, queue_of};
+ghost use Rattle.rev_model.specs.State.{item_at, queue_of, IsClass};
 ghost use Rattle.rev_model.specs.Words.{counted, dropped};
 ghost use Rattle.rev_model.specs.Actor.{crawl as crawl_of, crawl_entry, crawl_item as crawl_item_of, passed};
 ghost use Rattle.rev_model.specs.Causes.{crawl_removals, crawl_item_removals};
 ghost use Rattle.rev_model.specs.Track.{removal};
 ghost use Rattle.rev_model.specs.Sound.{Sound, Stands};
-ghost use Rattle.rev_model.specs.Places.{IsClass};
-ghost use Rattle.rev_model.specs.Undo.{LeadsBack};
+ghost use Rattle.rev_model.specs.Move.{LeadsBack};
 ghost use Rattle.rev_changes.specs.Telling.{TellsAll};
 
 use crate::reads::{is_class, unchanged};

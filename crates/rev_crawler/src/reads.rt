@@ -1,10 +1,8 @@
 //! What the crawler asks of the store, and the answer where it does nothing.
 ghost use Rattle.std.specs.Prelude.{◌≡◌, ◌<◌, IfOk, [], true, false};
-ghost use Rattle.rev_model.specs.State.{WellFormed};
-ghost use Rattle.rev_model.specs.Move.{is_class, names, names_other};
+ghost use Rattle.rev_model.specs.State.{WellFormed, IsClass};
+ghost use Rattle.rev_model.specs.Move.{is_class, names, names_other, LeadsBack};
 ghost use Rattle.rev_model.specs.Actor.{has_mark, is_busy};
-ghost use Rattle.rev_model.specs.Places.{IsClass};
-ghost use Rattle.rev_model.specs.Undo.{LeadsBack};
 ghost use Rattle.rev_changes.specs.Telling.{TellsAll};
 
 use rev_inverse::Store;

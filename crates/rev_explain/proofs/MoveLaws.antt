@@ -5,7 +5,7 @@ use Rattle.std.proofs.lemmas.Bool.{cases_Bool, false≢true}
 use Rattle.std.proofs.lemmas.List.{drop_all, drop_more}
 use Rattle.rev_model.specs.Chunk.{same_chunk}
 use Rattle.rev_model.specs.Move.{Move, Takes, Puts, Fills, Touches, Binds, Unbinds, Lays, Lifts, Counts, Sets, BumpsIn, BumpsBack, BumpsOut, BumpsFront, Shifts, MarksIn, MarksOut}
-use Rattle.rev_model.specs.Laws.{same_key-self, same_key-exact}
+use Rattle.rev_model.proofs.Laws.{same_key-self, same_key-exact}
 use Rattle.rev_model.specs.Track.{same_key, has_key, is_chunk, keyed, shift_change, key_change, class_queue_before}
 use Rattle.rev_model.specs.declared.ChunkRef.{ChunkRef}
 use Rattle.rev_model.specs.declared.Cause.{Cause}
@@ -14,7 +14,7 @@ use Rattle.rev_model.specs.declared.Entry.TheVariants.{Chunk, Mark}
 use Rattle.rev_model.specs.declared.KeyChange.{KeyChange}
 use Rattle.rev_model.specs.declared.Listed.TheVariants.{InFree, InQueue}
 use Rattle.rev_model.specs.declared.Placed.TheVariants.{ToFree, ToQueue}
-use Rattle.rev_model.specs.Undo.{same_chunk-self}
+use Rattle.rev_model.proofs.Undo.{same_chunk-self}
 use Rattle.rev_moves.specs.Record.{Group, PlainRecord, IsWhole, group_of, moves_in, notes_in}
 use Rattle.rev_moves.specs.Seen.{plain_moves, plain_notes}
 use Rattle.rev_moves.specs.declared.moves.Move as kept

@@ -3,16 +3,15 @@ use Rattle.std.specs.Prelude.{ℕ, ◌≡◌, ◌<◌, Bool, true, false, List, 
 use Rattle.std.specs.Option.{option_map}
 use Rattle.std.proofs.Common.{sym, ◌∙◌, ap, subst}
 use Rattle.std.proofs.lemmas.Bool.{false≢true, true≢false}
-use Rattle.rev_model.specs.State.{State, find, owner_of}
+use Rattle.rev_model.specs.State.{State, find, owner_of, IsClass}
 use Rattle.rev_model.specs.Words.{queue_with}
 use Rattle.rev_model.specs.Actor.{Step, step}
 use Rattle.rev_model.specs.Sound.{Sound}
-use Rattle.rev_model.specs.Places.{IsClass}
 use Rattle.rev_model.specs.Track.{held, sits_in, class_queue_in, key_place_at, key_place_of, key_change, leads_or}
-use Rattle.rev_model.specs.Place.{sits_there, seat_told}
+use Rattle.rev_model.proofs.Place.{sits_there, seat_told}
 use Rattle.rev_model.specs.Events.{stores, event, event_by, other_event, cause_of}
-use Rattle.rev_model.specs.Fates.{indexed_sound}
-use Rattle.rev_model.specs.Storing.{stored_held}
+use Rattle.rev_model.proofs.Fates.{indexed_sound}
+use Rattle.rev_model.proofs.Storing.{stored_held}
 use Rattle.rev_model.specs.declared.Cause.{Cause}
 use Rattle.rev_model.specs.declared.ChunkRef.{ChunkRef}
 use Rattle.rev_model.specs.declared.EventKind.TheVariants as kind

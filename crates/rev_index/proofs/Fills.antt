@@ -10,7 +10,8 @@ use Rattle.rev_links.specs.declared.places.Place.TheVariants.{End, At}
 use Rattle.rev_links.specs.Rings.{Path, In}
 use Rattle.rev_links.proofs.Rings.{path_same}
 use Rattle.rev_items.specs.Plain.{PlainItem}
-use Rattle.rev_model.specs.Chunk.{same_chunk, chunk_cmp, chunk_cmp_exact, chunk_cmp_total, HasSlot}
+use Rattle.rev_model.specs.Chunk.{same_chunk, chunk_cmp, HasSlot}
+use Rattle.rev_model.proofs.Chunks.{chunk_cmp_exact, chunk_cmp_total}
 use Rattle.rev_model.specs.Move.{put_at, touched}
 use Rattle.rev_model.specs.declared.Touched.{Touched}
 use Rattle.rev_model.specs.declared.ChunkRef.{ChunkRef}

@@ -9,7 +9,7 @@ use Rattle.rev_links.specs.Rings.{Path, In, Tells}
 use Rattle.rev_links.proofs.Rings.{first_step}
 use Rattle.rev_items.specs.Plain.{PlainItem}
 use Rattle.rev_model.specs.Chunk.{same_chunk}
-use Rattle.rev_model.specs.Undo.{tells_chunk}
+use Rattle.rev_model.proofs.Undo.{tells_chunk}
 use Rattle.rev_model.specs.declared.ChunkRef.{ChunkRef}
 use Rattle.rev_index.specs.Made.{made, at, get-made}
 use Rattle.rev_index.specs.declared.chains.Bucket.{Bucket}

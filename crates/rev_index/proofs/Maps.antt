@@ -7,7 +7,7 @@ use Rattle.std.specs.Cmp.{eq_by_cmp_equiv}
 use Rattle.std.specs.FinMap as map
 use Rattle.rev_links.specs.Rings.{In, without, Tells}
 use Rattle.rev_items.specs.Plain.{PlainItem}
-use Rattle.rev_model.specs.Undo.{tied}
+use Rattle.rev_model.proofs.Undo.{tied}
 use Rattle.rev_model.specs.State.{Keys}
 use Rattle.rev_model.specs.declared.ChunkRef.{ChunkRef}
 use Rattle.rev_index.specs.Chains.{bucket_of}

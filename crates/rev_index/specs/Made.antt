@@ -7,10 +7,11 @@ use Rattle.std.specs.Ordering.{eq_by_cmp}
 use Rattle.std.specs.Cmp.{eq_by_cmp_equiv}
 use Rattle.std.specs.FinMap as map
 use Rattle.rev_items.specs.Plain.{PlainItem}
-use Rattle.rev_model.specs.Chunk.{chunk_cmp, chunk_cmp_exact, chunk_cmp_total, HasSlot}
+use Rattle.rev_model.specs.Chunk.{chunk_cmp, HasSlot}
+use Rattle.rev_model.proofs.Chunks.{chunk_cmp_exact, chunk_cmp_total}
 use Rattle.rev_model.specs.State.{Contents}
 use Rattle.rev_model.specs.Move.{put_at}
-use Rattle.rev_model.specs.Undo.{get-put_at, get-put_at_same, tied}
+use Rattle.rev_model.proofs.Undo.{get-put_at, get-put_at_same, tied}
 use Rattle.rev_model.specs.declared.ChunkRef.{ChunkRef}
 
 -- the slots of page p from number i on, over a map

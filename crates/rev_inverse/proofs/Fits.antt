@@ -7,11 +7,13 @@ use Rattle.std.specs.FinMap as map
 use Rattle.std.specs.Ordering.{eq_by_cmp}
 use Rattle.rev_items.specs.Plain.{PlainItem}
 use Rattle.rev_links.specs.Rings.{In}
-use Rattle.rev_model.specs.Chunk.{same_entry, chunk_cmp, chunk_cmp_exact, chunk_cmp_total, HasSlot, EntryHasSlot}
+use Rattle.rev_model.specs.Chunk.{same_entry, chunk_cmp, HasSlot, EntryHasSlot}
+use Rattle.rev_model.proofs.Chunks.{chunk_cmp_exact, chunk_cmp_total}
 use Rattle.rev_model.specs.Lists.{has}
-use Rattle.rev_model.specs.State.{State, Fixed, Contents, per_page, page_slots, queue_place}
+use Rattle.rev_model.specs.State.{State, Fixed, Contents, per_page, queue_place}
+use Rattle.rev_model.proofs.Slots.{page_slots}
 use Rattle.rev_model.specs.Move.{Possible, Fills, Puts, put_at, touched}
-use Rattle.rev_model.specs.Undo.{tells_entry, tied, get-put_at, in_no_queue}
+use Rattle.rev_model.proofs.Undo.{tells_entry, tied, get-put_at, in_no_queue}
 use Rattle.rev_model.specs.Words.{weight, size_of}
 use Rattle.rev_model.specs.declared.ChunkRef.{ChunkRef}
 use Rattle.rev_model.specs.declared.Touched.{Touched}

@@ -8,7 +8,7 @@ use Rattle.rev_model.specs.Lists.{has, distinct, without, behind, insert, has_af
 use Rattle.rev_model.specs.State.{State, WellFormed, queue_of, queue_place, queue_number}
 use Rattle.rev_model.specs.declared.Queue.{Queue}
 use Rattle.rev_model.specs.Move.{with_queue, front, last_or, marked, unmarked, NoMarks, EndMarks, names, names_other, is_class}
-use Rattle.rev_model.specs.Undo.{tells_entry, few, distinct_from_counts}
+use Rattle.rev_model.proofs.Undo.{tells_entry, few, distinct_from_counts}
 use Rattle.rev_model.specs.declared.ClassSet.{ClassSet}
 use Rattle.rev_model.specs.declared.Entry.{Entry}
 use Rattle.rev_model.specs.declared.Entry.TheVariants.{Mark}

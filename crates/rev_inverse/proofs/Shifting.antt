@@ -12,12 +12,13 @@ use Rattle.std.specs.Cmp.Lexicographic.{slice_cmp, nat_list_cmp_total}
 use Rattle.std.specs.declared.cmp.Ordering.{Ordering}
 use Rattle.rev_items.specs.Plain.{PlainItem}
 use Rattle.rev_links.specs.Rings.{In}
-use Rattle.rev_model.specs.Chunk.{same_entry, chunk_cmp_exact, chunk_cmp_total}
+use Rattle.rev_model.specs.Chunk.{same_entry}
+use Rattle.rev_model.proofs.Chunks.{chunk_cmp_exact, chunk_cmp_total}
 use Rattle.rev_model.specs.Lists.{has, distinct, count, without, before_from, before, insert, has_after}
-use Rattle.rev_model.specs.ListLaws.{has_after-before, has-without}
+use Rattle.rev_model.proofs.ListLaws.{has_after-before, has-without}
 use Rattle.rev_model.specs.State.{State, Contents, Keys, Fixed, WellFormed, WellIndexed, IsChunkOf, queue_of, queue_place, owner_of}
 use Rattle.rev_model.specs.Move.{Shifts, Possible, put_at, exchanged, carried, rebound, shifted}
-use Rattle.rev_model.specs.Undo.{tells_entry, count-has, count_in_table, queue_distinct, in_no_queue, get-put_at, get-put_at_same, tied_self, at_map, has-exchanged}
+use Rattle.rev_model.proofs.Undo.{tells_entry, count-has, count_in_table, queue_distinct, in_no_queue, get-put_at, get-put_at_same, tied_self, at_map, has-exchanged}
 use Rattle.rev_model.specs.Words.{weight, size_of, queue_among}
 use Rattle.std.specs.Prelude.{slice_index}
 use Rattle.rev_pages.specs.State.{PagesState}

@@ -1,10 +1,9 @@
 ghost use Rattle.std.specs.Prelude.{◌≡◌, ℕ, ◌+◌, ◌*◌, ◌<◌, ◌≤◌, ◌++◌, ◌∷◌, [], length, true, false};
 ghost use Rattle.rev_model.specs.Chunk.{same_entry};
 ghost use Rattle.rev_model.specs.Lists.{has, distinct};
-ghost use Rattle.rev_model.specs.State.{WellFormed, queue_of, queue_place, queue_number};
+ghost use Rattle.rev_model.specs.State.{WellFormed, queue_of, queue_place, queue_number, IsClass};
 ghost use Rattle.rev_model.specs.Move as plain;
 ghost use Rattle.rev_model.specs.Move.{moved, Possible, with_queue, front, names};
-ghost use Rattle.rev_model.specs.Places.{IsClass};
 
 use crate::store::Store;
 use crate::uncounted::{last_entry, put_entry, take_entry};

@@ -1,8 +1,7 @@
 ghost use Rattle.std.specs.Prelude.{◌≡◌, ◌⊎◌, ◌≤◌, ℕ, ◌+◌, ◌*◌, IfOk, IfErr, None, Ok, Some, length};
 ghost use Rattle.rev_classes.specs.Limits.{class_sizes, fault_of};
 ghost use Rattle.rev_classes.specs.declared.ConfigFault.TheVariants.{Memory};
-ghost use Rattle.rev_model.specs.State.{per_page};
-ghost use Rattle.rev_model.specs.Places.{IsClass};
+ghost use Rattle.rev_model.specs.State.{per_page, IsClass};
 ghost use Rattle.rev_model.specs.Sound.{Sound};
 ghost use Rattle.rev_pages.specs.State.{no_pages};
 ghost use Rattle.rev_queues.specs.QueueState.{empty_queues};

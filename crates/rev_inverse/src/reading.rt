@@ -2,10 +2,9 @@ ghost use Rattle.std.specs.Prelude.{◌≡◌, ℕ, ◌<◌, length, slice_get, 
 ghost use Rattle.std.specs.Option.{option_copied, option_map};
 ghost use Rattle.rev_model.specs.Chunk.{same_chunk, same_entry};
 ghost use Rattle.rev_model.specs.Lists.{has, has_after, before};
-ghost use Rattle.rev_model.specs.State.{WellFormed, free_of, queue_of, counter_of, owner_of, item_at, find};
+ghost use Rattle.rev_model.specs.State.{WellFormed, free_of, queue_of, counter_of, owner_of, item_at, find, IsClass};
 ghost use Rattle.rev_model.specs.Words.{first, tail, bytes, header_of, queue_with};
 ghost use Rattle.rev_model.specs.Pull.{lowest_page, owns_page};
-ghost use Rattle.rev_model.specs.Places.{IsClass};
 ghost use Rattle.rev_model.specs.declared.Queue.{Queue as QueueOf};
 ghost use Rattle.rev_inverse.specs.Reading.{next_after};
 

@@ -8,12 +8,12 @@ use Rattle.std.proofs.lemmas.List.{get_or-set_other}
 use Rattle.rev_items.specs.Plain.{PlainItem}
 use Rattle.rev_model.specs.Chunk.{same_entry}
 use Rattle.rev_model.specs.Lists.{has}
-use Rattle.rev_model.specs.State.{State, WellFormed, queue_of, queue_place, owner_of, item_at}
+use Rattle.rev_model.specs.State.{State, WellFormed, queue_of, queue_place, owner_of, item_at, IsClass}
 use Rattle.rev_model.specs.Actor.{bump, bump_from, bump_item}
-use Rattle.rev_model.specs.Undo.{entered, queue_lacks}
+use Rattle.rev_model.proofs.Undo.{entered, queue_lacks}
 use Rattle.rev_model.specs.Words.{queue_with, counted, headed, left, with_item, header_of}
 use Rattle.rev_model.specs.Sound.{Sound, Stands}
-use Rattle.rev_model.specs.Places.{IsClass, queue_in, glanced}
+use Rattle.rev_model.proofs.Places.{queue_in, glanced}
 use Rattle.rev_model.specs.declared.BumpEntry.{BumpEntry}
 use Rattle.rev_model.specs.declared.ChunkRef.{ChunkRef}
 use Rattle.rev_model.specs.declared.Counter.TheVariants.{MovesToWarm}

@@ -3,7 +3,7 @@ use Rattle.std.specs.Prelude.{ℕ, ◌≡◌, false, ◌||◌, Option, None, Som
 use Rattle.std.proofs.Common.{inl, inr}
 use Rattle.std.proofs.lemmas.Bool.{cases_Bool}
 use Rattle.rev_items.specs.Plain.{PlainItem}
-use Rattle.rev_model.specs.State.{State, queue_of, item_at}
+use Rattle.rev_model.specs.State.{State, queue_of, item_at, IsClass}
 use Rattle.rev_model.specs.declared.ChunkRef.{ChunkRef}
 use Rattle.rev_model.specs.declared.Queue.{Queue}
 use Rattle.rev_model.specs.declared.Queue.TheVariants.{Hot, Warm, Cold, Temp}
@@ -13,7 +13,7 @@ use Rattle.rev_model.specs.declared.PullMode.{PullMode}
 use Rattle.rev_model.specs.Words.{is_dead, tail, over, idle, dropped, headed, with_item, inactive}
 use Rattle.rev_model.specs.Pull.{pull, pull_tail, pull_item, pull_live, warmed, cooled, takes_all, evicts}
 use Rattle.rev_model.specs.Sound.{SoundBut, Stands}
-use Rattle.rev_model.specs.Places.{IsClass, queue_in, tail_stands}
+use Rattle.rev_model.proofs.Places.{queue_in, tail_stands}
 use Rattle.rev_changes.specs.Rest.{Rest, rest_of, rest-counted, rest-touched, rest-headed, rest-dropped}
 
 module _ (h : Option ChunkRef) (s : State) (sound : SoundBut h s) (c : ℕ) (class : IsClass s.fixed c) where

@@ -3,11 +3,10 @@ ghost use Rattle.std.specs.Prelude.{◌≡◌, ℕ, ◌+◌, ◌≤◌, length, 
 ghost use Rattle.std.specs.Option.{option_map};
 ghost use Rattle.rev_items.specs.Plain.{PlainItem};
 ghost use Rattle.rev_model.specs.Actor.{bump as bump_of};
-ghost use Rattle.rev_model.specs.State.{WellFormed, item_at};
+ghost use Rattle.rev_model.specs.State.{WellFormed, item_at, IsClass};
 ghost use Rattle.rev_model.specs.Words.{header_of};
 ghost use Rattle.rev_model.specs.Sound.{Sound, Stands};
-ghost use Rattle.rev_model.specs.Places.{IsClass};
-ghost use Rattle.rev_model.specs.Undo.{LeadsBack};
+ghost use Rattle.rev_model.specs.Move.{LeadsBack};
 ghost use Rattle.rev_moves.specs.Leads.{Leads};
 ghost use Rattle.rev_changes.specs.Telling.{Tells, TellsAll};
 ghost use Rattle.rev_maintainer.specs.Bumping.{asked, bumped, bump_need};

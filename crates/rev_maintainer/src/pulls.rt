@@ -2,11 +2,10 @@
 ghost use Rattle.std.specs.Prelude.{◌≡◌, ℕ, ◌+◌, ◌<◌, ◌≤◌, length, Option, None, Some, true};
 ghost use Rattle.std.specs.Option.{option_map};
 ghost use Rattle.rev_items.specs.Plain.{PlainItem};
-ghost use Rattle.rev_model.specs.State.{State, WellFormed, item_at, free_of};
+ghost use Rattle.rev_model.specs.State.{State, WellFormed, item_at, free_of, IsClass};
 ghost use Rattle.rev_model.specs.Words.{header_of};
 ghost use Rattle.rev_model.specs.Pull.{pull_live, pull_item, pull};
 ghost use Rattle.rev_model.specs.Sound.{Stands, Sound};
-ghost use Rattle.rev_model.specs.Places.{IsClass};
 ghost use Rattle.rev_moves.specs.Leads.{Leads};
 ghost use Rattle.rev_changes.specs.Telling.{Tells};
 ghost use Rattle.rev_model.specs.Causes.{live_removals, item_removals, pull_removals};

@@ -1,9 +1,8 @@
 //! What a pull asks of the store.
 ghost use Rattle.std.specs.Prelude.{◌≡◌, ℕ, ◌+◌, ◌<◌, ◌≤◌, ◌||◌};
-ghost use Rattle.rev_model.specs.State.{State, WellFormed, item_at, queue_of};
+ghost use Rattle.rev_model.specs.State.{State, WellFormed, item_at, queue_of, IsClass};
 ghost use Rattle.rev_model.specs.Words.{tail, share, factor, over, idle_since, age_at};
 ghost use Rattle.rev_model.specs.Pull.{takes_all, evicts};
-ghost use Rattle.rev_model.specs.Places.{IsClass};
 
 use rev_inverse::Store;
 use rev_model::{PullMode, Queue, Settings};

@@ -1,9 +1,8 @@
 //! Room for a new item.
 ghost use Rattle.std.specs.Prelude.{◌≡◌, ℕ, ◌+◌, ◌*◌, ◌<◌, ◌≤◌, length, Option, None, Some, List, [], IfOk};
-ghost use Rattle.rev_model.specs.State.{State, WellFormed, IsChunkOf, free_of};
+ghost use Rattle.rev_model.specs.State.{State, WellFormed, IsChunkOf, free_of, IsClass};
 ghost use Rattle.rev_model.specs.Pull.{squeezed, given, page_of, room_by, room};
 ghost use Rattle.rev_model.specs.Sound.{Sound, SoundBut};
-ghost use Rattle.rev_model.specs.Places.{IsClass};
 ghost use Rattle.rev_moves.specs.Leads.{Leads};
 ghost use Rattle.rev_changes.specs.Telling.{Tells};
 ghost use Rattle.rev_model.specs.Causes.{squeeze_removals, room_removals_by, room_removals};

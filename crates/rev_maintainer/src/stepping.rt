@@ -2,9 +2,8 @@
 ghost use Rattle.std.specs.Prelude.{◌≡◌, ◌≤◌, length, IfOk, OnOk, OnErr};
 ghost use Rattle.rev_model.specs.Actor.{pull_step as pull_step_of};
 ghost use Rattle.rev_model.specs.Causes.{pull_step_removals};
-ghost use Rattle.rev_model.specs.Move.{is_class};
+ghost use Rattle.rev_model.specs.Move.{is_class, LeadsBack};
 ghost use Rattle.rev_model.specs.Sound.{Sound};
-ghost use Rattle.rev_model.specs.Undo.{LeadsBack};
 ghost use Rattle.rev_changes.specs.Telling.{TellsAll};
 
 use crate::pulls::pull;

@@ -3,11 +3,6 @@ use Rattle.std.specs.Prelude.{ℕ, Bool, true, false, ◌&&◌, ◌==◌, ◌<�
 use Rattle.std.specs.Coded.{Coded, code_by, coded×, coded_ℕ}
 use Rattle.std.specs.Ordering.{nat_cmp, ordering_then}
 use Rattle.std.specs.declared.cmp.Ordering.{Ordering}
-use Rattle.std.specs.Cmp.{IsTotalOrder, nat_cmp_total}
-use Rattle.std.specs.FinMap.{IsAntisymmetric}
-use Rattle.std.proofs.Common.{ap}
-use Rattle.std.proofs.lemmas.Cmp.{on_total, then_total}
-use Rattle.std.proofs.lemmas.Map.Lookups.{exact_pairs, exact_unsigned}
 use Rattle.rev_model.specs.declared.ChunkRef.{ChunkRef}
 use Rattle.rev_model.specs.declared.Entry.{Entry}
 use Rattle.rev_model.specs.declared.Entry.TheVariants.{Chunk, Mark}
@@ -28,12 +23,6 @@ chunk_cmp a b = ordering_then (nat_cmp a.page b.page) (nat_cmp a.slot b.slot)
 
 abbrev pub coded_chunk : Coded ChunkRef
 coded_chunk = code_by (ℕ × ℕ) (coded× coded_ℕ coded_ℕ) (λ c. (c.page, c.slot)) (λ p. record { page = p.0; slot = p.1 }) (λ _. refl)
-
-pub chunk_cmp_exact : IsAntisymmetric chunk_cmp
-chunk_cmp_exact a b h = ap (λ (p : ℕ × ℕ). record { page = p.0; slot = p.1 }) (exact_pairs nat_cmp nat_cmp exact_unsigned exact_unsigned (a.page, a.slot) (b.page, b.slot) h)
-
-pub chunk_cmp_total : IsTotalOrder chunk_cmp
-chunk_cmp_total = then_total (on_total (λ c. c.page) nat_cmp_total) (on_total (λ c. c.slot) nat_cmp_total)
 
 -- the chunk is a slot of a page, where `slots` counts each page's
 abbrev pub HasSlot : List ℕ → ChunkRef → Type 0

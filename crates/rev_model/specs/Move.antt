@@ -282,3 +282,8 @@ turned (m ∷ ms) s = (moved m (turned ms s).0, (turned ms s).1 ++ reverse m (tu
 abbrev pub Fits : List Move → State → Type 0
 Fits [] s = Unit {0}
 Fits (m ∷ ms) s = Fits ms s × Possible m (turned ms s).0
+
+-- The record fits, and turning it leads back to the first state: what each step keeps of its record.
+pub record LeadsBack (ms : List Move) (s : State) (first : State) : Type 0 where
+  pub fits : Fits ms s
+  pub there : (turned ms s).0 ≡ first

@@ -7,7 +7,7 @@ use Rattle.rev_items.specs.Plain.{PlainItem}
 use Rattle.rev_model.specs.Chunk.{same_chunk, same_entry}
 use Rattle.rev_model.specs.Lists.{count, has}
 use Rattle.rev_model.specs.declared.Queue.{Queue}
-use Rattle.rev_model.specs.State.{State, Fixed, Contents, Keys, WellFormed, IsChunkOf, stands_in, per_page, queue_place, queue_of, item_at, find}
+use Rattle.rev_model.specs.State.{State, Fixed, Contents, Keys, WellFormed, IsChunkOf, stands_in, per_page, queue_place, queue_of, item_at, find, stands}
 use Rattle.rev_model.specs.Words.{class_of}
 use Rattle.rev_items.specs.Rules.{footprint_of}
 use Rattle.rev_model.specs.Actor.{owned_pages}
@@ -83,3 +83,10 @@ pub record Stands (s : State) (c : ℕ) (q : Queue) (x : ChunkRef) (i : PlainIte
   pub there : has same_entry (Chunk x) (queue_of s c q) ≡ true
   pub item : item_at s x ≡ Some i
   pub key : find s i.key ≡ Some x
+
+-- an unlinked chunk may go to the front of the free list
+pub record Loose (s : State) (c : ℕ) (x : ChunkRef) : Type 0 where
+  pub class : c < length s.free
+  pub chunk : IsChunkOf s.fixed s.owner c x
+  pub nowhere : stands s x ≡ 0
+  pub empty : item_at s x ≡ None

@@ -1,5 +1,5 @@
 -- The plain state of a store, and when it is well formed.
-use Rattle.std.specs.Prelude.{ℕ, ◌≡◌, ◌+◌, ◌*◌, ◌<◌, ◌≤◌, ◌/◌, true, false, cond, List, [], Option, Some, is_some, length, slice_index, slice_index_or, nat_eq, ◌-◌, map as map_list}
+use Rattle.std.specs.Prelude.{ℕ, ◌≡◌, ◌+◌, ◌*◌, ◌<◌, ◌≤◌, ◌/◌, true, false, cond, List, [], Option, Some, is_some, length, slice_index, slice_index_or, nat_eq, ◌-◌}
 use Rattle.std.specs.List.{sum_by}
 use Rattle.std.specs.Ordering.{nat_cmp}
 use Rattle.std.specs.Cmp.Lexicographic.{slice_cmp}
@@ -92,10 +92,6 @@ last_class s = length s.fixed.sizes
 abbrev pub per_page : Fixed → ℕ → ℕ
 per_page f c = cond (nat_eq c 0) 0 (f.page_size / slice_index f.sizes (c - 1))
 
--- how many slots each page has
-abbrev pub page_slots : Fixed → List ℕ → List ℕ
-page_slots f owner = map_list (per_page f) owner
-
 -- in how many places of lists a chunk stands
 abbrev pub stands_in : List (List ChunkRef) → List (List Entry) → ChunkRef → ℕ
 stands_in free queues x = sum_by (count same_chunk x) free + sum_by (count same_entry (Chunk x)) queues
@@ -140,3 +136,7 @@ pub record WellFormed (s : State) : Type 0 where
   pub owned : WellOwned s.fixed s.owner
   pub bump : length s.bump ≤ s.fixed.bump_room
   pub counters : length s.counters ≡ 7 * (last_class s + 1)
+
+-- a class from 1 to the last
+abbrev pub IsClass : Fixed → ℕ → Type 0
+IsClass f c = (0 < c) × (c ≤ length f.sizes)

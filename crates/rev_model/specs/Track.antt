@@ -1,11 +1,11 @@
 -- Where a key was before a step, read off the step's record and where it is after the step.
-use Rattle.std.specs.Prelude.{ℕ, ◌≡◌, Bool, true, false, cond, List, [], ◌∷◌, ◌++◌, Option, None, Some, is_some}
+use Rattle.std.specs.Prelude.{ℕ, Bool, false, cond, List, [], ◌∷◌, ◌++◌, Option, None, Some, is_some}
 use Rattle.std.specs.Ordering.{eq_by_cmp, nat_cmp}
 use Rattle.std.specs.Cmp.Lexicographic.{slice_cmp}
 use Rattle.rev_items.specs.Plain.{PlainItem}
 use Rattle.rev_model.specs.Chunk.{same_chunk, same_entry}
 use Rattle.rev_model.specs.Lists.{has}
-use Rattle.rev_model.specs.State.{State, WellFormed, item_at, find, owner_of, queue_of}
+use Rattle.rev_model.specs.State.{State, item_at, find, owner_of, queue_of}
 use Rattle.rev_model.specs.Move.{Move, Takes, Puts, Fills, Binds, Unbinds, Shifts, turned}
 use Rattle.rev_model.specs.declared.ChunkRef.{ChunkRef}
 use Rattle.rev_model.specs.declared.Entry.TheVariants.{Chunk}
@@ -43,12 +43,6 @@ key_place_at s (Some x) = Some (record { chunk = x; lru = class_queue_in s x })
 
 abbrev pub key_place_of : State → List ℕ → Option KeyPlace
 key_place_of s k = key_place_at s (find s k)
-
--- a store between steps: the index has exactly each item's key, and a chunk has an item exactly where it stands in a queue
-pub record SoundKeys (s : State) : Type 0 where
-  pub well : WellFormed s
-  pub indexed : (x : ChunkRef) (i : PlainItem) → item_at s x ≡ Some i → find s i.key ≡ Some x
-  pub queued : (x : ChunkRef) (i : PlainItem) → item_at s x ≡ Some i → (c : ℕ) × (q : Queue) × (sits_in s x c q ≡ true)
 
 -- over a record's moves
 
@@ -135,7 +129,7 @@ removals [] ns t = []
 removals (Binds x ∷ ms) ns t = removal (item_at (turned ms t).0 x) (first_note ns) ++ removals ms (more_notes ns) t
 removals (m ∷ ms) ns t = removals ms (more_notes ns) t
 
--- the note of the first removal of the key
-abbrev pub first_removal : List ℕ → List Removal → Option (Option Cause)
-first_removal k [] = None
-first_removal k (r ∷ rs) = cond (same_key k r.key) (Some r.note) (first_removal k rs)
+-- what the layers below keep of a record's notes: a move appends what it removed from the index, and nothing else
+abbrev pub removed : Move → Option Cause → State → List Removal
+removed (Unbinds x) n s = removal (item_at s x) n
+removed m n s = []

@@ -13,11 +13,10 @@ use Rattle.rev_model.specs.Lists.{has, count}
 use Rattle.rev_model.specs.State.{State, WellFormed, IsChunkOf, free_of, queue_of, queue_place, owner_of, item_at, find, stands, stands_in}
 use Rattle.rev_model.specs.Move.{Shifts, Possible, Ready, moved, exchanged}
 use Rattle.rev_model.specs.Move as move
-use Rattle.rev_model.specs.Undo.{tells_chunk, tells_entry, tied, tied_self, at_map, count-has, has-count, count_in_table, free_lacks, lacks-exchanged, apart_by_item, differ}
-use Rattle.rev_model.specs.Laws.{get_put}
+use Rattle.rev_model.proofs.Undo.{tells_chunk, tells_entry, tied, tied_self, at_map, count-has, has-count, count_in_table, free_lacks, lacks-exchanged, apart_by_item, differ}
+use Rattle.rev_model.proofs.Laws.{get_put}
 use Rattle.rev_model.specs.Actor.{shifted, in_place}
-use Rattle.rev_model.specs.Sound.{Stands}
-use Rattle.rev_model.specs.Drops.{Loose}
+use Rattle.rev_model.specs.Sound.{Stands, Loose}
 use Rattle.rev_model.specs.declared.ChunkRef.{ChunkRef}
 use Rattle.rev_model.specs.declared.Entry.{Entry}
 use Rattle.rev_model.specs.declared.Entry.TheVariants.{Chunk, Mark}

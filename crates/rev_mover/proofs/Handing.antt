@@ -7,12 +7,12 @@ use Rattle.rev_model.specs.Chunk.{same_chunk, same_entry}
 use Rattle.rev_model.specs.Lists.{has}
 use Rattle.rev_model.specs.State.{State, Fixed, WellFormed, IsChunkOf, free_of, owner_of, item_at, per_page, stands}
 use Rattle.rev_model.specs.Move.{Lays, Lifts, Ready, Possible, falling, laid, HoldsNoItem}
-use Rattle.rev_model.specs.Undo.{sum_none, free_lacks, in_no_queue}
+use Rattle.rev_model.proofs.Undo.{sum_none, free_lacks, in_no_queue}
 use Rattle.rev_model.specs.Actor.{owned_pages, handed}
 use Rattle.rev_model.specs.Sound.{Sound, Placed, MoverSound, owning, is_withdrawn}
-use Rattle.rev_model.specs.Keeps.{keeps-sets}
+use Rattle.rev_model.proofs.Keeps.{keeps-sets}
 use Rattle.rev_model.specs.declared.GlobalPart.TheVariants as part
-use Rattle.rev_model.specs.Laying.{GetsOne, gets, gets_one, keeps-lay, carved_sound}
+use Rattle.rev_model.proofs.Laying.{GetsOne, gets, gets_one, keeps-lay, carved_sound}
 use Rattle.rev_model.specs.declared.ChunkRef.{ChunkRef}
 use Rattle.rev_model.specs.declared.Entry.TheVariants.{Chunk}
 use Rattle.rev_model.specs.declared.Form.TheVariants.{Pool, Withdrawn}

@@ -5,14 +5,13 @@ use Rattle.std.proofs.lemmas.List.{length-set}
 use Rattle.rev_items.specs.Plain.{PlainItem}
 use Rattle.rev_model.specs.Chunk.{same_chunk}
 use Rattle.rev_model.specs.Lists.{has, without}
-use Rattle.rev_model.specs.State.{State, IsChunkOf, free_of, item_at}
+use Rattle.rev_model.specs.State.{State, IsChunkOf, free_of, item_at, IsClass}
 use Rattle.rev_model.specs.Move.{Shifts, Possible, moved, with_free}
 use Rattle.rev_model.specs.Words.{queue_with}
 use Rattle.rev_model.specs.Actor.{shifted}
-use Rattle.rev_model.specs.Keeps.{keeps-take_free}
-use Rattle.rev_model.specs.Sound.{Sound, SoundBut, Stands}
-use Rattle.rev_model.specs.Drops.{Loose}
-use Rattle.rev_model.specs.Places.{IsClass, free_in}
+use Rattle.rev_model.proofs.Keeps.{keeps-take_free}
+use Rattle.rev_model.specs.Sound.{Sound, SoundBut, Stands, Loose}
+use Rattle.rev_model.proofs.Places.{free_in}
 use Rattle.rev_model.specs.declared.ChunkRef.{ChunkRef}
 use Rattle.rev_changes.specs.Rest.{sound_of, rest_of}
 use Rattle.rev_changes.specs.Linking.{held_loose}

@@ -6,7 +6,7 @@ use Rattle.rev_model.specs.State.{State, owner_of}
 use Rattle.rev_model.specs.Pull.{page_from, lowest_page}
 use Rattle.rev_model.specs.Actor.{owned_pages}
 use Rattle.rev_model.specs.Sound.{Sound, Placed, MoverSound, is_withdrawn}
-use Rattle.rev_model.specs.Keeps.{keeps-sets}
+use Rattle.rev_model.proofs.Keeps.{keeps-sets}
 use Rattle.rev_model.specs.declared.GlobalPart.TheVariants as part
 use Rattle.rev_model.specs.declared.ChunkRef.{ChunkRef}
 use Rattle.rev_model.specs.declared.Mover.{Mover}

@@ -4,7 +4,7 @@ use Rattle.std.proofs.lemmas.Bool.{cases_Bool}
 use Rattle.rev_model.specs.Lists.{has, count}
 use Rattle.rev_inverse.specs.Reading.{next_after}
 use Rattle.rev_model.specs.Chunk.{same_chunk}
-use Rattle.rev_model.specs.Undo.{tells_chunk, count_in_table}
+use Rattle.rev_model.proofs.Undo.{tells_chunk, count_in_table}
 use Rattle.rev_model.specs.State.{State, free_of}
 use Rattle.rev_model.specs.Sound.{Sound}
 use Rattle.rev_model.specs.Actor.{spare}

@@ -4,7 +4,7 @@ ghost use Rattle.rev_model.specs.State.{State, item_at, per_page};
 ghost use Rattle.rev_model.specs.Actor.{cleared, next_slot, advance as advance_of};
 ghost use Rattle.rev_model.specs.Causes.{cleared_removals, advance_removals};
 ghost use Rattle.rev_model.specs.Sound.{Sound, SoundBut};
-ghost use Rattle.rev_model.specs.Undo.{LeadsBack};
+ghost use Rattle.rev_model.specs.Move.{LeadsBack};
 ghost use Rattle.rev_moves.specs.Leads.{Leads};
 ghost use Rattle.rev_changes.specs.Telling.{Tells, TellsAll};
 ghost use Rattle.rev_mover.specs.Moving.{slot_chunk, next_mover, with_mover, IsLeft};

@@ -3,14 +3,13 @@ ghost use Rattle.std.specs.Prelude.{◌≡◌, ℕ, ◌+◌, ◌<◌, ◌≤◌,
 ghost use Rattle.rev_items.specs.Plain.{PlainItem};
 ghost use Rattle.rev_model.specs.Chunk.{same_chunk};
 ghost use Rattle.rev_model.specs.Lists.{has, without};
-ghost use Rattle.rev_model.specs.State.{State, IsChunkOf, free_of, item_at};
+ghost use Rattle.rev_model.specs.State.{State, IsChunkOf, free_of, item_at, IsClass};
 ghost use Rattle.rev_model.specs.Move.{with_free};
 ghost use Rattle.rev_model.specs.Words.{counted, unlinked, queue_with};
 ghost use Rattle.rev_model.specs.Actor.{spare, shifted, cleared};
 ghost use Rattle.rev_model.specs.Causes.{cleared_removals};
 ghost use Rattle.rev_model.specs.Track.{removal};
 ghost use Rattle.rev_model.specs.Sound.{Sound, SoundBut};
-ghost use Rattle.rev_model.specs.Places.{IsClass};
 ghost use Rattle.rev_moves.specs.Leads.{Leads};
 ghost use Rattle.rev_changes.specs.Telling.{Tells};
 ghost use Rattle.rev_mover.specs.Clearing.{clearing_of, clearing_moves};

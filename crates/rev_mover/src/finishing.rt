@@ -3,7 +3,7 @@ ghost use Rattle.std.specs.Prelude.{◌≡◌, ℕ, ◌+◌, ◌<◌, ◌≤◌,
 ghost use Rattle.rev_model.specs.State.{State, per_page};
 ghost use Rattle.rev_model.specs.Actor.{handed};
 ghost use Rattle.rev_model.specs.Sound.{Sound};
-ghost use Rattle.rev_model.specs.Undo.{LeadsBack};
+ghost use Rattle.rev_model.specs.Move.{LeadsBack};
 ghost use Rattle.rev_moves.specs.Leads.{Leads};
 ghost use Rattle.rev_changes.specs.Telling.{Tells, TellsAll};
 ghost use Rattle.rev_mover.specs.Moving.{pooled, finished, IsDone};

@@ -1,7 +1,7 @@
 -- A record that leads back still does after more moves.
 use Rattle.rev_moves.specs.Record.{PlainRecord}
 use Rattle.rev_model.specs.State.{State}
-use Rattle.rev_model.specs.Undo.{LeadsBack}
+use Rattle.rev_model.specs.Move.{LeadsBack}
 
 -- wherever the record r led back to from the state s, there the record t leads back to from the state u
 abbrev pub Leads : PlainRecord → State → PlainRecord → State → Type 0

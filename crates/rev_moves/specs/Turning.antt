@@ -3,9 +3,9 @@ use Rattle.std.specs.Prelude.{ℕ, ◌≡◌, ◌+◌, ◌-◌, ◌<◌, ◌≤�
 use Rattle.std.proofs.Common.{sym, ◌∙◌, ap, subst, arith}
 use Rattle.std.proofs.lemmas.List.{reverse-append, reverse-reverse, length-append, append-nil, append_assoc}
 use Rattle.rev_model.specs.State.{State, WellFormed}
-use Rattle.rev_model.specs.Move.{Move, moved, Possible, turned, Fits}
+use Rattle.rev_model.specs.Move.{Move, moved, Possible, turned, Fits, LeadsBack}
 use Rattle.rev_model.specs.Move as move
-use Rattle.rev_model.specs.Undo.{turned_well, turns_back, LeadsBack, leads_more}
+use Rattle.rev_model.proofs.Undo.{turned_well, turns_back, leads_more}
 use Rattle.rev_moves.specs.Record.{Group, moves_in, notes_in}
 
 -- ---- moves in front of others

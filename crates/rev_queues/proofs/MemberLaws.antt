@@ -11,7 +11,7 @@ use Rattle.rev_model.specs.Chunk.{same_chunk, same_entry}
 use Rattle.rev_model.specs.Lists as plain
 use Rattle.rev_model.specs.Move.{last_or}
 use Rattle.rev_model.specs.Words.{tail, later}
-use Rattle.rev_model.specs.Undo.{tells_chunk, tells_entry}
+use Rattle.rev_model.proofs.Undo.{tells_chunk, tells_entry}
 use Rattle.rev_model.specs.declared.ChunkRef.{ChunkRef}
 use Rattle.rev_model.specs.declared.Entry.{Entry}
 use Rattle.rev_model.specs.declared.Entry.TheVariants as entry

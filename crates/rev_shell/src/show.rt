@@ -1,9 +1,8 @@
 //! What a store shows to the debug commands.
 ghost use Rattle.std.specs.Prelude.{◌≡◌, ◌++◌, codes, OnOk, true, is_some, Some};
 ghost use Rattle.rev_model.specs.Sound.{Sound};
-ghost use Rattle.rev_model.specs.State.{item_at, find, counter_of, free_of, queue_of};
+ghost use Rattle.rev_model.specs.State.{item_at, find, counter_of, free_of, queue_of, IsClass};
 ghost use Rattle.rev_model.specs.Move.{is_class};
-ghost use Rattle.rev_model.specs.Places.{IsClass};
 ghost use Rattle.rev_shell.specs.Texts.{output, item_text, seat_text, found_text, place_text, entry_text, entries_text, chunks_text, figures_text, pages_text, counter_text, removals_text, moves_text, counters_text, globals_text};
 ghost use Rattle.rev_shell.specs.Answers.{of_class};
 

@@ -1,8 +1,7 @@
 //! Steps of one move at most, which exchanges the globals.
 ghost use Rattle.std.specs.Prelude.{◌≡◌, ◌≤◌, length, IfOk, OnOk, OnErr, []};
-ghost use Rattle.rev_model.specs.Move.{with_part, Sets};
+ghost use Rattle.rev_model.specs.Move.{with_part, Sets, LeadsBack};
 ghost use Rattle.rev_model.specs.Sound.{SettingsSound, Sound};
-ghost use Rattle.rev_model.specs.Undo.{LeadsBack};
 ghost use Rattle.rev_moves.specs.Seen.{plain_move, IsSingle};
 ghost use Rattle.rev_changes.specs.Telling.{TellsAll};
 ghost use Rattle.rev_steps.specs.Exchange.{exchanged};

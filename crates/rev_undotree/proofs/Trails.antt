@@ -4,7 +4,7 @@ use Rattle.std.proofs.lemmas.List.{append-nil}
 use Rattle.std.proofs.lemmas.Bool.Decides.{nat_tests}
 use Rattle.rev_model.specs.Actor.{step as played_step}
 use Rattle.rev_model.specs.Causes.{step_removals}
-use Rattle.rev_model.specs.Undo.{LeadsBack}
+use Rattle.rev_model.specs.Move.{LeadsBack}
 use Rattle.rev_moves.specs.Record.{flat}
 use Rattle.rev_changes.specs.Telling.{TellsAll}
 use Rattle.rev_undotree.specs.Steps.{State, PlainRecord, Step, Outcome, Sound, next, outcome_of, Undoes}

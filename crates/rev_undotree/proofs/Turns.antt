@@ -6,7 +6,8 @@ use Rattle.rev_model.specs.State.{WellFormed}
 use Rattle.rev_model.specs.Move as moves
 use Rattle.rev_model.specs.Actor as actor
 use Rattle.rev_model.specs.Causes.{step_removals}
-use Rattle.rev_model.specs.Undo.{LeadsBack, turns_back}
+use Rattle.rev_model.specs.Move.{LeadsBack}
+use Rattle.rev_model.proofs.Undo.{turns_back}
 use Rattle.rev_moves.specs.Record.{flat}
 use Rattle.rev_moves.specs.Turning.{length-turned}
 use Rattle.rev_changes.specs.Telling.{TellsAll}

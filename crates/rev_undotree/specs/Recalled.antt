@@ -9,18 +9,19 @@ use Rattle.rev_model.specs.Chunk.{same_chunk}
 use Rattle.rev_model.specs.Lists.{has}
 use Rattle.rev_model.specs.State.{State, item_at, find, owner_of, queue_number}
 use Rattle.rev_model.specs.Words.{queue_with}
-use Rattle.rev_model.specs.Move.{Move, Takes, Puts, Fills, Touches, Binds, Unbinds, Lays, Lifts, Counts, Sets, BumpsIn, BumpsBack, BumpsOut, BumpsFront, Shifts, MarksIn, MarksOut}
+use Rattle.rev_model.specs.Move.{Move, Takes, Puts, Fills, Touches, Binds, Unbinds, Lays, Lifts, Counts, Sets, BumpsIn, BumpsBack, BumpsOut, BumpsFront, Shifts, MarksIn, MarksOut, LeadsBack}
 use Rattle.rev_model.specs.Client as client
 use Rattle.rev_model.specs.Actor.{Step, Client, Pull, Bump, CrawlStart, Crawl, Schedule, Advance, Clock, Tune, TempTtl, step}
 use Rattle.rev_model.specs.Causes.{step_removals}
 use Rattle.rev_model.specs.Sound.{Sound}
-use Rattle.rev_model.specs.Track.{held, has_key, is_chunk, keyed, first_note, more_notes, shift_change, class_queue_in, key_place_at, key_place_of, chunk_of, class_queue_before, SoundKeys, key_change, leads_or, key_place_from, key_place_before, removals, first_removal}
-use Rattle.rev_model.specs.Undo.{tells_chunk, same_chunk-self, LeadsBack}
-use Rattle.rev_model.specs.Laws.{same_key-exact, Agrees, home-is}
-use Rattle.rev_model.specs.Place.{key_item, agrees, place_before}
-use Rattle.rev_model.specs.Notes.{noted-is}
+use Rattle.rev_model.specs.Track.{held, has_key, is_chunk, keyed, first_note, more_notes, shift_change, class_queue_in, key_place_at, key_place_of, chunk_of, class_queue_before, key_change, leads_or, key_place_from, key_place_before, removals}
+use Rattle.rev_model.proofs.Track.{SoundKeys, first_removal}
+use Rattle.rev_model.proofs.Undo.{tells_chunk, same_chunk-self}
+use Rattle.rev_model.proofs.Laws.{same_key-exact, Agrees, home-is}
+use Rattle.rev_model.proofs.Place.{key_item, agrees, place_before}
+use Rattle.rev_model.proofs.Notes.{noted-is}
 use Rattle.rev_model.specs.Events.{may_store, is_stored, event, event_by, moved_event, cause_of}
-use Rattle.rev_model.specs.Walks.{step_caused}
+use Rattle.rev_model.proofs.Walks.{step_caused}
 use Rattle.rev_model.specs.declared.Cause.{Cause}
 use Rattle.rev_model.specs.declared.ChunkRef.{ChunkRef}
 use Rattle.rev_model.specs.declared.ClassQueue.{ClassQueue}

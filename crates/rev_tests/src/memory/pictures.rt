@@ -1,7 +1,7 @@
 //! All that a store or a session tells, to be compared.
 ghost use Rattle.std.specs.Prelude.{◌≡◌, true};
 ghost use Rattle.rev_model.specs.Sound.{Sound};
-ghost use Rattle.rev_model.specs.Places.{IsClass};
+ghost use Rattle.rev_model.specs.State.{IsClass};
 
 use rev_inverse::Store;
 use rev_items::{Item, Key};

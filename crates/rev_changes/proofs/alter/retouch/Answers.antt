@@ -1,4 +1,4 @@
-use Rattle.rev_model.specs.Drops.{keeps-touch}
+use Rattle.rev_model.proofs.Drops.{keeps-touch}
 use Rattle.rev_changes.proofs.alter.retouch.Goals as goal
 
 pub change-requires-clause-possible : goal.change-requires-clause-possible

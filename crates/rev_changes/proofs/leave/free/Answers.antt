@@ -1,4 +1,4 @@
-use Rattle.rev_model.specs.Drops.{free_put}
+use Rattle.rev_model.proofs.Drops.{free_put}
 use Rattle.rev_changes.proofs.leave.free.Goals as goal
 
 pub change-requires-clause-possible : goal.change-requires-clause-possible

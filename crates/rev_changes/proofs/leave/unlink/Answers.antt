@@ -1,7 +1,7 @@
 use Rattle.std.specs.Prelude.{None, length}
 use Rattle.std.proofs.Common.{ap, subst, ◌∙◌}
 use Rattle.std.proofs.lemmas.List.{length-append}
-use Rattle.rev_model.specs.Drops.{drop_take, drop_unbind, drop_fill}
+use Rattle.rev_model.proofs.Drops.{drop_take, drop_unbind, drop_fill}
 use Rattle.rev_model.specs.State.{item_at}
 use Rattle.rev_model.specs.Track.{removal}
 use Rattle.rev_changes.specs.Telling.{Tells, append_nil, tells_three}

@@ -1,5 +1,5 @@
 use Rattle.std.specs.Prelude.{refl}
-use Rattle.rev_model.specs.Laying.{page_is}
+use Rattle.rev_model.proofs.Laying.{page_is}
 use Rattle.rev_changes.proofs.page.lay_page.Goals as goal
 
 pub change-requires-clause-possible : goal.change-requires-clause-possible

@@ -1,4 +1,4 @@
-use Rattle.rev_model.specs.Undo.{leads_none}
+use Rattle.rev_model.proofs.Undo.{leads_none}
 use Rattle.std.proofs.Common.{ap, arith}
 use Rattle.rev_moves.specs.Record.{PlainRecord}
 use Rattle.rev_changes.specs.Telling.{tells_all}

@@ -1,6 +1,6 @@
 use Rattle.std.specs.Prelude.{length}
 use Rattle.std.proofs.Common.{ap, arith}
-use Rattle.rev_model.specs.Undo.{leads_none}
+use Rattle.rev_model.proofs.Undo.{leads_none}
 use Rattle.rev_moves.specs.Record.{PlainRecord}
 use Rattle.rev_commands.proofs.Hitting.{access_most}
 use Rattle.rev_changes.specs.Telling.{tells_all}

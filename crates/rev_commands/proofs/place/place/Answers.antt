@@ -1,7 +1,6 @@
 use Rattle.std.specs.Prelude.{◌≤◌}
 use Rattle.std.proofs.Common.{sym, subst, arith, ◌∙◌}
-use Rattle.rev_model.specs.State.{Fixed}
-use Rattle.rev_model.specs.Places.{IsClass}
+use Rattle.rev_model.specs.State.{Fixed, IsClass}
 use Rattle.rev_model.specs.Sound.{SoundBut}
 use Rattle.rev_model.specs.declared.Outcome.TheVariants.{NoChunk}
 use Rattle.rev_maintainer.specs.Rooming.{same_globals_after}

@@ -1,7 +1,7 @@
 use Rattle.std.specs.Prelude.{length, None}
 use Rattle.std.proofs.Common.{ap, arith}
 use Rattle.rev_model.specs.State.{find}
-use Rattle.rev_model.specs.Undo.{leads_none}
+use Rattle.rev_model.proofs.Undo.{leads_none}
 use Rattle.rev_moves.specs.Record.{PlainRecord}
 use Rattle.rev_commands.specs.Looking.{look_most, removal_most}
 use Rattle.rev_changes.specs.Telling.{tells_all}

@@ -4,7 +4,7 @@ use Rattle.rev_items.specs.Plain.{PlainItem}
 use Rattle.rev_model.specs.State.{find}
 use Rattle.rev_model.specs.Client.{Replaces}
 use Rattle.rev_model.specs.Causes.{store_in_removals}
-use Rattle.rev_model.specs.Undo.{leads_none}
+use Rattle.rev_model.proofs.Undo.{leads_none}
 use Rattle.rev_model.specs.declared.Outcome.{Outcome}
 use Rattle.rev_moves.specs.Record.{PlainRecord}
 use Rattle.rev_changes.specs.Telling.{TellsAll, tells_all}

@@ -5,7 +5,7 @@ use Rattle.rev_model.specs.Client.{Verb, Sets, Adds, Replaces, Cases}
 use Rattle.rev_requests.specs.Plain.{plain_verb}
 use Rattle.rev_commands.specs.Looking.{removal_most}
 use Rattle.rev_commands.specs.Placing.{failed_need}
-use Rattle.rev_model.specs.Undo.{leads_none}
+use Rattle.rev_model.proofs.Undo.{leads_none}
 use Rattle.rev_model.specs.declared.Outcome.TheVariants.{TooLarge}
 use Rattle.rev_moves.specs.Record.{PlainRecord}
 use Rattle.rev_changes.specs.Telling.{tells_all}

@@ -3,7 +3,7 @@ use Rattle.std.proofs.Common.{ap, subst, arith, w32, to_z, of_z}
 use Rattle.std.proofs.lemmas.Int.{to_z-of_z}
 use Rattle.rev_items.specs.Plain.{PlainItem}
 use Rattle.rev_model.specs.Causes.{store_in_removals}
-use Rattle.rev_model.specs.Undo.{leads_none}
+use Rattle.rev_model.proofs.Undo.{leads_none}
 use Rattle.rev_moves.specs.Record.{PlainRecord}
 use Rattle.rev_changes.specs.Telling.{TellsAll, tells_all}
 use Rattle.rev_requests.specs.Plain.{plain_verb}

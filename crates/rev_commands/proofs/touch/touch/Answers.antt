@@ -1,7 +1,7 @@
 use Rattle.std.specs.Prelude.{length}
 use Rattle.std.proofs.Common.{◌∙◌, ap, arith, w32}
 use Rattle.std.proofs.lemmas.Int.{to_z-of_z}
-use Rattle.rev_model.specs.Undo.{leads_none}
+use Rattle.rev_model.proofs.Undo.{leads_none}
 use Rattle.rev_model.specs.Client.{touch}
 use Rattle.rev_moves.specs.Record.{PlainRecord}
 use Rattle.rev_commands.proofs.Hitting.{access_most}

@@ -1,5 +1,5 @@
 use Rattle.std.specs.Prelude.{None, length}
-use Rattle.rev_model.specs.Undo.{leads_none}
+use Rattle.rev_model.proofs.Undo.{leads_none}
 use Rattle.rev_changes.specs.Rest.{sound_of, rest_of}
 use Rattle.rev_crawler.proofs.Passing.{take_mark, rest-left}
 use Rattle.std.proofs.Common.{ap, arith}

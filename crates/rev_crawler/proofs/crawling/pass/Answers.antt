@@ -4,7 +4,7 @@ use Rattle.rev_model.specs.State.{State, queue_of}
 use Rattle.rev_model.specs.Chunk.{same_entry}
 use Rattle.rev_model.specs.Lists.{before}
 use Rattle.rev_model.specs.Move.{Puts, moved}
-use Rattle.rev_model.specs.Undo.{leads_none}
+use Rattle.rev_model.proofs.Undo.{leads_none}
 use Rattle.rev_model.specs.declared.Entry.TheVariants.{Chunk, Mark}
 use Rattle.rev_model.specs.declared.Placed.TheVariants.{ToQueue}
 use Rattle.rev_changes.specs.Rest.{Rest, sound_of, rest_of}

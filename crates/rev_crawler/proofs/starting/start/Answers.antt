@@ -1,6 +1,6 @@
 use Rattle.std.specs.Prelude.{None, length}
 use Rattle.std.proofs.Common.{sym, ◌∙◌, subst, ap, arith}
-use Rattle.rev_model.specs.Undo.{leads_none}
+use Rattle.rev_model.proofs.Undo.{leads_none}
 use Rattle.rev_changes.specs.Rest.{Rest, sound_of, rest_of}
 use Rattle.rev_crawler.proofs.Marking.{as_free, free_marks, start_okay, rest-marks}
 use Rattle.rev_moves.specs.Record.{PlainRecord}

@@ -2,7 +2,7 @@ use Rattle.std.specs.Prelude.{None}
 use Rattle.std.proofs.Common.{sym, ◌∙◌, subst}
 use Rattle.rev_model.specs.declared.Outcome.{Outcome}
 use Rattle.rev_model.specs.State.{State}
-use Rattle.rev_model.specs.Places.{tail_stands}
+use Rattle.rev_model.proofs.Places.{tail_stands}
 use Rattle.rev_changes.specs.Rest.{sound_of, Rest}
 use Rattle.rev_maintainer.specs.Pulling.{rest_item}
 use Rattle.rev_maintainer.proofs.pulls.pull.Goals as goal

@@ -1,8 +1,7 @@
 use Rattle.std.specs.Prelude.{◌++◌, ◌≡◌, ◌-◌, ◌+◌, ◌≤◌, length}
 use Rattle.std.proofs.Common.{sym, ◌∙◌, ap, subst, rules, arith}
-use Rattle.rev_model.specs.State.{State, Fixed, free_of}
+use Rattle.rev_model.specs.State.{State, Fixed, free_of, IsClass}
 use Rattle.rev_model.specs.Pull.{squeezed, page_of}
-use Rattle.rev_model.specs.Places.{IsClass}
 use Rattle.rev_moves.specs.Record.{PlainRecord}
 use Rattle.rev_changes.specs.Taking.{paired}
 use Rattle.rev_changes.specs.Telling.{Tells, tells_more, tells_then}

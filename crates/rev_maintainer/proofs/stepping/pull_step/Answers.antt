@@ -1,5 +1,5 @@
 use Rattle.std.proofs.Common.{sym, ◌∙◌, ap, subst, arith}
-use Rattle.rev_model.specs.Undo.{leads_none}
+use Rattle.rev_model.proofs.Undo.{leads_none}
 use Rattle.std.specs.Prelude.{◌≡◌, Bool, cond, [], length}
 use Rattle.rev_model.specs.Pull.{pull}
 use Rattle.rev_model.specs.Causes.{pull_removals}

@@ -3,7 +3,7 @@ use Rattle.rev_moves.specs.Record.{PlainRecord}
 use Rattle.rev_changes.specs.Telling.{tells_all}
 use Rattle.std.specs.Prelude.{length}
 use Rattle.std.proofs.Common.{ap, arith, sym, ◌∙◌}
-use Rattle.rev_model.specs.Undo.{leads_none}
+use Rattle.rev_model.proofs.Undo.{leads_none}
 use Rattle.rev_model.specs.State.{State}
 use Rattle.rev_model.specs.declared.Outcome.TheVariants.{Okay}
 use Rattle.rev_mover.proofs.scheduling.schedule.Goals as goal

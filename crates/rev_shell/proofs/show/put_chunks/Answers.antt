@@ -1,6 +1,6 @@
 use Rattle.std.proofs.Common.{◌≡◌, ◌++◌, Some, length, sym, ◌∙◌, ap, arith, append_assoc, append-nil}
 use Rattle.rev_model.specs.Chunk.{same_chunk}
-use Rattle.rev_model.specs.Undo.{tells_chunk}
+use Rattle.rev_model.proofs.Undo.{tells_chunk}
 use Rattle.rev_model.specs.State.{free_of}
 use Rattle.rev_shell.specs.Texts.{chunks_text, free_text}
 use Rattle.rev_shell.proofs.Walk.{rest_after, next_after-rest, head-rest, head-none, rest-next, rest-has}

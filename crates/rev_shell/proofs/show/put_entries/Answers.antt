@@ -1,6 +1,6 @@
 use Rattle.std.proofs.Common.{◌≡◌, ◌++◌, Some, length, sym, ◌∙◌, ap, arith, append_assoc, append-nil}
 use Rattle.rev_model.specs.Chunk.{same_entry}
-use Rattle.rev_model.specs.Undo.{tells_entry}
+use Rattle.rev_model.proofs.Undo.{tells_entry}
 use Rattle.rev_model.specs.State.{queue_of}
 use Rattle.rev_shell.specs.Texts.{entries_text, entry_text}
 use Rattle.rev_shell.proofs.Walk.{rest_after, next_after-rest, head-rest, head-none, rest-next, rest-has}

@@ -1,5 +1,6 @@
 use Rattle.std.proofs.Common.{subst, sym}
-use Rattle.rev_model.specs.Undo.{LeadsBack, leads_none}
+use Rattle.rev_model.specs.Move.{LeadsBack}
+use Rattle.rev_model.proofs.Undo.{leads_none}
 use Rattle.rev_moves.specs.Record.{PlainRecord}
 use Rattle.rev_steps.proofs.globals.exchange.Goals as goal
 

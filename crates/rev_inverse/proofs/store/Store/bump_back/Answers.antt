@@ -1,6 +1,6 @@
 use Rattle.std.proofs.Common.{sym, ap, ◌∙◌, ◌≡◌}
 use Rattle.rev_model.specs.Move as plain
-use Rattle.rev_model.specs.Undo.{front-push, back_of-push}
+use Rattle.rev_model.proofs.Undo.{front-push, back_of-push}
 use Rattle.rev_inverse.proofs.store.Store.bump_back.Goals as goal
 
 pub returns-clause-state : goal.returns-clause-state

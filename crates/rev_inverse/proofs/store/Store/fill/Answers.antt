@@ -1,6 +1,6 @@
 use Rattle.std.proofs.Common.{sym, subst, refl}
 use Rattle.rev_model.specs.Move.{Possible, Fills}
-use Rattle.rev_model.specs.Slots.{fill_keeps_key}
+use Rattle.rev_model.proofs.Slots.{fill_keeps_key}
 use Rattle.rev_inverse.proofs.Fits.{fitted_filled, gone_fill}
 use Rattle.rev_inverse.proofs.store.Store.fill.Goals as goal
 

@@ -1,4 +1,4 @@
-use Rattle.rev_model.specs.Undo.{turned_well}
+use Rattle.rev_model.proofs.Undo.{turned_well}
 use Rattle.rev_moves.specs.Seen.{plain_moves}
 use Rattle.rev_moves.specs.Turning.{leads_played}
 use Rattle.rev_inverse.proofs.store.Store.make.Goals as goal

@@ -1,7 +1,7 @@
 use Rattle.std.proofs.Common.{sym, subst}
 use Rattle.rev_model.specs.Move.{Possible, Puts}
 use Rattle.rev_model.specs.State.{WellFormed}
-use Rattle.rev_model.specs.Slots.{put_free_slot, put_free_gone}
+use Rattle.rev_model.proofs.Slots.{put_free_slot, put_free_gone}
 use Rattle.rev_model.specs.declared.Placed.TheVariants.{ToFree}
 use Rattle.rev_inverse.proofs.Fits.{fitted_slot}
 use Rattle.rev_inverse.proofs.store.Store.put_to_free.Goals as goal

@@ -4,7 +4,7 @@ use Rattle.rev_model.specs.Chunk.{HasSlot}
 use Rattle.rev_model.specs.Move.{Possible, Shifts, moved}
 use Rattle.rev_model.specs.State.{State, WellFormed, queue_place}
 use Rattle.rev_model.specs.Words.{weight}
-use Rattle.rev_model.specs.Slots.{chunk_has_slot}
+use Rattle.rev_model.proofs.Slots.{chunk_has_slot}
 use Rattle.rev_model.specs.declared.Entry.TheVariants.{Chunk}
 use Rattle.rev_queues.specs.QueueState.{QueuesState}
 use Rattle.rev_inverse.proofs.Fits.{fitted_slot}

@@ -1,6 +1,6 @@
 use Rattle.std.proofs.Common.{sym, subst, rules}
 use Rattle.rev_model.specs.Move.{Possible, Touches}
-use Rattle.rev_model.specs.Slots.{touch_there}
+use Rattle.rev_model.proofs.Slots.{touch_there}
 use Rattle.rev_inverse.proofs.Fits.{fitted_touched}
 use Rattle.rev_inverse.proofs.store.Store.touch.Goals as goal
 

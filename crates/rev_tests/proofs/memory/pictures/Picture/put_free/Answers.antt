@@ -1,7 +1,7 @@
 use Rattle.std.proofs.Common.{sym, ◌∙◌}
 use Rattle.rev_model.specs.Chunk.{same_chunk}
 use Rattle.rev_model.specs.State.{free_of}
-use Rattle.rev_model.specs.Undo.{tells_chunk}
+use Rattle.rev_model.proofs.Undo.{tells_chunk}
 use Rattle.rev_tests.proofs.memory.Walk.{next-has}
 use Rattle.rev_tests.proofs.memory.pictures.Picture.put_free.Goals as goal
 

@@ -1,13 +1,13 @@
--- Places of a class in the tables, and what is read of a sound store.
-use Rattle.std.specs.Prelude.{ℕ, ◌≡◌, ◌<◌, ◌≤◌, true, List, [], ◌∷◌, Option, None, Some, is_some, length, refl}
+-- The places of a class lie within the tables, and what is read of a sound store.
+use Rattle.std.specs.Prelude.{ℕ, ◌≡◌, ◌<◌, true, List, [], ◌∷◌, Option, None, Some, is_some, length, refl}
 use Rattle.std.specs.Option.{option_map}
 use Rattle.std.proofs.Common.{◌∙◌, arith, inl, inr}
 use Rattle.std.proofs.lemmas.Bool.{cases_Bool}
 use Rattle.rev_items.specs.Plain.{PlainItem}
 use Rattle.rev_model.specs.Chunk.{same_entry}
 use Rattle.rev_model.specs.Lists.{has}
-use Rattle.rev_model.specs.Undo.{tells_chunk}
-use Rattle.rev_model.specs.State.{State, Fixed, WellFormed, queue_of, queue_place, queue_number, counter_place, counter_number, item_at}
+use Rattle.rev_model.proofs.Undo.{tells_chunk}
+use Rattle.rev_model.specs.State.{State, WellFormed, queue_of, queue_place, queue_number, counter_place, counter_number, item_at, IsClass}
 use Rattle.rev_model.specs.declared.ChunkRef.{ChunkRef}
 use Rattle.rev_model.specs.declared.Entry.{Entry}
 use Rattle.rev_model.specs.declared.Entry.TheVariants.{Chunk, Mark}
@@ -18,9 +18,6 @@ use Rattle.rev_model.specs.declared.Counter.TheVariants.{Evicted, Reclaimed, Cra
 use Rattle.rev_model.specs.Words.{tail, later, header_of}
 use Rattle.rev_model.specs.Sound.{SoundBut, Stands}
 use Rattle.rev_model.specs.declared.ItemHeader.{ItemHeader}
-
-abbrev pub IsClass : Fixed → ℕ → Type 0
-IsClass f c = (0 < c) × (c ≤ length f.sizes)
 
 number_below : (q : Queue) → queue_number q < 4
 number_below Hot = omega arith

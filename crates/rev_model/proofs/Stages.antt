@@ -6,11 +6,12 @@ use Rattle.rev_items.specs.Plain.{PlainItem}
 use Rattle.rev_model.specs.State.{State, item_at, find, owner_of}
 use Rattle.rev_model.specs.Words.{is_dead, dropped, queue_with}
 use Rattle.rev_model.specs.Client.{lookup, looked_at, looked_item, removed}
-use Rattle.rev_model.specs.Track.{held, Removal, removal, first_removal}
+use Rattle.rev_model.specs.Track.{held, Removal, removal}
+use Rattle.rev_model.proofs.Track.{first_removal}
 use Rattle.rev_model.specs.Causes.{dead_removals, looked_removals, look_removals, found_removals}
 use Rattle.rev_model.specs.Events.{Part, ByLookup, Stage, cause_by, cause_among}
-use Rattle.rev_model.specs.Fates.{Indexed, fate, fate-held, fate-none, stays}
-use Rattle.rev_model.specs.Leaving.{Does, keeps, takes, Goes, goes_stays, goes_drops, or_later, first_removal-append}
+use Rattle.rev_model.proofs.Fates.{Indexed, fate, fate-held, fate-none, stays}
+use Rattle.rev_model.proofs.Leaving.{Does, keeps, takes, Goes, goes_stays, goes_drops, or_later, first_removal-append}
 use Rattle.rev_model.specs.declared.ChunkRef.{ChunkRef}
 use Rattle.rev_model.specs.declared.Cause.{Cause}
 use Rattle.rev_model.specs.declared.Cause.TheVariants.{ReclaimedByHit}

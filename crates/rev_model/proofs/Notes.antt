@@ -1,4 +1,4 @@
--- The causes that a record tells.
+-- What a record's notes tell of a key, and which removals a move adds to a record.
 use Rattle.std.specs.Prelude.{ℕ, ◌≡◌, Bool, false, cond, List, [], ◌∷◌, ◌++◌, Option, None, Some, is_some, length, refl}
 use Rattle.std.proofs.Common.{sym, ◌∙◌, ap, inl, inr, arith}
 use Rattle.std.proofs.lemmas.Bool.{cases_Bool, false≢true}
@@ -6,16 +6,17 @@ use Rattle.std.specs.FinMap as map
 use Rattle.rev_items.specs.Plain.{PlainItem}
 use Rattle.rev_model.specs.State.{State, WellFormed, item_at, find}
 use Rattle.rev_model.specs.Move.{Move, MarksIn, MarksOut, Takes, Puts, Fills, Touches, Binds, Unbinds, Lays, Lifts, Counts, Sets, BumpsIn, BumpsBack, BumpsOut, BumpsFront, Shifts, moved, reverse, out_of, back_of, Ready, turned, Fits}
-use Rattle.rev_model.specs.Undo.{turned-push, undo}
+use Rattle.rev_model.proofs.Undo.{turned-push, undo}
 use Rattle.rev_model.specs.declared.ChunkRef.{ChunkRef}
 use Rattle.rev_model.specs.declared.BumpEntry.{BumpEntry}
 use Rattle.rev_model.specs.declared.Listed.TheVariants.{InFree, InQueue}
 use Rattle.rev_model.specs.declared.Placed.TheVariants.{ToFree, ToQueue}
 use Rattle.rev_model.specs.declared.Cause.{Cause}
 use Rattle.rev_model.specs.declared.KeyChange.{KeyChange}
-use Rattle.rev_model.specs.Track.{has_key, keyed, first_note, more_notes, key_change, leads_or, shift_change, Removal, removal, removals, first_removal}
-use Rattle.rev_model.specs.Laws.{Agrees, keyed-is, home-is, unbound_content}
-use Rattle.rev_model.specs.Place.{key_item}
+use Rattle.rev_model.specs.Track.{has_key, keyed, first_note, more_notes, key_change, leads_or, shift_change, Removal, removal, removals, removed}
+use Rattle.rev_model.proofs.Track.{first_removal}
+use Rattle.rev_model.proofs.Laws.{Agrees, keyed-is, home-is, unbound_content}
+use Rattle.rev_model.proofs.Place.{key_item}
 
 first_removal-more : (k : List ℕ) (o : Option PlainItem) (n : Option Cause) (rs : List Removal) → first_removal k (removal o n ++ rs) ≡ cond (has_key k o) (Some n) (first_removal k rs)
 first_removal-more k None n rs = refl
@@ -75,12 +76,6 @@ noted-is k (BumpsOut ∷ ms) ns t a g f x n h = noted-is k ms (more_notes ns) t 
 noted-is k (BumpsFront b ∷ ms) ns t a g f x n h = noted-is k ms (more_notes ns) t a g f.0 x n h
 noted-is k (MarksIn set ∷ ms) ns t a g f x n h = noted-is k ms (more_notes ns) t a g f.0 x n h
 noted-is k (MarksOut set ∷ ms) ns t a g f x n h = noted-is k ms (more_notes ns) t a g f.0 x n h
-
--- what the layers below keep of a record's notes: a move appends what it removed from the index, and nothing else
-
-abbrev pub removed : Move → Option Cause → State → List Removal
-removed (Unbinds x) n s = removal (item_at s x) n
-removed m n s = []
 
 append_nil : {X : Type 0} (l : List X) → l ++ [] ≡ l
 append_nil [] = refl

@@ -8,12 +8,13 @@ use Rattle.std.specs.Ordering.{eq_by_cmp}
 use Rattle.std.specs.Cmp.Lexicographic.{nat_list_cmp_total}
 use Rattle.std.specs.FinMap as map
 use Rattle.rev_items.specs.Plain.{PlainItem}
-use Rattle.rev_model.specs.Chunk.{same_chunk, same_entry, chunk_cmp, chunk_cmp_exact, chunk_cmp_total}
+use Rattle.rev_model.specs.Chunk.{same_chunk, same_entry, chunk_cmp}
+use Rattle.rev_model.proofs.Chunks.{chunk_cmp_exact, chunk_cmp_total}
 use Rattle.rev_model.specs.Lists.{has, without, behind, insert}
-use Rattle.rev_model.specs.ListLaws.{Tells, has-insert}
+use Rattle.rev_model.proofs.ListLaws.{Tells, has-insert}
 use Rattle.rev_model.specs.State.{State, Keys, WellFormed, item_at, find, owner_of, queue_of, queue_place, stands, per_page}
 use Rattle.rev_model.specs.Move.{Move, MarksIn, MarksOut, names, marked, unmarked, EndMarks, front, Takes, Puts, Fills, Touches, Binds, Unbinds, Lays, Lifts, Counts, Sets, BumpsIn, BumpsBack, BumpsOut, BumpsFront, Shifts, exchanged, rebound, shifted, put_at, moved, bound, unbound, laid, lifted, touched, Ready, turned, Fits}
-use Rattle.rev_model.specs.Undo.{tells_chunk, tells_entry, same_chunk-self, has-count, count_in_table, get-put_at, tied, tied_self, entered, turned_well, at_map, lacks-exchanged}
+use Rattle.rev_model.proofs.Undo.{tells_chunk, tells_entry, same_chunk-self, has-count, count_in_table, get-put_at, tied, tied_self, entered, turned_well, at_map, lacks-exchanged}
 use Rattle.rev_model.specs.declared.ChunkRef.{ChunkRef}
 use Rattle.rev_model.specs.declared.Entry.{Entry}
 use Rattle.rev_model.specs.declared.Entry.TheVariants.{Chunk, Mark}

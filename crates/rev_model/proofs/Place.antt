@@ -8,7 +8,7 @@ use Rattle.rev_model.specs.Chunk.{same_entry}
 use Rattle.rev_model.specs.Lists.{has, without}
 use Rattle.rev_model.specs.State.{State, WellFormed, item_at, find, owner_of, queue_of, queue_place}
 use Rattle.rev_model.specs.Move.{Move, Takes, moved, turned, Fits}
-use Rattle.rev_model.specs.Undo.{tells_chunk, same_chunk-self, entered, turned_well}
+use Rattle.rev_model.proofs.Undo.{tells_chunk, same_chunk-self, entered, turned_well}
 use Rattle.rev_model.specs.declared.ChunkRef.{ChunkRef}
 use Rattle.rev_model.specs.declared.Entry.{Entry}
 use Rattle.rev_model.specs.declared.Entry.TheVariants.{Chunk}
@@ -17,8 +17,9 @@ use Rattle.rev_model.specs.declared.Queue.TheVariants.{Hot, Warm, Cold, Temp}
 use Rattle.rev_model.specs.declared.Listed.TheVariants.{InQueue}
 use Rattle.rev_model.specs.declared.Cause.{Cause}
 use Rattle.rev_model.specs.declared.ClassQueue.{ClassQueue}
-use Rattle.rev_model.specs.Track.{sits_in, class_queue_within, class_queue_in, key_place_at, key_place_of, SoundKeys, same_key, has_key, is_chunk, key_change, leads_or, class_queue_before, chunk_of, class_queue_of, key_place_from, key_place_before}
-use Rattle.rev_model.specs.Laws.{same_key-self, same_key-exact, Agrees, keyed-is, home-is, Sits, nowhere, Starts, lru-is}
+use Rattle.rev_model.specs.Track.{sits_in, class_queue_within, class_queue_in, key_place_at, key_place_of, same_key, has_key, is_chunk, key_change, leads_or, class_queue_before, chunk_of, class_queue_of, key_place_from, key_place_before}
+use Rattle.rev_model.proofs.Track.{SoundKeys}
+use Rattle.rev_model.proofs.Laws.{same_key-self, same_key-exact, Agrees, keyed-is, home-is, Sits, nowhere, Starts, lru-is}
 
 -- the queue in which a chunk stands, told by a function of the state
 

@@ -10,11 +10,11 @@ use Rattle.rev_model.specs.Pull.{room}
 use Rattle.rev_model.specs.Client.{ClientStep, Stores, Joins, Gets, Touches, Deletes, Flushes, Counts, Verb, Sets, Adds, Replaces, Cases, Side, Sum, Payload, Bytes, bytes_of, lookup, class_for, joined, is_number, digits_from, summed, refusal, failed, settled_by, stored_room, stored_class, rewritten_old, rewritten_room, rewritten_class, rewritten, join_found, count_as, count_found, client}
 use Rattle.rev_model.specs.Actor.{Step, Client, Pull, Bump, CrawlStart, Crawl, Schedule, Advance, Clock, Tune, TempTtl, step}
 use Rattle.rev_model.specs.Track.{held, same_key}
-use Rattle.rev_model.specs.Laws.{same_key-exact}
+use Rattle.rev_model.proofs.Laws.{same_key-exact}
 use Rattle.rev_model.specs.Events.{stores, is_stored}
-use Rattle.rev_model.specs.Fates.{Indexed}
-use Rattle.rev_model.specs.Stages.{found_is}
-use Rattle.rev_model.specs.Walks.{renewed_own}
+use Rattle.rev_model.proofs.Fates.{Indexed}
+use Rattle.rev_model.proofs.Stages.{found_is}
+use Rattle.rev_model.proofs.Walks.{renewed_own}
 use Rattle.rev_model.specs.declared.ChunkRef.{ChunkRef}
 use Rattle.rev_model.specs.declared.Outcome.{Outcome}
 use Rattle.rev_model.specs.declared.Outcome.TheVariants as outcome

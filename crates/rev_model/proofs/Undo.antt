@@ -11,16 +11,17 @@ use Rattle.std.specs.Cmp.{IsTotalOrder, eq_by_cmp_equiv}
 use Rattle.std.specs.declared.cmp.Ordering.{Ordering}
 use Rattle.std.specs.declared.cmp.Ordering.TheVariants.{Less, Equal, Greater}
 use Rattle.std.specs.FinMap as map
-use Rattle.rev_model.specs.Chunk.{same_chunk, same_entry, chunk_cmp, chunk_cmp_exact, chunk_cmp_total}
+use Rattle.rev_model.specs.Chunk.{same_chunk, same_entry, chunk_cmp}
+use Rattle.rev_model.proofs.Chunks.{chunk_cmp_exact, chunk_cmp_total}
 use Rattle.rev_model.specs.Lists.{has, distinct, count, without, before, insert}
-use Rattle.rev_model.specs.ListLaws.{Tells, put-take, without-insert, before-insert, has-insert, has-without, has_after-before}
+use Rattle.rev_model.proofs.ListLaws.{Tells, put-take, without-insert, before-insert, has-insert, has-without, has_after-before}
 use Rattle.rev_model.specs.State.{State, Contents, WellFormed, free_of, queue_of, queue_place, counter_of, counter_place, owner_of, item_at, per_page, stands}
 use Rattle.std.specs.Option.{option_map}
 use Rattle.std.specs.Cmp.Lexicographic.{nat_list_cmp_total}
 use Rattle.rev_items.specs.Plain.{PlainItem}
 use Rattle.rev_model.specs.declared.GlobalPart.{GlobalPart}
 use Rattle.rev_model.specs.declared.GlobalPart.TheVariants.{LastCas, Timing, Mover, Settings}
-use Rattle.rev_model.specs.Move.{Move, Takes, Puts, Fills, Touches, Binds, Unbinds, Lays, Lifts, Counts, Sets, BumpsIn, BumpsBack, BumpsOut, BumpsFront, Shifts, MarksIn, MarksOut, names, marked, unmarked, NoMarks, EndMarks, exchanged, carried, rebound, shifted, put_at, moved, reverse, back_of, retouched, Ready, Possible, MayEnter, HoldsNoItem, LiftReady, turned, Fits, falling, front, last_or, touched, laid, lifted}
+use Rattle.rev_model.specs.Move.{Move, Takes, Puts, Fills, Touches, Binds, Unbinds, Lays, Lifts, Counts, Sets, BumpsIn, BumpsBack, BumpsOut, BumpsFront, Shifts, MarksIn, MarksOut, names, marked, unmarked, NoMarks, EndMarks, exchanged, carried, rebound, shifted, put_at, moved, reverse, back_of, retouched, Ready, Possible, MayEnter, HoldsNoItem, LiftReady, turned, Fits, falling, front, last_or, touched, laid, lifted, LeadsBack}
 use Rattle.rev_model.specs.declared.Queue.{Queue}
 use Rattle.rev_model.specs.declared.ClassSet.{ClassSet}
 use Rattle.rev_model.specs.declared.Counter.{Counter}
@@ -642,11 +643,6 @@ turns_back (m ∷ ms) s well f =
           ∙ ap (λ (y : Move). ((turned rest before_it).0, y ∷ (turned rest before_it).1)) u.same
           ∙ ap (λ (p : State × List Move). (p.0, m ∷ p.1)) below.back;
     }
-
--- The record fits, and turning it leads back to the first state: what each step keeps of its record.
-pub record LeadsBack (ms : List Move) (s : State) (first : State) : Type 0 where
-  pub fits : Fits ms s
-  pub there : (turned ms s).0 ≡ first
 
 pub leads_none : (s : State) → LeadsBack [] s s
 leads_none s = record { fits = tt; there = refl }

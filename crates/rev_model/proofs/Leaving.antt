@@ -1,5 +1,5 @@
 -- Each part of a step takes out of the index the keys that its removals name, each for its cause, and no other.
-use Rattle.std.specs.Prelude.{ℕ, zero, suc, ◌≡◌, Bool, true, false, cond, not, ◌||◌, List, [], ◌∷◌, ◌++◌, Option, None, Some, is_some, refl}
+use Rattle.std.specs.Prelude.{◌||◌, ℕ, zero, suc, ◌≡◌, Bool, true, false, cond, not, List, [], ◌∷◌, ◌++◌, Option, None, Some, is_some, refl}
 use Rattle.std.proofs.Common.{sym, ◌∙◌, ap, subst}
 use Rattle.std.proofs.lemmas.Bool.{false≢true}
 use Rattle.rev_items.specs.Plain.{PlainItem}
@@ -7,10 +7,11 @@ use Rattle.rev_model.specs.State.{State, item_at, queue_of, free_of}
 use Rattle.rev_model.specs.Move.{with_free}
 use Rattle.rev_model.specs.Words.{is_dead, tail, over, idle, dropped, counted, inactive}
 use Rattle.rev_model.specs.Pull.{evicts, takes_all, warmed, cooled, pull, pull_tail, pull_item, pull_live, page_of, fronted, carved, or_carved, given, squeezed, squeezed_by, taken_or, room_by, room}
-use Rattle.rev_model.specs.Track.{same_key, Removal, removal, first_removal}
+use Rattle.rev_model.specs.Track.{same_key, Removal, removal}
+use Rattle.rev_model.proofs.Track.{first_removal}
 use Rattle.rev_model.specs.Causes.{live_removals, item_removals, tail_removals, pull_removals, squeeze_removals, squeeze_removals_by, none_or, room_removals_by, room_removals}
 use Rattle.rev_model.specs.Events.{ByRoom, cause_by}
-use Rattle.rev_model.specs.Fates.{Indexed, fate, Stays, stays, Drops, Refreshes, stays_fate, stays_indexed, drops_own, drops_other, drops_was, drops_indexed, Carries, carries_fate, carries_indexed, refreshes_fate, refreshes_indexed}
+use Rattle.rev_model.proofs.Fates.{Indexed, fate, Stays, stays, Drops, Refreshes, stays_fate, stays_indexed, drops_own, drops_other, drops_was, drops_indexed, Carries, carries_fate, carries_indexed, refreshes_fate, refreshes_indexed}
 use Rattle.rev_model.specs.declared.ChunkRef.{ChunkRef}
 use Rattle.rev_model.specs.declared.Cause.{Cause}
 use Rattle.rev_model.specs.declared.Cause.TheVariants.{Evicted, ReclaimedByPull}

@@ -10,9 +10,9 @@ use Rattle.rev_model.specs.Chunk.{same_chunk}
 use Rattle.rev_model.specs.State.{State, item_at, find}
 use Rattle.rev_model.specs.Words.{is_dead}
 use Rattle.rev_model.specs.Sound.{SoundBut}
-use Rattle.rev_model.specs.Undo.{tells_chunk, same_chunk-self, get-put_at}
+use Rattle.rev_model.proofs.Undo.{tells_chunk, same_chunk-self, get-put_at}
 use Rattle.rev_model.specs.Track.{held, same_key}
-use Rattle.rev_model.specs.Laws.{get_put, same_key-self, same_key-exact}
+use Rattle.rev_model.proofs.Laws.{get_put, same_key-self, same_key-exact}
 use Rattle.rev_model.specs.Events.{item_of, is_live, alive}
 use Rattle.rev_model.specs.declared.ChunkRef.{ChunkRef}
 use Rattle.rev_model.specs.declared.Globals.{Globals}

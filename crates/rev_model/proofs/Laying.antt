@@ -1,5 +1,5 @@
 -- A page that gets a class: the move is possible, and a sound store stays sound.
-use Rattle.std.specs.Prelude.{ℕ, ◌≡◌, ◌+◌, ◌-◌, ◌<◌, ◌≤◌, ◌==◌, ◌||◌, not, Bool, true, false, cond, List, [], ◌∷◌, ◌++◌, Option, None, Some, is_some, length, slice_index, slice_index_or, slice_set, nat_eq, nat_lt, zero, suc, refl, ◌⊎◌}
+use Rattle.std.specs.Prelude.{◌||◌, ℕ, ◌≡◌, ◌+◌, ◌-◌, ◌<◌, ◌≤◌, ◌==◌, not, Bool, true, false, cond, List, [], ◌∷◌, ◌++◌, Option, None, Some, is_some, length, slice_index, slice_index_or, slice_set, nat_eq, nat_lt, zero, suc, refl, ◌⊎◌}
 use Rattle.std.proofs.Common.{sym, ◌∙◌, ap, inl, inr, arith, subst, eqb-true, eq-eqb}
 use Rattle.std.proofs.lemmas.Bool.{cases_Bool, false≢true, true≢false, cases_eq, cases_lt, lt-ltb, ltb-true, and_parts, and_from}
 use Rattle.std.proofs.lemmas.List.{get_or-set_same, get_or-set_other, length-set}
@@ -12,7 +12,7 @@ use Rattle.rev_model.specs.Chunk.{same_chunk, same_entry}
 use Rattle.rev_model.specs.Lists.{has, count}
 use Rattle.rev_model.specs.State.{State, Fixed, WellFormed, IsChunkOf, free_of, owner_of, item_at, per_page, stands_in, stands}
 use Rattle.rev_model.specs.Move.{Lays, Ready, Possible, falling, laid, HoldsNoItem}
-use Rattle.rev_model.specs.Undo.{sum_none, count_none}
+use Rattle.rev_model.proofs.Undo.{sum_none, count_none}
 use Rattle.rev_model.specs.Words.{class_of}
 use Rattle.rev_model.specs.Pull.{page_from, lowest_page, owns_page, page_for, page_of}
 use Rattle.rev_model.specs.Actor.{owned_pages}

@@ -1,16 +1,17 @@
--- The moves by which an item leaves: each is possible, and what they leave together.
-use Rattle.std.specs.Prelude.{ℕ, ◌≡◌, ◌<◌, cond, List, None, Some, is_some, length, refl}
+-- An item leaves its queue, the index and its chunk, and the chunk goes to the free list: each move is possible.
+use Rattle.std.specs.Prelude.{ℕ, ◌≡◌, cond, List, None, Some, is_some, refl}
 use Rattle.std.proofs.Common.{sym, ◌∙◌, ap, subst, inl, inr}
 use Rattle.std.proofs.lemmas.Bool.{cases_Bool}
 use Rattle.std.specs.FinMap as map
 use Rattle.std.specs.Ordering.{eq_by_cmp}
 use Rattle.std.specs.Cmp.Lexicographic.{nat_list_cmp_total}
 use Rattle.rev_items.specs.Plain.{PlainItem}
-use Rattle.rev_model.specs.Chunk.{chunk_cmp, chunk_cmp_exact, chunk_cmp_total}
-use Rattle.rev_model.specs.State.{State, WellFormed, IsChunkOf, item_at, find, stands}
+use Rattle.rev_model.specs.Chunk.{chunk_cmp}
+use Rattle.rev_model.proofs.Chunks.{chunk_cmp_exact, chunk_cmp_total}
+use Rattle.rev_model.specs.State.{State, WellFormed, item_at, find, stands}
 use Rattle.rev_model.specs.Move.{Takes, Puts, Fills, Touches, Unbinds, moved, Possible, touched}
-use Rattle.rev_model.specs.Undo.{undo, get-put_at_same, get-put_at, tied}
-use Rattle.rev_model.specs.Keeps.{keeps-take_queue, keeps-unbind, keeps-fill, keeps-put_free}
+use Rattle.rev_model.proofs.Undo.{undo, get-put_at_same, get-put_at, tied}
+use Rattle.rev_model.proofs.Keeps.{keeps-take_queue, keeps-unbind, keeps-fill, keeps-put_free}
 use Rattle.rev_model.specs.declared.ChunkRef.{ChunkRef}
 use Rattle.rev_model.specs.declared.Entry.TheVariants.{Chunk}
 use Rattle.rev_model.specs.declared.Queue.{Queue}
@@ -18,7 +19,7 @@ use Rattle.rev_model.specs.declared.Touched.{Touched}
 use Rattle.rev_model.specs.declared.Listed.TheVariants.{InQueue}
 use Rattle.rev_model.specs.declared.Placed.TheVariants.{ToFree}
 use Rattle.rev_model.specs.Words.{unlinked, left}
-use Rattle.rev_model.specs.Sound.{Stands}
+use Rattle.rev_model.specs.Sound.{Stands, Loose}
 
 some_inj : {X : Type 0} (x y : X) → Some x ≡ Some y → x ≡ y
 some_inj x y e = cc
@@ -68,13 +69,6 @@ drop_fill s well c q x i h =
 
 pub unlinked_is : (s : State) (c : ℕ) (q : Queue) (x : ChunkRef) (i : PlainItem) → Stands s c q x i → moved (Fills x None) (moved (Unbinds x) (moved (Takes (InQueue c q (Chunk x))) s)) ≡ unlinked c q x i s
 unlinked_is s c q x i h = rw h.item refl
-
--- an unlinked chunk may go to the front of the free list
-pub record Loose (s : State) (c : ℕ) (x : ChunkRef) : Type 0 where
-  pub class : c < length s.free
-  pub chunk : IsChunkOf s.fixed s.owner c x
-  pub nowhere : stands s x ≡ 0
-  pub empty : item_at s x ≡ None
 
 pub loose : (s : State) → WellFormed s → (c : ℕ) (q : Queue) (x : ChunkRef) (i : PlainItem) → Stands s c q x i → Loose (unlinked c q x i s) c x
 loose s well c q x i h = record {

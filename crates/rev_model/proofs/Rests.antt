@@ -4,11 +4,11 @@ use Rattle.std.proofs.Common.{◌∙◌, ap, arith}
 use Rattle.std.proofs.lemmas.List.{reverse-reverse}
 use Rattle.rev_model.specs.State.{State, WellFormed, item_at}
 use Rattle.rev_model.specs.Move.{Move, Unbinds, Binds, moved, turned, Ready, Fits}
-use Rattle.rev_model.specs.Undo.{turns_back}
+use Rattle.rev_model.proofs.Undo.{turns_back}
 use Rattle.rev_model.specs.declared.ChunkRef.{ChunkRef}
 use Rattle.rev_model.specs.declared.Cause.{Cause}
 use Rattle.rev_model.specs.Track.{removal, removals}
-use Rattle.rev_model.specs.Notes.{removals-made}
+use Rattle.rev_model.proofs.Notes.{removals-made}
 
 longer : (ns : List (Option Cause)) (m : Option Cause) → length (ns ++ m ∷ []) ≡ length ns + 1
 longer [] m = refl

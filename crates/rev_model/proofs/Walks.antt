@@ -16,14 +16,14 @@ use Rattle.rev_model.specs.Sound.{Sound}
 use Rattle.rev_model.specs.Pull.{pull, room, lowest_page}
 use Rattle.rev_model.specs.Client.{ClientStep, Stores, Joins, Gets, Touches, Deletes, Flushes, Counts, Verb, Sets, Adds, Replaces, Cases, Side, Sum, Payload, Bytes, bytes_of, lookup, removed, hit, hit_again, renewed, class_for, joined, is_number, digits_from, summed, refusal, failed, settled_by, stored_room, stored_class, rewritten_old, rewritten_room, rewritten_class, rewritten, join_found, count_as, count_found, get_found, until, touch_found, delete_found, flush_at, flush_moment, client}
 use Rattle.rev_model.specs.Actor.{Step, Client, Pull, Bump, CrawlStart, Crawl, Schedule, Advance, Clock, Tune, TempTtl, step, bump_item, bump_from, is_busy, passed, crawl_item, crawl_entry, owned_pages, scheduled, spare, rescued, cleared, next_slot, handed, advance_of, with_globals, at_clock}
-use Rattle.rev_model.specs.Undo.{tells_chunk}
+use Rattle.rev_model.proofs.Undo.{tells_chunk}
 use Rattle.rev_model.specs.Track.{held, same_key, Removal, removal}
-use Rattle.rev_model.specs.Laws.{same_key-self, same_key-exact}
+use Rattle.rev_model.proofs.Laws.{same_key-self, same_key-exact}
 use Rattle.rev_model.specs.Causes.{look_removals, found_removals, clear_removals, failed_removals, settled_removals, after_room, store_in_removals, stored_removals, after_rewrite, rewrite_in_removals, rewritten_removals, rewrite_removals, join_found_removals, count_found_removals, client_removals, pull_removals, pull_step_removals, crawl_item_removals, crawl_entry_removals, crawl_removals, rescue_removals, cleared_removals, advance_removals_of, advance_removals, step_removals, room_removals}
 use Rattle.rev_model.specs.Events.{Part, ByRoom, ByLookup, ByDelete, ByFailedSet, ByPull, ByCrawl, ByAdvance, Stage, then, clear_stages, lookup_stages, failed_stages, room_stages, store_in_stages, store_stages, rewrite_room_stages, rewrite_in_stages, rewrite_class_stages, rewrite_stages, join_found_stages, count_found_stages, client_stages, stages, cause_by, cause_of, alive}
-use Rattle.rev_model.specs.Fates.{Indexed, indexed_sound, fate-some, Stays, stays, key_removed, key_inserted}
-use Rattle.rev_model.specs.Leaving.{Goes, goes_stays, goes_drops, goes_carries, goes_cond, pull_goes, room_goes}
-use Rattle.rev_model.specs.Stages.{look_goes, found_is, cleared_goes, Walked, Caused, walked_caused}
+use Rattle.rev_model.proofs.Fates.{Indexed, indexed_sound, fate-some, Stays, stays, key_removed, key_inserted}
+use Rattle.rev_model.proofs.Leaving.{Goes, goes_stays, goes_drops, goes_carries, goes_cond, pull_goes, room_goes}
+use Rattle.rev_model.proofs.Stages.{look_goes, found_is, cleared_goes, Walked, Caused, walked_caused}
 use Rattle.rev_model.specs.declared.ChunkRef.{ChunkRef}
 use Rattle.rev_model.specs.declared.Cause.{Cause}
 use Rattle.rev_model.specs.declared.Cause.TheVariants.{ReclaimedByCrawler, ReclaimedByMover, EvictedByMover, Deleted, DroppedByFailedSet}

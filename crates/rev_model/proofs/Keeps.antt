@@ -7,16 +7,16 @@ use Rattle.std.proofs.lemmas.List.Sums.{sum_by-set}
 use Rattle.std.specs.List.{sum_by}
 use Rattle.std.specs.FinMap as map
 use Rattle.rev_items.specs.Plain.{PlainItem}
-use Rattle.rev_model.specs.Chunk.{same_chunk, same_entry, chunk_cmp, chunk_cmp_exact, chunk_cmp_total}
+use Rattle.rev_model.specs.Chunk.{same_chunk, same_entry, chunk_cmp}
+use Rattle.rev_model.proofs.Chunks.{chunk_cmp_exact, chunk_cmp_total}
 use Rattle.rev_model.specs.Lists.{has, count, without, insert, behind}
-use Rattle.rev_model.specs.ListLaws.{Tells}
-use Rattle.rev_model.specs.State.{State, WellFormed, IsChunkOf, free_of, queue_of, queue_place, counter_place, owner_of, item_at, find, stands_in, stands}
+use Rattle.rev_model.proofs.ListLaws.{Tells}
+use Rattle.rev_model.specs.State.{State, WellFormed, IsChunkOf, free_of, queue_of, queue_place, counter_place, owner_of, item_at, find, stands_in, stands, queue_number}
 use Rattle.rev_model.specs.Move.{Takes, Puts, Fills, Binds, Unbinds, Counts, Sets, put_at, moved, Ready, Possible, MayEnter}
-use Rattle.rev_model.specs.Undo.{tells_chunk, tells_entry, count_in_table, free_lacks, has-count, get-put_at, tied, undo}
+use Rattle.rev_model.proofs.Undo.{tells_chunk, tells_entry, count_in_table, free_lacks, has-count, get-put_at, tied, undo}
 use Rattle.std.specs.Ordering.{eq_by_cmp, nat_cmp}
 use Rattle.std.specs.Cmp.Lexicographic.{slice_cmp, nat_list_cmp_total}
 use Rattle.rev_model.specs.declared.Queue.TheVariants.{Hot, Warm, Cold, Temp}
-use Rattle.rev_model.specs.State.{queue_number}
 use Rattle.rev_model.specs.declared.ChunkRef.{ChunkRef}
 use Rattle.rev_model.specs.declared.Entry.{Entry}
 use Rattle.rev_model.specs.declared.Entry.TheVariants.{Chunk, Mark}

@@ -1,20 +1,25 @@
--- What a possible move says of the slots and keys that it touches.
-use Rattle.std.specs.Prelude.{ℕ, ◌≡◌, true, false, List, [], ◌∷◌, Option, None, Some, is_some, length, slice_index, slice_index_or, slice_set, zero, suc, refl}
+-- How many slots each page has, and what a possible move says of the slots and keys that it touches.
+use Rattle.std.specs.Prelude.{ℕ, List, map as map_list, ◌≡◌, true, false, [], ◌∷◌, Option, None, Some, is_some, length, slice_index, slice_index_or, slice_set, zero, suc, refl}
+use Rattle.rev_model.specs.State.{Fixed, per_page, State, IsChunkOf, free_of, queue_of, queue_place, item_at, find}
 use Rattle.std.proofs.Common.{sym, ◌∙◌, ap, arith}
 use Rattle.std.proofs.lemmas.List.{get_or-set_same}
 use Rattle.rev_items.specs.Plain.{PlainItem}
-use Rattle.rev_model.specs.Chunk.{same_chunk, same_entry, chunk_cmp_exact, chunk_cmp_total, HasSlot, EntryHasSlot}
+use Rattle.rev_model.specs.Chunk.{same_chunk, same_entry, HasSlot, EntryHasSlot}
+use Rattle.rev_model.proofs.Chunks.{chunk_cmp_exact, chunk_cmp_total}
 use Rattle.rev_model.specs.Lists.{has, insert}
-use Rattle.rev_model.specs.ListLaws.{has-insert}
-use Rattle.rev_model.specs.State.{State, Fixed, IsChunkOf, free_of, queue_of, queue_place, item_at, find, per_page, page_slots}
+use Rattle.rev_model.proofs.ListLaws.{has-insert}
 use Rattle.rev_model.specs.Move.{Puts, Fills, Touches, moved, Possible}
-use Rattle.rev_model.specs.Undo.{tells_chunk, tells_entry, free_lacks, queue_lacks, get-put_at_same}
+use Rattle.rev_model.proofs.Undo.{tells_chunk, tells_entry, free_lacks, queue_lacks, get-put_at_same}
 use Rattle.rev_model.specs.declared.ChunkRef.{ChunkRef}
 use Rattle.rev_model.specs.declared.Entry.{Entry}
 use Rattle.rev_model.specs.declared.Entry.TheVariants.{Chunk, Mark}
 use Rattle.rev_model.specs.declared.Queue.{Queue}
 use Rattle.rev_model.specs.declared.Touched.{Touched}
 use Rattle.rev_model.specs.declared.Placed.TheVariants.{ToFree, ToQueue}
+
+-- how many slots each page has
+abbrev pub page_slots : Fixed → List ℕ → List ℕ
+page_slots f owner = map_list (per_page f) owner
 
 length_slots : (f : Fixed) (owner : List ℕ) → length (page_slots f owner) ≡ length owner
 length_slots f [] = refl
