@@ -1,5 +1,3 @@
-pub mod Seats
-pub mod Rest
 pub mod Telling
 pub mod Taking
 pub mod Linking

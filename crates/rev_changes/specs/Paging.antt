@@ -1,9 +1,7 @@
 -- The page that a class gets, taken from memory before the first change.
-use Rattle.std.specs.Prelude.{ℕ, ◌≡◌, ◌<◌, Option, None, Some, length}
-use Rattle.std.proofs.Common.{arith}
+use Rattle.std.specs.Prelude.{ℕ, ◌≡◌, Option, None, Some}
 use Rattle.rev_model.specs.State.{State, per_page}
 use Rattle.rev_model.specs.Pull.{page_of}
-use Rattle.rev_model.specs.Sound.{Sound}
 use Rattle.rev_model.specs.declared.Form.{Form}
 use Rattle.rev_changes.specs.declared.page.NewPage.{NewPage}
 
@@ -21,7 +19,3 @@ HasParts s c (Some n) = n.parts ≡ per_page s.fixed c
 pub record IsPlan {A : Type 0} (s : State) (c : ℕ) (plan : Option (NewPage A)) : Type 0 where
   pub page : page_planned plan ≡ page_of s c
   pub parts : HasParts s c plan
-
--- a page's number is small
-pub few_pages : (s : State) → Sound s → length s.owner < 65536
-few_pages s sound = omega (arith, sound.well.owned.pages, sound.kept.table.limit)

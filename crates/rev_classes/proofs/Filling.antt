@@ -2,7 +2,7 @@
 use Rattle.std.proofs.Common.{ℕ, zero, suc, ◌+◌, ◌*◌, ◌/◌, ◌<◌, ◌≤◌, ◌≡◌, true, false, nat_le, List, [], ◌∷◌, ◌++◌, length, refl, sym, ◌∙◌, ap, subst, arith, append_assoc, length-append, add-one}
 use Rattle.std.proofs.lemmas.Bool.{le-leb, lt-leb}
 use Rattle.rev_classes.specs.Sizes.{up8, unrounded, ends, sizes_from, most_classes, sizes_of}
-use Rattle.rev_classes.specs.Laws.{HasFactor, most_classes-is, grown-below, up8-below, ends-false}
+use Rattle.rev_classes.proofs.Laws.{HasFactor, most_classes-is, grown-below, up8-below, ends-false}
 
 pub record IsFilled (page num den : ℕ) (items : List ℕ) (u i : ℕ) : Type 0 where
   pub count : length items ≡ i

@@ -1,4 +1,3 @@
 pub mod Sizes
 pub mod Limits
 pub mod Table
-pub mod Laws

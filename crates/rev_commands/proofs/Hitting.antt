@@ -10,10 +10,11 @@ use Rattle.rev_model.specs.Words.{is_dead, header_of}
 use Rattle.rev_model.specs.Client.{lookup}
 use Rattle.std.specs.Option.{option_map}
 use Rattle.rev_model.specs.declared.ItemHeader.{ItemHeader}
-use Rattle.rev_changes.specs.Rest.{Rest}
+use Rattle.rev_changes.proofs.Rest.{Rest}
 use Rattle.rev_model.specs.declared.ChunkRef.{ChunkRef}
 use Rattle.rev_model.specs.declared.BumpEntry.{BumpEntry}
-use Rattle.rev_commands.specs.Looking.{Live, found_is, look_need, looked_need, dead_need}
+use Rattle.rev_commands.proofs.Looking.{Live, found_is}
+use Rattle.rev_commands.specs.Looking.{look_need, looked_need, dead_need}
 use Rattle.rev_commands.specs.Hitting.{hit_need, read_need, led_need, access_need}
 
 pub access_live : (more : ℕ) (s : State) (k : List ℕ) (x : ChunkRef) → (l : Live s k x) → access_need more s k ≡ hit_need l.item.bits + more

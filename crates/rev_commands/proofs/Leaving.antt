@@ -12,7 +12,7 @@ use Rattle.rev_model.specs.declared.Cause.{Cause}
 use Rattle.rev_model.specs.declared.ChunkRef.{ChunkRef}
 use Rattle.rev_model.specs.declared.Outcome.{Outcome}
 use Rattle.rev_model.specs.declared.Outcome.TheVariants.{Deleted, Hit, Touched}
-use Rattle.rev_commands.specs.Looking.{Live, found_is}
+use Rattle.rev_commands.proofs.Looking.{Live, found_is}
 
 abbrev pub dropped_at : State → ChunkRef → PlainItem → State
 dropped_at s x i = dropped (owner_of s x.page) (queue_with s (owner_of s x.page) x) x i s

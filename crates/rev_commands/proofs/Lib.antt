@@ -6,3 +6,9 @@ mod Sizes
 mod Digits
 mod Plans
 mod Needs
+pub mod Finding
+pub mod Flushing
+pub mod Living
+pub mod Looking
+pub mod Placing
+pub mod Rewriting

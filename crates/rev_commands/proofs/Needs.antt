@@ -4,7 +4,8 @@ use Rattle.std.proofs.Common.{sym, arith}
 use Rattle.rev_model.specs.State.{State}
 use Rattle.rev_model.specs.Client.{lookup}
 use Rattle.rev_model.specs.declared.ChunkRef.{ChunkRef}
-use Rattle.rev_commands.specs.Looking.{chunk_of, found, found_look, found_need, found_removal, look_most, look_need, removal_need}
+use Rattle.rev_commands.proofs.Looking.{chunk_of, found, found_look, found_removal, look_most}
+use Rattle.rev_commands.specs.Looking.{found_need, look_need, removal_need}
 
 -- a lookup, and the way out of what it found
 pub look_found : (s : State) (k : List ℕ) (o : Option ChunkRef) → o ≡ chunk_of (lookup s k).1 → look_need s k + found_need o ≤ removal_need s k

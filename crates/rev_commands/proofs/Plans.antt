@@ -12,9 +12,10 @@ use Rattle.rev_model.specs.declared.Outcome.TheVariants.{TooLarge, NotStored, No
 use Rattle.rev_model.specs.Client.{Payload, Bytes, Skipped, Side, Sum, bytes_of, class_for, rewritten, rewritten_class, lookup, count_as, join, join_found, joined, count, count_found, is_number, digits_from, summed}
 use Rattle.rev_model.specs.Causes.{look_removals, rewrite_in_removals, rewritten_removals, rewrite_removals, join_removals, join_found_removals, count_removals, count_found_removals}
 use Rattle.rev_model.specs.Track.{Removal}
-use Rattle.rev_commands.specs.Living.{Lives}
+use Rattle.rev_commands.proofs.Living.{Lives}
 use Rattle.rev_commands.specs.Numbers.{number_in}
-use Rattle.rev_commands.specs.Rewriting.{rewritten_in, rewritten_fits}
+use Rattle.rev_commands.specs.Rewriting.{rewritten_in}
+use Rattle.rev_commands.proofs.Rewriting.{rewritten_fits}
 use Rattle.rev_commands.specs.Drafts.{Drafted, Renews, IsDraft, IsPlan}
 use Rattle.rev_commands.specs.declared.plan.Draft.{Draft}
 use Rattle.rev_commands.specs.declared.plan.Plan.{Plan}

@@ -12,10 +12,12 @@ use Rattle.rev_model.specs.declared.ChunkRef.{ChunkRef}
 use Rattle.rev_model.specs.declared.Globals.{Globals}
 use Rattle.rev_model.specs.declared.Outcome.{Outcome}
 use Rattle.rev_model.specs.declared.Outcome.TheVariants.{Stored, NoChunk}
-use Rattle.rev_maintainer.specs.Rooming.{same_globals_room}
-use Rattle.rev_commands.specs.Looking.{chunk_of}
-use Rattle.rev_commands.specs.Finding.{held, lookup_is}
-use Rattle.rev_commands.specs.Placing.{settled_item_by, settled_item, placed, placed_in, stored_in, same_frame}
+use Rattle.rev_maintainer.proofs.Rooming.{same_globals_room}
+use Rattle.rev_commands.proofs.Looking.{chunk_of}
+use Rattle.rev_commands.specs.Finding.{held}
+use Rattle.rev_commands.proofs.Finding.{lookup_is}
+use Rattle.rev_commands.specs.Placing.{settled_item_by, settled_item, placed, placed_in, stored_in}
+use Rattle.rev_commands.proofs.Placing.{same_frame}
 
 -- ---- by what the lookup of the key leaves and answers, and what the verb says to that
 

@@ -33,7 +33,7 @@ use Rattle.rev_model.specs.declared.Outcome.{Outcome}
 use Rattle.rev_model.specs.declared.Outcome.TheVariants as outcome
 use Rattle.rev_model.specs.declared.Listed.TheVariants.{InQueue}
 use Rattle.rev_model.specs.declared.Placed.TheVariants.{ToQueue}
-use Rattle.rev_changes.specs.Rest.{Rest}
+use Rattle.rev_changes.proofs.Rest.{Rest}
 use Rattle.rev_crawler.proofs.Counting.{has-mark_out, count-mark_out, rest-queue}
 
 some_inj : {X : Type 0} (x y : X) → Some x ≡ Some y → x ≡ y

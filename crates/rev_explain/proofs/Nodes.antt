@@ -19,12 +19,12 @@ use Rattle.rev_model.specs.declared.KeyChange.{KeyChange}
 use Rattle.rev_model.specs.declared.Outcome.{Outcome}
 use Rattle.rev_model.specs.declared.Queue.{Queue}
 use Rattle.rev_moves.specs.Record.{PlainRecord}
-use Rattle.rev_changes.specs.Seats.{item_stands, owner_class}
+use Rattle.rev_changes.proofs.Seats.{item_stands, owner_class}
 use Rattle.rev_undotree.specs.Steps.{outcome_of}
 use Rattle.rev_undotree.specs.Rows.{at}
 use Rattle.rev_undotree.specs.Positions.{SessionState}
 use Rattle.rev_undotree.specs.Trails.{Trailed}
-use Rattle.rev_undotree.specs.Recalled.{Recalled, Gone, leads_to, cause_told}
+use Rattle.rev_undotree.proofs.Recalled.{Recalled, Gone, leads_to, cause_told}
 use Rattle.rev_explain.specs.Readings.{left_cause}
 
 -- ---- a sound store

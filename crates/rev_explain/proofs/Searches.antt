@@ -17,7 +17,7 @@ use Rattle.rev_undotree.specs.Rows.{RowsFall, at}
 use Rattle.rev_undotree.specs.Machine.{lineage}
 use Rattle.rev_undotree.specs.Positions.{SessionState}
 use Rattle.rev_undotree.specs.Trails.{Trailed}
-use Rattle.rev_undotree.specs.Recalled.{was_at, tells_at}
+use Rattle.rev_undotree.proofs.Recalled.{was_at, tells_at}
 use Rattle.rev_undotree.specs.Mentioned.{IsStill}
 use Rattle.rev_explain.specs.Readings.{note_of, left_cause}
 use Rattle.rev_explain.specs.Story.{told, events_along, story, left_or, last_left}

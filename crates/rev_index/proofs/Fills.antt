@@ -15,7 +15,8 @@ use Rattle.rev_model.proofs.Chunks.{chunk_cmp_exact, chunk_cmp_total}
 use Rattle.rev_model.specs.Move.{put_at, touched}
 use Rattle.rev_model.specs.declared.Touched.{Touched}
 use Rattle.rev_model.specs.declared.ChunkRef.{ChunkRef}
-use Rattle.rev_index.specs.Made.{at, get-made, made-set}
+use Rattle.rev_index.specs.Made.{at}
+use Rattle.rev_index.proofs.Made.{get-made, made-set}
 use Rattle.rev_index.specs.declared.chains.Bucket.{Bucket}
 use Rattle.rev_links.specs.Grids.{cell_at, with_cell, away}
 use Rattle.rev_index.specs.Chains.{ChainLink, link_at, next_in, previous_in, chain, bucket_of}

@@ -5,13 +5,15 @@ use Rattle.std.proofs.lemmas.Option.{get_or_from_slice_get}
 use Rattle.std.specs.Cmp.Lexicographic.{nat_list_cmp_total}
 use Rattle.std.specs.FinMap as fin
 use Rattle.rev_links.specs.declared.places.Place.TheVariants.{End, At}
-use Rattle.rev_links.specs.Rings.{Path, In, Tells}
+use Rattle.rev_links.specs.Rings.{Path, In}
+use Rattle.rev_links.proofs.Members.{Tells}
 use Rattle.rev_links.proofs.Rings.{first_step}
 use Rattle.rev_items.specs.Plain.{PlainItem}
 use Rattle.rev_model.specs.Chunk.{same_chunk}
 use Rattle.rev_model.proofs.Undo.{tells_chunk}
 use Rattle.rev_model.specs.declared.ChunkRef.{ChunkRef}
-use Rattle.rev_index.specs.Made.{made, at, get-made}
+use Rattle.rev_index.specs.Made.{made, at}
+use Rattle.rev_index.proofs.Made.{get-made}
 use Rattle.rev_index.specs.declared.chains.Bucket.{Bucket}
 use Rattle.rev_links.specs.Grids.{cell_at}
 use Rattle.rev_index.specs.Chains.{ChainPlace, ChainLink, link_at, next_in, previous_in, SameShape, trail, chain, bucket_of}

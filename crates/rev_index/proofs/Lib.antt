@@ -6,3 +6,4 @@ pub mod Moves
 pub mod Fills
 pub mod Ends
 pub mod Widening
+pub mod Made

@@ -5,7 +5,8 @@ use Rattle.std.specs.Ordering.{nat_cmp, eq_by_cmp}
 use Rattle.std.specs.Cmp.Lexicographic.{slice_cmp, nat_list_cmp_total}
 use Rattle.std.specs.Cmp.{eq_by_cmp_equiv}
 use Rattle.std.specs.FinMap as map
-use Rattle.rev_links.specs.Rings.{In, without, Tells}
+use Rattle.rev_links.specs.Rings.{In}
+use Rattle.rev_links.proofs.Members.{without, Tells}
 use Rattle.rev_items.specs.Plain.{PlainItem}
 use Rattle.rev_model.proofs.Undo.{tied}
 use Rattle.rev_model.specs.State.{Keys}

@@ -3,7 +3,8 @@ use Rattle.std.proofs.Common.{◌≡◌, ◌≢◌, ℕ, ◌<◌, true, cond, Op
 use Rattle.std.proofs.lemmas.Bool.{cases_Bool, false≢true}
 use Rattle.std.specs.FinMap as fin
 use Rattle.rev_links.specs.declared.places.Place.TheVariants.{End, At}
-use Rattle.rev_links.specs.Rings.{without, In, Between, Gap}
+use Rattle.rev_links.proofs.Members.{without}
+use Rattle.rev_links.specs.Rings.{In, Between, Gap}
 use Rattle.rev_links.proofs.Rings.{distinct_path, In-without, not_In-without}
 use Rattle.rev_links.proofs.Lists.{between_in, gap_in, taken_own, taken_other, put_own, put_other}
 use Rattle.rev_items.specs.Plain.{PlainItem}

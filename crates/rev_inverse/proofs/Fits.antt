@@ -22,7 +22,8 @@ use Rattle.rev_model.specs.declared.Placed.TheVariants.{ToQueue}
 use Rattle.rev_model.specs.declared.Entry.{Entry}
 use Rattle.rev_model.specs.declared.Entry.TheVariants.{Chunk, Mark}
 use Rattle.rev_pages.specs.State.{PagesState}
-use Rattle.rev_queues.specs.Entries.{Queued, entries, queued_with, without_entry, insert_entry, entries-at, taken_stood, put_stood}
+use Rattle.rev_queues.specs.Entries.{Queued, entries, queued_with, without_entry, insert_entry}
+use Rattle.rev_queues.proofs.Entries.{entries-at, taken_stood, put_stood}
 use Rattle.rev_queues.specs.QueueState.{QueuesState, IsGone}
 use Rattle.rev_index.specs.Index.{PlainIndex}
 use Rattle.rev_inverse.specs.Fitted.{Fitted}

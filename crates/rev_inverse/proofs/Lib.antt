@@ -3,3 +3,4 @@ pub mod Paging
 pub mod Marking
 pub mod Shifting
 pub mod Opened
+pub mod Empty

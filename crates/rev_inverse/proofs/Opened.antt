@@ -15,7 +15,8 @@ use Rattle.rev_pages.specs.State.{PagesState, no_pages}
 use Rattle.rev_queues.specs.Entries.{entries}
 use Rattle.rev_queues.specs.QueueState.{QueuesState, empty_queues}
 use Rattle.rev_index.specs.Index.{PlainIndex, empty_index}
-use Rattle.rev_inverse.specs.Empty.{empty_globals, empty_state, has_limits, none_at}
+use Rattle.rev_inverse.specs.Empty.{empty_globals, empty_state}
+use Rattle.rev_inverse.proofs.Empty.{has_limits, none_at}
 use Rattle.rev_inverse.specs.Fitted.{Fitted}
 
 zero_at : (n p : ℕ) → slice_index (replicate n 0) p ≡ 0

@@ -22,7 +22,8 @@ use Rattle.rev_model.proofs.Undo.{tells_entry, count-has, count_in_table, queue_
 use Rattle.rev_model.specs.Words.{weight, size_of, queue_among}
 use Rattle.std.specs.Prelude.{slice_index}
 use Rattle.rev_pages.specs.State.{PagesState}
-use Rattle.rev_queues.specs.Entries.{Queued, entries, entries-at, entries-taken, entries-put, queued_with, without_entry, insert_entry}
+use Rattle.rev_queues.specs.Entries.{Queued, entries, queued_with, without_entry, insert_entry}
+use Rattle.rev_queues.proofs.Entries.{entries-at, entries-taken, entries-put}
 use Rattle.rev_queues.specs.QueueState.{QueuesState}
 use Rattle.rev_index.specs.Index.{PlainIndex, bound, unbound}
 use Rattle.rev_inverse.specs.Fitted.{Fitted}

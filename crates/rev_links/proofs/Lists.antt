@@ -2,13 +2,10 @@
 use Rattle.std.proofs.Common.{◌≡◌, ◌≢◌, Bool, Option, Some, None, IfSome, List, [], ◌∷◌, inl, inr, subst}
 use Rattle.rev_links.specs.declared.places.Place.{Place}
 use Rattle.rev_links.specs.declared.places.Place.TheVariants.{End, At}
-use Rattle.rev_links.specs.Rings.{Joined, Path, without, insert, In, Tells, Closed, Opened, Between, Gap}
+use Rattle.rev_links.specs.Rings.{Joined, Path, In, Closed, Opened, Between, Gap}
+use Rattle.rev_links.proofs.Members.{without, insert, Tells}
+use Rattle.rev_links.specs.Neighbours.{place_behind}
 use Rattle.rev_links.proofs.Rings.{one_end, first_step, path_taken, path_closed, path_opened, path_fronted, path_put}
-
--- the place that a member is put behind
-abbrev pub place_behind : {E X : Type 0} → E → Option X → Place E X
-place_behind c None = End c
-place_behind c (Some y) = At y
 
 module _ {E X : Type 0} (eq : X → X → Bool) (tells : Tells eq) (next previous : Place E X → Option (Place E X)) (there : E → Type 0) (chain : E → List X)
     (ring : (c : E) → there c → Path next previous (End c) (chain c) (End c)) where

@@ -2,8 +2,9 @@
 use Rattle.std.proofs.Common.{◌≡◌, Bool, true, false, cond, Option, Some, None, List, [], ◌∷◌, inl, inr, refl, sym, ◌∙◌, ap, slice_get}
 use Rattle.rev_links.specs.declared.places.Place.{Place}
 use Rattle.rev_links.specs.declared.places.Place.TheVariants.{End, At}
-use Rattle.rev_links.specs.Rings.{member_of, Path, In, Tells}
-use Rattle.rev_links.specs.Neighbours.{before_from, before_of, behind_of, place_or}
+use Rattle.rev_links.specs.Rings.{member_of, Path, In}
+use Rattle.rev_links.proofs.Members.{Tells, before_from, before_of, place_or}
+use Rattle.rev_links.specs.Neighbours.{behind_of}
 
 -- the member that a place names is the one that it was made of
 pub member_place : {E X : Type 0} (e : E) (o : Option X) → member_of (Some (place_or e o)) ≡ o

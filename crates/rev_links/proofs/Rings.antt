@@ -3,7 +3,8 @@ use Rattle.std.proofs.Common.{◌≡◌, ◌≢◌, ℕ, suc, zero, ◌+◌, ◌
 use Rattle.std.proofs.lemmas.Bool.{eqb-true, eq-eqb}
 use Rattle.rev_links.specs.declared.places.Place.{Place}
 use Rattle.rev_links.specs.declared.places.Place.TheVariants.{End, At}
-use Rattle.rev_links.specs.Rings.{walk, Joined, Path, without, insert_behind, In, Tells, Closed, Opened, SetsNext, SetsPrevious}
+use Rattle.rev_links.specs.Rings.{walk, Joined, Path, In, Closed, Opened, SetsNext, SetsPrevious}
+use Rattle.rev_links.proofs.Members.{without, insert_behind, Tells}
 
 -- no member stands twice
 abbrev pub Distinct : {X : Type 0} → List X → Type 0

@@ -1,6 +1,6 @@
 -- Lists that run through slots: each member knows the place before it and the place after it,
 -- and a list's end stands before its first member and after its last one.
-use Rattle.std.specs.Prelude.{◌≡◌, ◌≢◌, true, false, ℕ, suc, zero, Bool, cond, Option, Some, None, List, [], ◌∷◌, ◌⊎◌}
+use Rattle.std.specs.Prelude.{◌≡◌, ◌≢◌, ℕ, suc, zero, Option, Some, None, List, [], ◌∷◌, ◌⊎◌}
 use Rattle.rev_links.specs.declared.places.Place.{Place}
 use Rattle.rev_links.specs.declared.places.Place.TheVariants.{End, At}
 
@@ -25,30 +25,10 @@ abbrev pub Path : {E X : Type 0} → (next previous : Place E X → Option (Plac
 Path next previous p [] q = Joined next previous p q
 Path next previous p (x ∷ xs) q = Joined next previous p (At x) × Path next previous (At x) xs q
 
--- the list without the first x
-abbrev pub without : {X : Type 0} → (X → X → Bool) → X → List X → List X
-without eq x [] = []
-without eq x (y ∷ ys) = cond (eq x y) ys (y ∷ without eq x ys)
-
--- the list with x behind the first y
-abbrev pub insert_behind : {X : Type 0} → (X → X → Bool) → X → X → List X → List X
-insert_behind eq x y [] = []
-insert_behind eq x y (z ∷ zs) = cond (eq y z) (z ∷ x ∷ zs) (z ∷ insert_behind eq x y zs)
-
--- the list with x behind a member, or in front
-abbrev pub insert : {X : Type 0} → (X → X → Bool) → X → Option X → List X → List X
-insert eq x None xs = x ∷ xs
-insert eq x (Some y) xs = insert_behind eq x y xs
-
 -- x stands in the list
 abbrev pub In : {X : Type 0} → X → List X → Type 0
 In x [] = ⊥
 In x (y ∷ ys) = (y ≡ x) ⊎ In x ys
-
--- a test that decides whether two members are the same
-pub record Tells {X : Type 0} (eq : X → X → Bool) : Type 0 where
-  pub same : (x y : X) → eq x y ≡ true → x ≡ y
-  pub apart : (x y : X) → eq x y ≡ false → x ≢ y
 
 -- x was taken out from between p and n
 pub record Closed {E X : Type 0} (next previous next' previous' : Place E X → Option (Place E X)) (x : X) (p n : Place E X) : Type 0 where

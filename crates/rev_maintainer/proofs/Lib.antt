@@ -1,1 +1,6 @@
 mod Arms
+pub mod Ages
+pub mod Bumps
+pub mod Causes
+pub mod Pulling
+pub mod Rooming

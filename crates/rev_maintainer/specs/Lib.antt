@@ -1,5 +1,2 @@
-pub mod Ages
-pub mod Pulling
 pub mod Rooming
-pub mod Causes
 pub mod Bumping

@@ -5,7 +5,7 @@ use Rattle.std.proofs.lemmas.Bool.{cases_Bool, false≢true, true≢false, cases
 use Rattle.std.proofs.lemmas.List.{get_or-set_same, get_or-set_other, length-set}
 use Rattle.std.proofs.lemmas.List.Sums.{sum_by-set}
 use Rattle.std.specs.List.{sum_by, list_any}
-use Rattle.rev_classes.specs.Laws.{page-div-size}
+use Rattle.rev_classes.proofs.Laws.{page-div-size}
 use Rattle.rev_items.specs.Plain.{PlainItem}
 use Rattle.rev_items.specs.Rules.{footprint_of}
 use Rattle.rev_model.specs.Chunk.{same_chunk, same_entry}

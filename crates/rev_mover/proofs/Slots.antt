@@ -23,8 +23,8 @@ use Rattle.rev_model.specs.declared.Entry.{Entry}
 use Rattle.rev_model.specs.declared.Entry.TheVariants.{Chunk}
 use Rattle.rev_model.specs.declared.Queue.{Queue}
 use Rattle.rev_model.specs.declared.Mover.{Mover}
-use Rattle.rev_changes.specs.Rest.{Rest}
-use Rattle.rev_changes.specs.Seats.{item_stands}
+use Rattle.rev_changes.proofs.Rest.{Rest}
+use Rattle.rev_changes.proofs.Seats.{item_stands}
 use Rattle.rev_mover.specs.Moving.{slot_chunk, next_mover, with_mover}
 
 some_inj : {X : Type 0} (x y : X) → Some x ≡ Some y → x ≡ y

@@ -1,7 +1,5 @@
 pub mod Record
 pub mod Seen
 pub mod Leads
-pub mod Turning
 pub mod Lending
-pub mod Lists
 mod Shelves

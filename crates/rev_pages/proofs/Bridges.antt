@@ -1,9 +1,7 @@
 -- The words for lists of the model and those of the theory of rings say the same.
 use Rattle.std.proofs.Common.{◌≡◌, Bool, true, false, cond, Option, Some, None, IfSome, List, [], ◌∷◌, ◌⊎◌, inl, inr, refl, sym, ◌∙◌, ap}
-use Rattle.rev_links.specs.Rings.{In, Tells}
-use Rattle.rev_links.specs.Rings.{without as left, insert_behind as entered_behind, insert as entered}
-use Rattle.rev_links.specs.Neighbours.{before_of}
-use Rattle.rev_links.specs.Neighbours.{before_from as stands_from}
+use Rattle.rev_links.specs.Rings.{In}
+use Rattle.rev_links.proofs.Members.{Tells, without as left, insert_behind as entered_behind, insert as entered, before_of, before_from as stands_from}
 use Rattle.rev_model.specs.Lists.{has, without, before, before_from, behind, insert, has_after}
 
 module _ {X : Type 0} (same : X → X → Bool) where

@@ -5,7 +5,8 @@ use Rattle.std.proofs.lemmas.Bool.Decides.{nat_tests}
 use Rattle.std.proofs.lemmas.List.{get_or-set_same, get_or-set_other, get_or_past, same_lists, length-set, length-map}
 use Rattle.std.proofs.lemmas.List.FromFn.{length-map-range_with_len, get_or-map-range_with_len}
 use Rattle.rev_links.specs.declared.places.Place.TheVariants.{End, At}
-use Rattle.rev_links.specs.Rings.{Path, In, Tells}
+use Rattle.rev_links.specs.Rings.{Path, In}
+use Rattle.rev_links.proofs.Members.{Tells}
 use Rattle.rev_links.proofs.Grids.{size_of_page, cell_from_size, size_from_cell}
 use Rattle.rev_links.proofs.Rings.{walk_path, rest, distinct_path, first_step, length_at_most}
 use Rattle.rev_model.specs.Chunk.{same_chunk}

@@ -2,9 +2,9 @@
 use Rattle.std.proofs.Common.{◌≡◌, ◌≢◌, ℕ, ◌<◌, true, false, Option, Some, None, IsSome, IfSome, List, [], ◌∷◌, length, get_or, slice_get, refl, sym, ◌∙◌, ap, subst, arith, option_map}
 use Rattle.rev_links.specs.declared.places.Place.TheVariants.{End, At}
 use Rattle.rev_links.specs.Rings.{member_of, In, Between, Gap}
-use Rattle.rev_links.specs.Rings.{without as left, insert as entered}
-use Rattle.rev_links.specs.Neighbours.{before_of, behind_of, place_or}
-use Rattle.rev_links.proofs.Lists.{place_behind, between_in, gap_in, taken_own, taken_other, put_own, put_other}
+use Rattle.rev_links.proofs.Members.{without as left, insert as entered, before_of, place_or}
+use Rattle.rev_links.specs.Neighbours.{behind_of, place_behind}
+use Rattle.rev_links.proofs.Lists.{between_in, gap_in, taken_own, taken_other, put_own, put_other}
 use Rattle.rev_links.proofs.Neighbours.{member_place, before_path, first_path, behind_path}
 use Rattle.rev_links.proofs.Rings.{first_step}
 use Rattle.rev_model.specs.Chunk.{same_chunk, HasSlot}

@@ -1,8 +1,7 @@
 ghost use Rattle.std.specs.Prelude.{◌≡◌, ℕ, ◌+◌, ◌<◌, ◌≤◌, Some, true, false, length, nat_eq, slice_index, slice_set};
 ghost use Rattle.std.specs.List.{list_any};
 ghost use Rattle.rev_links.specs.Rings.{member_of};
-ghost use Rattle.rev_links.specs.Neighbours.{behind_of};
-ghost use Rattle.rev_links.proofs.Lists.{place_behind};
+ghost use Rattle.rev_links.specs.Neighbours.{behind_of, place_behind};
 ghost use Rattle.rev_model.specs.Chunk.{same_chunk, HasSlot};
 ghost use Rattle.rev_model.specs.Lists.{has, without, before, insert, has_after};
 ghost use Rattle.rev_model.specs.Pull.{page_from};

@@ -1,24 +1,37 @@
 -- One line more of a script whose lines are steps.
-use Rattle.std.proofs.Common.{◌≡◌, ℕ, ◌+◌, inl, inr, List, [], ◌∷◌, ◌++◌, length, take, Option, None, Some, refl, sym, ◌∙◌, ap, subst, arith, length-append, append_assoc, append-nil, slice_get}
+use Rattle.std.proofs.Common.{◌≡◌, ℕ, ◌+◌, inl, inr, List, [], ◌∷◌, ◌++◌, length, take, None, Some, refl, ◌∙◌, ap, subst, arith, length-append, append_assoc, slice_get}
 use Rattle.std.proofs.Math.Seq.{take-append_seam}
-use Rattle.std.specs.Io.KnownBytes.{Consumes, IsAtEnd}
+use Rattle.std.specs.Io.KnownBytes.{IsAtEnd}
 use Rattle.rev_model.specs.Actor.{Step}
 use Rattle.rev_script.specs.ByteReader.{Took, AtEnd, IsEnded}
 use Rattle.rev_script.specs.Script.{ScriptLine, onwards, lines, whole_lines}
 use Rattle.rev_script.specs.Line.{PlainInput, IsNext, IsFault}
-use Rattle.rev_script.specs.Steps.{steps_of, joined, all_steps, AreSteps}
+use Rattle.rev_script.specs.Steps.{steps_of, all_steps, AreSteps}
 use Rattle.rev_script.specs.declared.dialect.Dialect.{Dialect}
 use Rattle.rev_script.specs.declared.byte_reader.LineFault.{LineFault}
 use Rattle.rev_script.specs.declared.byte_reader.LineFault.TheVariants as faults
 use Rattle.rev_script.proofs.Known.{Took-then, Took-broke}
 use Rattle.rev_script.proofs.Front.{take_front}
 use Rattle.rev_script.proofs.Scripts.{some_inj, parts_of, all_steps-more}
-use Rattle.rev_shell.specs.Run.{AreWhole}
-use Rattle.rev_shell.proofs.Runs.{lines-more, whole_lines-more, whole_then, last_then, plain_ahead, read_of, read_all, in_dialect, over_now, then_line}
+use Rattle.rev_shell.proofs.Runs.{AreWhole, lines-more, whole_lines-more, whole_then, last_then, plain_ahead, read_of, read_all, in_dialect, over_now, then_line}
 use Rattle.rev_script.specs.Source.{Told, told_by}
-use Rattle.rev_program.specs.Steps.{Because, Adds, IsRead, IsRefused, IsSoFar, script_fault}
+use Rattle.rev_program.specs.Steps.{Because, Adds, IsRead, IsRefused, script_fault}
 use Rattle.rev_program.specs.declared.steps.ScriptFault.{ScriptFault}
 use Rattle.rev_program.specs.declared.steps.ScriptFault.TheVariants as script
+use Rattle.std.specs.Prelude.{◌≡◌, ◌⊎◌, ℕ, List, length, Some}
+use Rattle.rev_model.specs.Actor as model
+
+-- ---- within the reading
+
+-- so far: the steps are those of the lines of what was taken; these lie whole in it, or the input is at its end
+pub record IsSoFar (d : Dialect) (start now : PlainInput) (steps : List model.Step) (count : ℕ) : Type 0 where
+  pub done : List ScriptLine
+  pub read : List ℕ
+  pub took : Took start.bytes now.bytes read
+  pub dialect_is : now.dialect ≡ d
+  pub lines_are : AreWhole d now.passes read done ⊎ ((lines d read ≡ done) × AtEnd now.bytes)
+  pub count_is : length done ≡ count
+  pub steps_are : all_steps done ≡ Some steps
 
 -- the line behind so many
 at_seam : (xs ys : List ScriptLine) (y : ScriptLine) → slice_get (xs ++ y ∷ ys) (length xs) ≡ Some y

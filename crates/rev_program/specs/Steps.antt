@@ -1,17 +1,14 @@
 -- What is read of a script whose lines are steps.
-use Rattle.std.specs.Prelude.{◌≡◌, ◌<◌, ◌⊎◌, ℕ, List, length, take, Option, Some}
+use Rattle.std.specs.Prelude.{◌≡◌, ◌<◌, ℕ, List, length, take, Some}
 use Rattle.std.specs.Io.KnownBytes.{Consumes, IsAtEnd}
 use Rattle.rev_model.specs.Actor as model
 use Rattle.rev_script.specs.Script.{ScriptLine, lines, whole_lines}
 use Rattle.rev_script.specs.Steps.{steps_of, joined, all_steps, AreSteps, IsFirstOther}
-use Rattle.rev_script.specs.ByteReader.{Took, AtEnd}
-use Rattle.rev_script.specs.Line.{PlainInput}
 use Rattle.rev_script.specs.Source.{Told, one_more}
 use Rattle.rev_script.specs.declared.dialect.Dialect.{Dialect}
 use Rattle.rev_script.specs.declared.byte_reader.LineFault.{LineFault}
 use Rattle.rev_script.specs.declared.byte_reader.LineFault.TheVariants as faults
 use Rattle.rev_script.specs.declared.source.LastRead.TheVariants.{Failed, Ended}
-use Rattle.rev_shell.specs.Run.{AreWhole}
 use Rattle.rev_program.specs.declared.steps.ScriptFault.{ScriptFault}
 use Rattle.rev_program.specs.declared.steps.ScriptFault.TheVariants.{NotAStep, Memory, Read, TooLong}
 
@@ -41,18 +38,6 @@ pub record IsRefused (d : Dialect) (old new : Told) (e : ScriptFault) : Type 0 w
   pub read : List ℕ
   pub took : Consumes old.remaining new.remaining read
   pub because : Because e d read old new
-
--- ---- within the reading
-
--- so far: the steps are those of the lines of what was taken; these lie whole in it, or the input is at its end
-pub record IsSoFar (d : Dialect) (start now : PlainInput) (steps : List model.Step) (count : ℕ) : Type 0 where
-  pub done : List ScriptLine
-  pub read : List ℕ
-  pub took : Took start.bytes now.bytes read
-  pub dialect_is : now.dialect ≡ d
-  pub lines_are : AreWhole d now.passes read done ⊎ ((lines d read ≡ done) × AtEnd now.bytes)
-  pub count_is : length done ≡ count
-  pub steps_are : all_steps done ≡ Some steps
 
 abbrev pub script_fault : LineFault → ScriptFault
 script_fault faults.Memory = Memory

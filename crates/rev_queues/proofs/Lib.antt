@@ -5,3 +5,4 @@ pub mod Kept
 pub mod Readings
 pub mod Moves
 pub mod Exchanges
+pub mod Entries

@@ -2,8 +2,10 @@
 use Rattle.std.proofs.Common.{◌≡◌, ◌≢◌, Bool, true, false, cond, Option, Some, None, IfSome, List, [], ◌∷◌, ◌⊎◌, inl, inr, refl, sym, ◌∙◌, ap, subst, map, option_map, slice_get, ◌==◌}
 use Rattle.std.proofs.lemmas.Bool.{eqb-true, eq-eqb, false≢true}
 use Rattle.rev_links.specs.declared.places.Place.TheVariants.{End, At}
-use Rattle.rev_links.specs.Rings.{Path, without, insert, insert_behind, In, Tells}
+use Rattle.rev_links.specs.Rings.{Path, In}
+use Rattle.rev_links.proofs.Members.{without, insert, insert_behind, Tells}
 use Rattle.rev_links.specs.Neighbours as near
+use Rattle.rev_links.proofs.Members as around
 use Rattle.rev_links.specs.Grids.{with_cell}
 use Rattle.rev_links.proofs.Rings.{Distinct}
 use Rattle.rev_links.proofs.Grids.{cell_other}
@@ -21,7 +23,8 @@ use Rattle.rev_queues.specs.declared.members.Member.TheVariants.{Chunk, Mark}
 use Rattle.rev_queues.specs.declared.members.QueueSlot.{QueueSlot}
 use Rattle.rev_queues.specs.Entries.{entries, without_entry, behind_entry, insert_entry, last_of}
 use Rattle.rev_queues.specs.Positions.{Position, slot_at}
-use Rattle.rev_queues.specs.QueueState.{same_member, entry_of, member_of_entry, entry_at, chunk_at, queued}
+use Rattle.rev_queues.proofs.Entries.{same_member}
+use Rattle.rev_queues.specs.QueueState.{entry_of, member_of_entry, entry_at, chunk_at, queued}
 
 pub same_queue : (c d : QueueId) → c.number ≡ d.number → c ≡ d
 same_queue c d e = ap (λ n. record { number = n }) e
@@ -126,26 +129,26 @@ after_there q None xs home h = tt
 after_there q (Some y) xs home h = member_there q y xs home h
 
 -- ---- neighbours
-pub entry_at-place : (q : QueueId) (o : Option Member) → entry_at (near.place_or q o) ≡ option_map entry_of o
+pub entry_at-place : (q : QueueId) (o : Option Member) → entry_at (around.place_or q o) ≡ option_map entry_of o
 entry_at-place q None = refl
 entry_at-place q (Some m) = refl
 
 before_members_from : (q : QueueId) (e : Entry) (last : Option Member) (xs : List Member) → IsHome q xs
-    → option_map entry_of (near.before_from same_member (member_of_entry q e) last xs) ≡ plain.before_from same_entry e (option_map entry_of last) (map entry_of xs)
+    → option_map entry_of (around.before_from same_member (member_of_entry q e) last xs) ≡ plain.before_from same_entry e (option_map entry_of last) (map entry_of xs)
 before_members_from q e last [] home = refl
 before_members_from q e last (m ∷ ms) home =
     go (same_member (member_of_entry q e) m) (same_entry e (entry_of m)) (entry_tells q e m (λ r u. home r (inl u))) (before_members_from q e (Some m) ms (λ r i. home r (inr i)))
   where
     go : (b c : Bool) → c ≡ b
-        → option_map entry_of (near.before_from same_member (member_of_entry q e) (Some m) ms) ≡ plain.before_from same_entry e (Some (entry_of m)) (map entry_of ms)
-        → option_map entry_of (cond b last (near.before_from same_member (member_of_entry q e) (Some m) ms)) ≡ cond c (option_map entry_of last) (plain.before_from same_entry e (Some (entry_of m)) (map entry_of ms))
+        → option_map entry_of (around.before_from same_member (member_of_entry q e) (Some m) ms) ≡ plain.before_from same_entry e (Some (entry_of m)) (map entry_of ms)
+        → option_map entry_of (cond b last (around.before_from same_member (member_of_entry q e) (Some m) ms)) ≡ cond c (option_map entry_of last) (plain.before_from same_entry e (Some (entry_of m)) (map entry_of ms))
     go true true u ih = refl
     go true false u ih = cc
     go false true u ih = cc
     go false false u ih = ih
 
 pub before_members : (q : QueueId) (e : Entry) (xs : List Member) → IsHome q xs
-    → option_map entry_of (near.before_of same_member (member_of_entry q e) xs) ≡ plain.before same_entry e (map entry_of xs)
+    → option_map entry_of (around.before_of same_member (member_of_entry q e) xs) ≡ plain.before same_entry e (map entry_of xs)
 before_members q e xs home = before_members_from q e None xs home
 
 pub first_member : (xs : List Member) → option_map entry_of (slice_get xs 0) ≡ slice_get (map entry_of xs) 0

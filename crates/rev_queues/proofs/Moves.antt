@@ -3,9 +3,11 @@ use Rattle.std.proofs.Common.{◌≡◌, ◌≢◌, ℕ, suc, zero, ◌+◌, ◌
 use Rattle.std.proofs.lemmas.Bool.{cases_Bool, cases_eq, false≢true}
 use Rattle.std.specs.List.{sum_by}
 use Rattle.rev_links.specs.declared.places.Place.TheVariants.{End, At}
-use Rattle.rev_links.specs.Rings.{Path, without, insert, insert_behind, In, Between, Gap, Opened}
+use Rattle.rev_links.specs.Rings.{Path, In, Between, Gap, Opened}
+use Rattle.rev_links.proofs.Members.{without, insert, insert_behind}
 use Rattle.rev_links.proofs.Rings.{distinct_path, In-without, not_In-without, length-without, length-insert_behind}
-use Rattle.rev_links.proofs.Lists.{place_behind, between_in, gap_in, taken_own, taken_other, put_own, put_other}
+use Rattle.rev_links.specs.Neighbours.{place_behind}
+use Rattle.rev_links.proofs.Lists.{between_in, gap_in, taken_own, taken_other, put_own, put_other}
 use Rattle.rev_links.proofs.Grids.{slice_get-set_same, slice_get-set_other, cell_from_size}
 use Rattle.rev_model.specs.Chunk.{same_entry, EntryHasSlot}
 use Rattle.rev_model.specs.Lists.{has, has_after}
@@ -19,7 +21,8 @@ use Rattle.rev_queues.specs.declared.members.QueueSlot.{QueueSlot}
 use Rattle.rev_queues.specs.declared.members.Tally.{Tally}
 use Rattle.rev_queues.specs.Entries.{entries, queued_with, without_entry, insert_entry}
 use Rattle.rev_queues.specs.Positions.{Position, PositionLink, link_at, next_in, previous_in, slot_at, standing_at, footprint_in, footprint_of, told, Closes, Opens, Tells, SameShape, SameStanding}
-use Rattle.rev_queues.specs.QueueState.{QueuesState, IsGone, same_member, entry_of, member_of_entry, position_of, is_mark, bytes_told, queued, chain, state_of, tally_of, queue_in, IsLinked}
+use Rattle.rev_queues.specs.QueueState.{QueuesState, IsGone, entry_of, member_of_entry, position_of, is_mark, bytes_told, queued, chain, state_of, tally_of, queue_in, IsLinked}
+use Rattle.rev_queues.proofs.Entries.{same_member}
 use Rattle.rev_queues.proofs.MemberLaws.{IsHome, same_ref, same_member_tells, without_members, insert_members, member_after, member_there, has_member, after_there}
 use Rattle.rev_queues.proofs.Sums.{sum_without, sum_insert, sum_agrees, sum_at_most}
 use Rattle.rev_queues.proofs.Kept.{Bounded, Becomes, told_agrees, queued_agrees, bounded, linked_after, queues_become, slots_stay, list_bound, count_is, has_end, queue_is, line_is, home_is, slots_are, tally_there}

@@ -7,6 +7,7 @@ use Rattle.std.specs.List.{sum_by}
 use Rattle.rev_links.specs.declared.places.Place.TheVariants.{End, At}
 use Rattle.rev_links.specs.Rings.{Path, In}
 use Rattle.rev_links.specs.Neighbours as near
+use Rattle.rev_links.proofs.Members as around
 use Rattle.rev_links.proofs.Rings.{distinct_path, first_step}
 use Rattle.rev_links.proofs.Neighbours.{before_path, first_path, behind_path}
 use Rattle.rev_model.specs.Chunk.{same_entry}
@@ -23,9 +24,10 @@ use Rattle.rev_queues.specs.declared.members.Member.{Member}
 use Rattle.rev_queues.specs.declared.members.Member.TheVariants.{Chunk, Mark}
 use Rattle.rev_queues.specs.declared.members.QueueSlot.{QueueSlot}
 use Rattle.rev_queues.specs.declared.members.Tally.{Tally}
-use Rattle.rev_queues.specs.Entries.{Queued, entries, entries-at, footprints, last_of}
+use Rattle.rev_queues.specs.Entries.{Queued, entries, footprints, last_of}
+use Rattle.rev_queues.proofs.Entries.{entries-at, same_member}
 use Rattle.rev_queues.specs.Positions.{Position, PositionLink, link_at, next_in, previous_in, slot_at, standing_at, told}
-use Rattle.rev_queues.specs.QueueState.{QueuesState, StandsIn, same_member, entry_of, member_of_entry, entry_at, chunk_at, queued, chain, state_of, tally_of, queue_in, id_of, IsLinked}
+use Rattle.rev_queues.specs.QueueState.{QueuesState, StandsIn, entry_of, member_of_entry, entry_at, chunk_at, queued, chain, state_of, tally_of, queue_in, id_of, IsLinked}
 use Rattle.rev_queues.proofs.MemberLaws.{IsHome, same_member_tells, member_there, entry_at-place, before_members, behind_entries, first_member, tail_found, last_is, tail_is}
 use Rattle.rev_queues.proofs.Kept.{some_link, link_there, has_end, queue_is, line_is, home_is, tally_is}
 
@@ -106,7 +108,7 @@ module _ (ends marks : List PositionLink) (slots : List (List QueueSlot)) (talli
       head_read =
           let a : next_in ends marks slots (End c) ≡ Some l.next = ap (option_map (λ (n : PositionLink). n.next)) k in
           let b = first_path same_member same_member_tells (next_in ends marks slots) (previous_in ends marks slots) (End c) (chain ends marks slots c) c ring in
-          let w : l.next ≡ near.place_or c (slice_get (chain ends marks slots c) 0) = one_value (next_in ends marks slots (End c)) l.next (near.place_or c (slice_get (chain ends marks slots c) 0)) a b in
+          let w : l.next ≡ around.place_or c (slice_get (chain ends marks slots c) 0) = one_value (next_in ends marks slots (End c)) l.next (around.place_or c (slice_get (chain ends marks slots c) 0)) a b in
           ap entry_at w ∙ (entry_at-place c (slice_get (chain ends marks slots c) 0) ∙ (first_member (chain ends marks slots c) ∙ ap (λ es. slice_get es 0) (sym line_at)))
 
       tail_at : tail_found (previous_in ends marks slots) (Some l.previous) ≡ tail (entries (get_or v.queues c.number []))
@@ -144,16 +146,16 @@ module _ (ends marks : List PositionLink) (slots : List (List QueueSlot)) (talli
 
       pub before_place : (p : Position) → previous_in ends marks slots (At (member_of_entry c x)) ≡ Some p → entry_at p ≡ before same_entry x (entries (get_or v.queues c.number []))
       before_place p k =
-          let o = near.before_of same_member (member_of_entry c x) (chain ends marks slots c) in
+          let o = around.before_of same_member (member_of_entry c x) (chain ends marks slots c) in
           let b = before_path same_member same_member_tells (next_in ends marks slots) (previous_in ends marks slots) c (chain ends marks slots c) (End c) (member_of_entry c x) ring member_is in
-          let w : p ≡ near.place_or c o = one_value (previous_in ends marks slots (At (member_of_entry c x))) p (near.place_or c o) k b in
+          let w : p ≡ around.place_or c o = one_value (previous_in ends marks slots (At (member_of_entry c x))) p (around.place_or c o) k b in
           ap entry_at w ∙ (entry_at-place c o ∙ (before_members c x (chain ends marks slots c) at_home ∙ ap (before same_entry x) (sym line_at)))
 
       pub behind_place : (p : Position) → next_in ends marks slots (At (member_of_entry c x)) ≡ Some p → entry_at p ≡ near.behind_of same_entry x (entries (get_or v.queues c.number []))
       behind_place p k =
           let o = near.behind_of same_member (member_of_entry c x) (chain ends marks slots c) in
           let b = behind_path same_member same_member_tells (next_in ends marks slots) (previous_in ends marks slots) (End c) (chain ends marks slots c) c (member_of_entry c x) ring member_is in
-          let w : p ≡ near.place_or c o = one_value (next_in ends marks slots (At (member_of_entry c x))) p (near.place_or c o) k b in
+          let w : p ≡ around.place_or c o = one_value (next_in ends marks slots (At (member_of_entry c x))) p (around.place_or c o) k b in
           ap entry_at w ∙ (entry_at-place c o ∙ (behind_entries c x (chain ends marks slots c) at_home ∙ ap (near.behind_of same_entry x) (sym line_at)))
 
       pub before_read : (l : PositionLink) → link_at ends marks slots (At (member_of_entry c x)) ≡ Some l → entry_at l.previous ≡ before same_entry x (entries (get_or v.queues c.number []))

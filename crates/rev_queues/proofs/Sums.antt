@@ -2,7 +2,8 @@
 use Rattle.std.proofs.Common.{◌≡◌, ℕ, ◌+◌, ◌*◌, ◌≤◌, Bool, true, false, cond, Option, Some, None, IfSome, List, [], ◌∷◌, length, map, inl, inr, refl, sym, ap, arith}
 use Rattle.std.specs.List.{sum_by}
 use Rattle.std.proofs.lemmas.List.Sums.{sum_by-cons}
-use Rattle.rev_links.specs.Rings.{without, insert, insert_behind, In, Tells}
+use Rattle.rev_links.proofs.Members.{without, insert, insert_behind, Tells}
+use Rattle.rev_links.specs.Rings.{In}
 
 module _ {X : Type 0} (eq : X → X → Bool) (tells : Tells eq) (f : X → ℕ) where
   pub sum_without : (x : X) (xs : List X) → In x xs → sum_by f (without eq x xs) + f x ≡ sum_by f xs

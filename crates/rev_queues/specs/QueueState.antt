@@ -1,9 +1,9 @@
 -- The queues as plain lists of entries with their footprints, and how those lists lie in the tables.
-use Rattle.std.specs.Prelude.{◌≡◌, ℕ, ◌<◌, ◌≤◌, ◌==◌, ◌*◌, ◌+◌, Bool, true, false, Option, Some, None, List, [], length, map, option_map, replicate, slice_get, slice_index, slice_index_or}
+use Rattle.std.specs.Prelude.{◌≡◌, ℕ, ◌<◌, ◌≤◌, ◌*◌, ◌+◌, Bool, true, false, Option, Some, None, List, [], length, map, option_map, replicate, slice_get, slice_index, slice_index_or}
 use Rattle.std.specs.List.{range_with_len, sum_by}
 use Rattle.rev_links.specs.declared.places.Place.TheVariants.{End, At}
 use Rattle.rev_links.specs.Rings.{walk, Path, In}
-use Rattle.rev_model.specs.Chunk.{same_chunk, same_entry}
+use Rattle.rev_model.specs.Chunk.{same_entry}
 use Rattle.rev_model.specs.Lists.{has}
 use Rattle.rev_model.specs.State.{queue_place}
 use Rattle.rev_model.specs.declared.ChunkRef.{ChunkRef}
@@ -44,13 +44,6 @@ StandsIn queues class x = (q : Queue) × (has same_entry (entry.Chunk x) (entrie
 -- no chunk of the page stands in a queue
 abbrev pub IsClear : List (List Queued) → ℕ → Type 0
 IsClear queues page = (x : ChunkRef) → x.page ≡ page → (p : ℕ) → has same_entry (entry.Chunk x) (entries (slice_index_or queues p [])) ≡ false
-
--- ---- members
-abbrev pub same_member : Member → Member → Bool
-same_member (Chunk x) (Chunk y) = same_chunk x y
-same_member (Chunk x) (Mark q) = false
-same_member (Mark q) (Chunk y) = false
-same_member (Mark q) (Mark r) = q.number == r.number
 
 abbrev pub entry_of : Member → Entry
 entry_of (Chunk x) = entry.Chunk x

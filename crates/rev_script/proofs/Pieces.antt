@@ -4,12 +4,21 @@ use Rattle.std.proofs.Math.Seq.{take-append_seam, drop-append_seam}
 use Rattle.memchr.specs.Find.{IsFirstByte, is_byte}
 use Rattle.rev_script.specs.Script.{has_lf}
 use Rattle.rev_script.specs.ByteReader.{PlainReader, Took, Broke, front}
-use Rattle.rev_script.specs.RawLine.{IsText, IsPart, IsSoFar, IsRest}
+use Rattle.rev_script.specs.RawLine.{IsText, IsPart, IsRest}
 use Rattle.rev_script.specs.declared.byte_reader.LineFault.{LineFault}
 use Rattle.rev_script.specs.declared.byte_reader.LineFault.TheVariants as faults
 use Rattle.rev_script.proofs.Known.{Took-then, Took-memory}
 use Rattle.rev_script.proofs.Data.{part_none, part_broke}
 use Rattle.rev_script.proofs.Text.{no_lf, first_lf, has_lf-append, kept_more}
+use Rattle.std.specs.Prelude.{◌≡◌, ℕ, false, List, length, take}
+
+-- so far bytes without an LF were taken, and the first of them are kept
+pub record IsSoFar (old new : PlainReader) (size : ℕ) (kept : List ℕ) : Type 0 where
+  pub text : List ℕ
+  pub no_lf : has_lf text ≡ false
+  pub size_is : length text ≡ size
+  pub kept_is : kept ≡ take 65537 text
+  pub took : Took old new text
 
 pub feed_some : (xs : List ℕ) (r : Option ℕ) → IsFirstByte (is_byte 10) xs r →
     IfSome r (λ i. (i < length xs) × (has_lf (take i xs) ≡ false) × (take (i + 1) xs ≡ take i xs ++ 10 ∷ []))

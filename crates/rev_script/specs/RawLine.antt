@@ -24,14 +24,6 @@ pub record IsPart (old new : PlainReader) (e : LineFault) : Type 0 where
   pub no_lf : has_lf text ≡ false
   pub broke : Broke old new text e
 
--- so far bytes without an LF were taken, and the first of them are kept
-pub record IsSoFar (old new : PlainReader) (size : ℕ) (kept : List ℕ) : Type 0 where
-  pub text : List ℕ
-  pub no_lf : has_lf text ≡ false
-  pub size_is : length text ≡ size
-  pub kept_is : kept ≡ take 65537 text
-  pub took : Took old new text
-
 -- the rest of a line was taken, through its LF, or up to the end
 pub record IsRest (old new : PlainReader) (feed : Bool) : Type 0 where
   pub text : List ℕ

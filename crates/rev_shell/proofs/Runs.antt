@@ -1,9 +1,9 @@
 -- One line more of a run.
-use Rattle.std.proofs.Common.{◌≡◌, ℕ, ◌+◌, ◌-◌, ◌<◌, ◌⊎◌, inl, inr, Bool, true, List, [], ◌∷◌, ◌++◌, length, take, map, cond, count_by, Option, None, Some, refl, sym, ◌∙◌, ap, subst, arith, length-append, append_assoc, append-nil}
+use Rattle.std.proofs.Common.{◌≡◌, ℕ, ◌+◌, ◌-◌, ◌⊎◌, inl, inr, Bool, true, List, [], ◌∷◌, ◌++◌, length, take, map, cond, count_by, Option, None, Some, refl, sym, ◌∙◌, ap, subst, arith, length-append, append_assoc, append-nil}
 use Rattle.std.proofs.Math.Seq.{take-append_seam}
 use Rattle.std.proofs.lemmas.List.Sums.{sum_by-append}
 use Rattle.std.specs.Io.KnownBytes.{Consumes, Appends, IsAtEnd, prepend_known}
-use Rattle.rev_script.specs.ByteReader.{PlainReader, Took, Passed, Broke, AtEnd, IsEnded, ahead}
+use Rattle.rev_script.specs.ByteReader.{PlainReader, Took, Passed, AtEnd, IsEnded, ahead}
 use Rattle.rev_script.specs.Script.{ScriptLine, Cut, onwards, cuts, lines, whole_lines, IsWhole, IsLast}
 use Rattle.rev_script.specs.Line.{PlainInput, IsNext, IsFault}
 use Rattle.rev_script.specs.Source.{Told, told_by}
@@ -12,14 +12,36 @@ use Rattle.rev_script.specs.declared.byte_reader.LineFault.{LineFault}
 use Rattle.rev_script.specs.declared.byte_reader.LineFault.TheVariants as faults
 use Rattle.rev_script.proofs.Known.{Took-then, Took-broke}
 use Rattle.rev_script.proofs.Front.{take_front}
-use Rattle.rev_script.proofs.Scripts.{lines-nil, lines-last, lines-whole}
+use Rattle.rev_script.proofs.Scripts.{lines-last, lines-whole}
 use Rattle.rev_output.specs.Sink.{WroteFront, one_more}
 use Rattle.rev_shell.specs.Answers.{MarkedSession, after, answer}
 use Rattle.rev_output.proofs.Written.{Appends-then, Appends-none}
-use Rattle.rev_shell.specs.Run.{answers, session_after, out, text, wholes, PlainSink, Because, AreWhole, IsSoFar, IsDone, IsLeft, IsStopped, run_fault}
+use Rattle.rev_shell.specs.Run.{answers, session_after, out, text, PlainSink, Because, IsDone, IsLeft, IsStopped, run_fault}
 use Rattle.rev_shell.specs.declared.run.Summary.{Summary}
 use Rattle.rev_shell.specs.declared.run.RunFault.{RunFault}
 use Rattle.rev_shell.specs.declared.run.RunFault.TheVariants as run_faults
+use Rattle.std.specs.Prelude.{◌≡◌, ◌⊎◌, ℕ, List, ◌++◌, length, map, Bool, true}
+
+-- ---- within a run
+
+abbrev pub wholes : List ScriptLine → List Cut
+wholes ls = map (λ l. record { line = l; whole = true }) ls
+
+-- the bytes are these lines, whole, whatever follows them; behind them the rest of a line may have to be passed over
+pub record AreWhole (d : Dialect) (passes : Bool) (read : List ℕ) (done : List ScriptLine) : Type 0 where
+  pub cuts_are : (more : List ℕ) → cuts d (read ++ more) ≡ wholes done ++ cuts d (onwards passes more)
+
+-- so far: the lines of what was taken are done; they lie whole in it, or the input is at its end
+pub record IsSoFar (d : Dialect) (start now : PlainInput) (old new : PlainSink) (m0 m : MarkedSession) (count : ℕ) : Type 0 where
+  pub done : List ScriptLine
+  pub read : List ℕ
+  pub took : Took start.bytes now.bytes read
+  pub dialect_is : now.dialect ≡ d
+  pub lines_are : AreWhole d now.passes read done ⊎ ((lines d read ≡ done) × AtEnd now.bytes)
+  pub count_is : length done ≡ count
+  pub session_is : m ≡ session_after m0 done
+  pub wrote : Appends old.contents new.contents (answers m0 done)
+  pub writes : new.failures ≡ old.failures
 
 answers-append : (s : MarkedSession) (xs ys : List ScriptLine) → answers s (xs ++ ys) ≡ answers s xs ++ answers (session_after s xs) ys
 answers-append s [] ys = refl

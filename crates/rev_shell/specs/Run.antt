@@ -1,12 +1,10 @@
 -- What a run writes, as a function of the bytes read.
-use Rattle.std.specs.Prelude.{◌≡◌, ◌<◌, ◌-◌, ◌⊎◌, ℕ, List, [], ◌∷◌, ◌++◌, length, take, map, Option, Bool, true, false}
+use Rattle.std.specs.Prelude.{◌≡◌, ◌<◌, ◌-◌, ℕ, List, [], ◌∷◌, ◌++◌, length, take, Option}
 use Rattle.std.specs.Io.KnownBytes.{Consumes, Appends, IsAtEnd}
 use Rattle.rev_classes.specs.declared.Config.{Config}
 use Rattle.rev_inverse.specs.Empty.{empty_state}
 use Rattle.rev_undotree.specs.Positions.{SessionState}
-use Rattle.rev_script.specs.Script.{ScriptLine, Cut, onwards, cuts, lines, whole_lines}
-use Rattle.rev_script.specs.ByteReader.{PlainReader, Took, AtEnd}
-use Rattle.rev_script.specs.Line.{PlainInput}
+use Rattle.rev_script.specs.Script.{ScriptLine, lines, whole_lines}
 use Rattle.rev_script.specs.Source.{Told, one_more}
 use Rattle.rev_script.specs.declared.dialect.Dialect.{Dialect}
 use Rattle.rev_script.specs.declared.byte_reader.LineFault.{LineFault}
@@ -96,27 +94,6 @@ pub record IsStopped (d : Dialect) (reader_old reader_new : Told) (old new : Pla
   pub took : Consumes reader_old.remaining reader_new.remaining read
   pub because : Because e read reader_old reader_new old new
   pub wrote : Wrote e d start read old.contents new.contents
-
--- ---- within a run
-
-abbrev pub wholes : List ScriptLine → List Cut
-wholes ls = map (λ l. record { line = l; whole = true }) ls
-
--- the bytes are these lines, whole, whatever follows them; behind them the rest of a line may have to be passed over
-pub record AreWhole (d : Dialect) (passes : Bool) (read : List ℕ) (done : List ScriptLine) : Type 0 where
-  pub cuts_are : (more : List ℕ) → cuts d (read ++ more) ≡ wholes done ++ cuts d (onwards passes more)
-
--- so far: the lines of what was taken are done; they lie whole in it, or the input is at its end
-pub record IsSoFar (d : Dialect) (start now : PlainInput) (old new : PlainSink) (m0 m : MarkedSession) (count : ℕ) : Type 0 where
-  pub done : List ScriptLine
-  pub read : List ℕ
-  pub took : Took start.bytes now.bytes read
-  pub dialect_is : now.dialect ≡ d
-  pub lines_are : AreWhole d now.passes read done ⊎ ((lines d read ≡ done) × AtEnd now.bytes)
-  pub count_is : length done ≡ count
-  pub session_is : m ≡ session_after m0 done
-  pub wrote : Appends old.contents new.contents (answers m0 done)
-  pub writes : new.failures ≡ old.failures
 
 abbrev pub run_fault : LineFault → ℕ → RunFault
 run_fault faults.Memory line = Memory line

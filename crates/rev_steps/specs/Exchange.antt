@@ -1,12 +1,9 @@
 -- Steps that exchange a part of the globals.
-use Rattle.std.specs.Prelude.{ℕ, ◌≡◌, cond, None, refl}
-use Rattle.std.proofs.Common.{inl, inr}
-use Rattle.std.proofs.lemmas.Bool.{cases_Bool}
+use Rattle.std.specs.Prelude.{ℕ, cond, None}
 use Rattle.rev_model.specs.State.{State}
-use Rattle.rev_model.specs.Actor.{with_globals, at_clock, is_due}
+use Rattle.rev_model.specs.Actor.{with_globals, is_due}
 use Rattle.rev_model.specs.Move.{with_part}
 use Rattle.rev_model.specs.declared.GlobalPart.{GlobalPart}
-use Rattle.rev_model.specs.declared.GlobalPart.TheVariants as part
 use Rattle.rev_model.specs.declared.Globals.{Globals}
 use Rattle.rev_model.specs.declared.Outcome.{Outcome}
 use Rattle.rev_model.specs.declared.Outcome.TheVariants.{Okay}
@@ -19,6 +16,3 @@ exchanged p s = (with_globals (with_part p s.globals) s, Okay)
 -- the timing with the clock at n: a flush that is due then covers all items stored so far
 abbrev pub timing_at : ℕ → Globals → Timing
 timing_at n g = cond (is_due g.flush n) (record { clock = n; mark = g.last_cas; flush = None }) (record { clock = n; mark = g.mark; flush = g.flush })
-
-pub timing_is : (n : ℕ) (g : Globals) → with_part (part.Timing (timing_at n g)) g ≡ at_clock n g
-timing_is n g = elim (cases_Bool (is_due g.flush n)) [ inl e ↦ rw e refl | inr e ↦ rw e refl ]

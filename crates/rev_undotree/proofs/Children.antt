@@ -7,16 +7,22 @@ use Rattle.rev_undotree.specs.Ways.{reach}
 use Rattle.rev_undotree.specs.Rows.{Row, row_of, row, number_at, start_at, rows_of}
 use Rattle.rev_undotree.specs.Positions.{Proper}
 use Rattle.rev_undotree.specs.Paths.{IsPath}
-use Rattle.rev_undotree.specs.Finds.{head_number, bar, IsFirst, Fitted}
+use Rattle.rev_undotree.specs.Finds.{head_number, bar, IsFirst, Fitted, is_held, IsMissing, Placed}
 use Rattle.rev_undotree.specs.Machine.{is_child, children_from, children}
-use Rattle.rev_undotree.specs.Children.{before_rest, firsts, put_in, next_number, children_at, forks_from}
+use Rattle.rev_undotree.specs.Children.{before_rest, firsts, put_in, next_number, children_at}
 use Rattle.rev_undotree.proofs.Finds.{number_of, number_after-get, less_or_same}
-use Rattle.rev_undotree.specs.Finds.{is_held, IsMissing, Placed}
 use Rattle.rev_undotree.proofs.Held.{held_row, path_held, missing_held}
 use Rattle.rev_undotree.proofs.Spots.{Along, Off, step_of, row_spot, path_less, Tree, path_way, path_more, same_spot, row_along, row_fork, number_fork, played_at, fitted_reach}
 use Rattle.rev_undotree.proofs.Fits.{path_proper}
 use Rattle.rev_undotree.proofs.Machine.{child_of, eqb-eq, path_reach, row_once}
 use Rattle.rev_undotree.specs.declared.junction.Junction.{Junction}
+use Rattle.std.specs.Prelude.{ℕ}
+
+-- the forks behind the first j
+abbrev pub forks_from : Forks → ℕ → Forks
+forks_from f zero = f
+forks_from bare (suc j) = bare
+forks_from (fork f r i m) (suc j) = forks_from m j
 
 abbrev pub Mem : ℕ → List ℕ → Type 0
 Mem x [] = ⊥

@@ -6,11 +6,11 @@ use Rattle.rev_undotree.specs.Steps.{State, Step, next, outcome_of, Undoes, Soun
 use Rattle.rev_undotree.specs.Tree.{PlainNode, PlainBranch, Forks, bare, fork, fork_at, add_fork, count}
 use Rattle.rev_undotree.specs.Ways.{reach, IsWay, at_end, with_node, with_fork}
 use Rattle.rev_undotree.specs.States.{after, RunHolds, AllAhead, AllBut, base_at, Context, Ends, rewind}
-use Rattle.rev_undotree.specs.Rows.{Row, row_of, RowsFall, row, number_after, start_at, first_continues, number_at, find_in, find_run, find_forks, or_else, rows_of, Known, KnownRun, KnownForks}
+use Rattle.rev_undotree.specs.Rows.{Row, row_of, RowsFall, row, number_after, start_at, number_at, find_in, find_run, find_forks, or_else, rows_of, Known, KnownRun, KnownForks}
+use Rattle.rev_undotree.proofs.Rows.{first_continues, find-at_end, find-new, find_run-other, find_run-new, find_forks-over, number_after-append, Known-at_end, Known-reach, Known-down, KnownRun-push, KnownForks-over, KnownForks-add, find_forks-add_other, find_forks-add_new, KnownRun-more, KnownForks-more, goes_on, goes_on-true, or_else-none}
 use Rattle.rev_undotree.specs.Positions.{SessionState, Stands, Grown, Kept, Proper, Inner, Below, along, fork_off}
 use Rattle.rev_undotree.proofs.States.{ends_push, Holds-at_end, state_at-at_end, after-push, reach-at_end, base_at-at_end, Context-at_end, Context-more, base_at-more, reach-more, fork_at-put}
 use Rattle.rev_undotree.proofs.Turns.{leads_sound}
-use Rattle.rev_undotree.proofs.Rows.{find-at_end, find-new, find_run-other, find_run-new, find_forks-over, number_after-append, Known-at_end, Known-reach, Known-down, KnownRun-push, KnownForks-over, KnownForks-add, find_forks-add_other, find_forks-add_new, KnownRun-more, KnownForks-more, goes_on, goes_on-true, or_else-none}
 use Rattle.rev_undotree.proofs.Positions.{Proper-at, Proper-fork, stands_way, stands_root}
 use Rattle.rev_undotree.proofs.Stays.{stays, covers_node, covers_fork}
 use Rattle.rev_undotree.proofs.Fits.{fitted_push, fitted_split, row_of-within}

@@ -4,11 +4,11 @@ use Rattle.rev_undotree.specs.Steps.{State}
 use Rattle.rev_undotree.specs.Tree.{PlainNode, PlainBranch, Forks, bare, fork, fork_at}
 use Rattle.rev_undotree.specs.Ways.{reach, no_node}
 use Rattle.rev_undotree.specs.States.{rewind}
-use Rattle.rev_undotree.specs.Rows.{Row, row_of, row, number_after, start_at, first_continues, number_at, find_in, find_run, find_forks, or_else, rows_of, Known, KnownRun}
+use Rattle.rev_undotree.specs.Rows.{Row, row_of, row, number_after, start_at, number_at, find_in, find_run, find_forks, or_else, rows_of, Known, KnownRun}
+use Rattle.rev_undotree.proofs.Rows.{first_continues, Known-fork, or_else-none}
 use Rattle.rev_undotree.specs.Positions.{SessionState, Kept, Moved, Proper}
 use Rattle.rev_undotree.specs.Paths.{IsPath}
 use Rattle.rev_undotree.specs.Finds.{is_held, Rises, Placed, IsMissing}
-use Rattle.rev_undotree.proofs.Rows.{Known-fork, or_else-none}
 use Rattle.rev_undotree.proofs.Positions.{Proper-zero, moved_state, number_at-same}
 use Rattle.rev_undotree.proofs.Growth.{row_of-last, row_of-older, rows_of-suc, length_rows, none_above}
 use Rattle.rev_undotree.proofs.Finds.{less_or_same}

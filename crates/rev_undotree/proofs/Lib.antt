@@ -32,3 +32,5 @@ pub mod Lineage
 pub mod Stays
 pub mod Elsewhere
 pub mod Indexes
+pub mod Recalled
+pub mod Tree

@@ -16,8 +16,8 @@ use Rattle.rev_undotree.specs.Rows.{Row, RowsFall, row_of, row, rows_of, number_
 use Rattle.rev_undotree.specs.Machine.{lineage}
 use Rattle.rev_undotree.specs.Prunes.{is_among, is_below, spared, pruned}
 use Rattle.rev_undotree.specs.Positions.{Kept}
-use Rattle.rev_undotree.specs.Named.{is_named}
-use Rattle.rev_undotree.specs.Recalled.{Recalled, unnamed_still}
+use Rattle.rev_undotree.proofs.Named.{is_named}
+use Rattle.rev_undotree.proofs.Recalled.{Recalled, unnamed_still}
 use Rattle.rev_undotree.specs.Mentioned.{Still, Mentioned, Noted}
 use Rattle.rev_undotree.proofs.Fits.{row_of-within}
 use Rattle.rev_undotree.proofs.Growth.{row_of-last, row_of-older, length_rows, number_at_le, le_cases}

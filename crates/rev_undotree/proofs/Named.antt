@@ -1,6 +1,6 @@
 -- What is mentioned stays so.
 use Rattle.std.proofs.Common.{◌≡◌, ℕ, ◌+◌, ◌<◌, ◌≤◌, Bool, true, false, cond, List, [], ◌∷◌, ◌++◌, length, drop, refl, ap, sym, ◌∙◌, subst, arith, ◌⊎◌, inl, inr, ⊎_elim, Result, Ok, Err, OnOk, is_err}
-use Rattle.std.specs.Prelude.{nat_eq, slice_index_or}
+use Rattle.std.specs.Prelude.{nat_eq, slice_index_or, ℕ, Bool, List, ◌++◌}
 use Rattle.std.proofs.lemmas.Bool.{false≢true}
 use Rattle.std.proofs.lemmas.Bool.Decides.{nat_tests}
 use Rattle.std.proofs.lemmas.List.{drop_all, at_drop_more, append_assoc}
@@ -10,8 +10,15 @@ use Rattle.rev_model.specs.Lists.{has}
 use Rattle.rev_model.specs.Move.{Move}
 use Rattle.rev_moves.specs.Record.{Group, PlainRecord, IsWhole, moves_in}
 use Rattle.rev_undotree.specs.Steps.{State}
-use Rattle.rev_undotree.specs.Named.{named_by, named}
+use Rattle.rev_undotree.specs.Named.{named_by, named, stored_keys}
 use Rattle.rev_undotree.specs.Mentioned.{AreMentioned, Grows}
+use Rattle.rev_model.specs.State.{State}
+use Rattle.rev_model.specs.Actor.{Step}
+use Rattle.rev_model.specs.declared.Outcome.{Outcome}
+
+-- whether a step that answered o and left t, or its record's moves, names a key of this hash
+abbrev pub is_named : ℕ → State → Step → Outcome → List Move → Bool
+is_named h t e o ms = has nat_eq h (stored_keys e o ++ named t ms)
 
 pub grows_none : (ms : List Mention) (n : ℕ) → Within ms n → Grows ms ms n
 grows_none ms n w = record { kept = λ h m x. x; within = w }

@@ -4,9 +4,17 @@ use Rattle.std.proofs.lemmas.List.{length-map}
 use Rattle.rev_undotree.specs.Tree.{PlainBranch, Forks, bare, fork, count, fork_at}
 use Rattle.rev_undotree.specs.Ways.{reach}
 use Rattle.rev_undotree.specs.Positions.{wiped, erased, erased_forks, Same, Proper, Inner, depth}
-use Rattle.rev_undotree.specs.Paths.{IsPath, IsOnWay, limit}
+use Rattle.rev_undotree.specs.Paths.{IsPath, IsOnWay}
 use Rattle.rev_undotree.proofs.Positions.{fork_at-erased}
 use Rattle.rev_undotree.specs.declared.junction.Junction.{Junction}
+use Rattle.std.specs.Prelude.{ℕ, List, [], ◌∷◌}
+
+-- at (w, k) on the way to (t, h), where the run is left
+abbrev pub limit : List Junction → List Junction → ℕ → ℕ
+limit [] [] h = h
+limit [] (t ∷ ts) h = t.taken
+limit (p ∷ ps) [] h = h
+limit (p ∷ ps) (t ∷ ts) h = limit ps ts h
 
 count-erased : (f : Forks) → count (erased_forks f) ≡ count f
 count-erased bare = refl

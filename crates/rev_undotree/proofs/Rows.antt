@@ -4,9 +4,15 @@ use Rattle.rev_undotree.specs.Steps.{State, PlainRecord, next}
 use Rattle.rev_undotree.specs.Tree.{PlainNode, PlainBranch, Forks, bare, fork, fork_at, put_fork, add_fork, count}
 use Rattle.rev_undotree.specs.Ways.{reach, at_end, no_node}
 use Rattle.rev_undotree.specs.States.{after, AllAhead, Context, state_at}
-use Rattle.rev_undotree.specs.Rows.{Row, row_of, state_from, at_within, at, RowsFall, row, number_after, start_at, first_continues, or_else, find_run, find_forks, find_in, KnownRun, KnownForks, Known}
+use Rattle.rev_undotree.specs.Rows.{Row, row_of, state_from, at_within, at, RowsFall, row, number_after, start_at, or_else, find_run, find_forks, find_in, KnownRun, KnownForks, Known}
 use Rattle.rev_undotree.proofs.States.{node_with}
 use Rattle.rev_undotree.specs.declared.junction.Junction.{Junction}
+use Rattle.std.specs.Prelude.{Bool, false, List, [], ◌∷◌}
+
+-- whether the first node of the branch at the end of a way continues a run: only that of the base branch does
+abbrev pub first_continues : Bool → List Junction → Bool
+first_continues c [] = c
+first_continues c (q ∷ qs) = first_continues false qs
 
 -- the state from scratch, step by step
 state_from-same : (o : Option Row) (s : State) (f g : Row → State) → ((r : Row) → o ≡ Some r → f r ≡ g r) → state_from o s f ≡ state_from o s g

@@ -4,7 +4,8 @@ use Rattle.std.proofs.lemmas.Bool.Decides.{nat_tests}
 use Rattle.rev_undotree.specs.Steps.{Step}
 use Rattle.rev_undotree.specs.Tree.{PlainNode, PlainBranch, Forks, bare, fork, fork_at, count}
 use Rattle.rev_undotree.specs.Ways.{reach, IsWay, no_node}
-use Rattle.rev_undotree.specs.Rows.{Row, row_of, row, RowsFall, number_after, start_at, first_continues, number_at, or_else, find_run, find_forks, find_in, rows_of, Known}
+use Rattle.rev_undotree.specs.Rows.{Row, row_of, row, RowsFall, number_after, start_at, number_at, or_else, find_run, find_forks, find_in, rows_of, Known}
+use Rattle.rev_undotree.proofs.Rows.{first_continues}
 use Rattle.rev_undotree.specs.Positions.{Proper}
 use Rattle.rev_undotree.specs.Paths.{IsPath}
 use Rattle.rev_undotree.specs.Finds.{head_number, bar, IsFirst, Fitted}

@@ -12,7 +12,8 @@ use Rattle.rev_undotree.specs.Tree.{PlainNode, PlainBranch, fork_at}
 use Rattle.rev_undotree.specs.Places.{placed}
 use Rattle.rev_undotree.specs.Ways.{reach, undo_of, no_node}
 use Rattle.rev_undotree.specs.States.{after, RunHolds, base_at, Context, Ends, state_at}
-use Rattle.rev_undotree.specs.Rows.{Row, row, row_of, number_at, start_at, first_continues, rows_of, at}
+use Rattle.rev_undotree.specs.Rows.{Row, row, row_of, number_at, start_at, rows_of, at}
+use Rattle.rev_undotree.proofs.Rows.{first_continues, at-zero}
 use Rattle.rev_undotree.specs.Positions.{SessionState, Kept, Proper, Inner, Below, along, fork_off, depth}
 use Rattle.rev_undotree.specs.Paths.{IsPath}
 use Rattle.rev_undotree.specs.Machine.{lineage}
@@ -23,7 +24,6 @@ use Rattle.rev_undotree.proofs.Moves.{depth_below}
 use Rattle.rev_undotree.proofs.Spots.{Along, Off, step_of, Tree, path_less, path_within}
 use Rattle.rev_undotree.proofs.Finds.{number_after-get}
 use Rattle.rev_undotree.proofs.Held.{path_row, goes}
-use Rattle.rev_undotree.proofs.Rows.{at-zero}
 use Rattle.rev_undotree.proofs.Machine.{kept_tree, kept_path}
 use Rattle.rev_undotree.proofs.Outcomes.{at_path, out_context, out_path}
 use Rattle.rev_undotree.proofs.Trips.{lineage_below, lineage_depth, row_below, path_below}

@@ -1,7 +1,8 @@
 -- One step along a way, as the code takes it: the first place, and the places behind it.
 use Rattle.std.proofs.Common.{Fits, w64, Option, None, Some, ◌+◌, ◌≡◌, ℕ, suc, zero, ◌-◌, ◌<◌, ◌≤◌, List, [], ◌∷◌, length, get_or, set, take, drop, map, refl, ap, sym, ◌∙◌, subst, arith, ◌++◌}
 use Rattle.std.proofs.lemmas.List.{take_all}
-use Rattle.rev_undotree.specs.Tree.{PlainNode, PlainBranch, Forks, bare, fork, forks_of, fork_at, put_fork, count, add_fork-forks_of}
+use Rattle.rev_undotree.specs.Tree.{PlainNode, PlainBranch, Forks, bare, fork, forks_of, fork_at, put_fork, count}
+use Rattle.rev_undotree.proofs.Tree.{add_fork-forks_of}
 use Rattle.rev_undotree.specs.Ways.{reach, IsWay, at_end, with_node, with_fork}
 use Rattle.rev_undotree.specs.declared.junction.Junction.{Junction}
 

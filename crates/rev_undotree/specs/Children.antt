@@ -29,9 +29,3 @@ next_number (suc k) (e ∷ es) = next_number k es
 -- the children of the node behind the first k of the run: the run's next node, and the first of each fork that leaves there
 abbrev pub children_at : PlainBranch → ℕ → List ℕ
 children_at b k = put_in (next_number k b.run) (firsts k b.forks)
-
--- the forks behind the first j
-abbrev pub forks_from : Forks → ℕ → Forks
-forks_from f zero = f
-forks_from bare (suc j) = bare
-forks_from (fork f r i m) (suc j) = forks_from m j

@@ -22,5 +22,4 @@ pub mod Prunes
 pub mod Index
 pub mod Leading
 pub mod Named
-pub mod Recalled
 pub mod Mentioned

@@ -1,8 +1,7 @@
 -- Which keys the record of a step names, by their hashes.
-use Rattle.std.specs.Prelude.{ℕ, Bool, cond, nat_eq, List, [], ◌∷◌, ◌++◌, Option, None, Some}
+use Rattle.std.specs.Prelude.{ℕ, cond, List, [], ◌∷◌, ◌++◌, Option, None, Some}
 use Rattle.rev_items.specs.Plain.{PlainItem}
 use Rattle.rev_items.specs.Hash.{hash_of}
-use Rattle.rev_model.specs.Lists.{has}
 use Rattle.rev_model.specs.State.{State, item_at}
 use Rattle.rev_model.specs.Move.{Move, Takes, Puts, Fills, Binds, Unbinds, Shifts}
 use Rattle.rev_model.specs.Client.{Stores, Joins, Counts}
@@ -12,6 +11,8 @@ use Rattle.rev_model.specs.declared.Entry.TheVariants.{Chunk}
 use Rattle.rev_model.specs.declared.Listed.TheVariants.{InQueue}
 use Rattle.rev_model.specs.declared.Placed.TheVariants.{ToQueue}
 use Rattle.rev_model.specs.declared.Outcome.{Outcome}
+use Rattle.rev_model.specs.declared.Cause.{Cause}
+use Rattle.rev_model.specs.declared.KeyChange.{KeyChange}
 
 -- what is there, as a list
 abbrev pub none_or : Option ℕ → List ℕ
@@ -49,6 +50,7 @@ step_keys e = []
 abbrev pub stored_keys : Step → Outcome → List ℕ
 stored_keys e o = cond (is_stored o) (step_keys e) []
 
--- whether a step that answered o and left t, or its record's moves, names a key of this hash
-abbrev pub is_named : ℕ → State → Step → Outcome → List Move → Bool
-is_named h t e o ms = has nat_eq h (stored_keys e o ++ named t ms)
+-- the note of a change
+abbrev pub note_of : Option KeyChange → Option Cause
+note_of None = None
+note_of (Some t) = t.note

@@ -14,10 +14,3 @@ IsOnWay [] k [] h = k ≤ h
 IsOnWay [] k (t ∷ ts) h = k ≤ t.taken
 IsOnWay (p ∷ ps) k [] h = ⊥
 IsOnWay (p ∷ ps) k (t ∷ ts) h = (p ≡ t) × IsOnWay ps k ts h
-
--- at (w, k) on the way to (t, h), where the run is left
-abbrev pub limit : List Junction → List Junction → ℕ → ℕ
-limit [] [] h = h
-limit [] (t ∷ ts) h = t.taken
-limit (p ∷ ps) [] h = h
-limit (p ∷ ps) (t ∷ ts) h = limit ps ts h

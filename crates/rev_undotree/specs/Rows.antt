@@ -59,11 +59,6 @@ abbrev pub start_at : ℕ → PlainBranch → List Junction → ℕ
 start_at p b [] = p
 start_at p b (q ∷ qs) = start_at (number_after p q.taken b.run) (fork_at b.forks q.fork) qs
 
--- whether the first node of the branch at the end of a way continues a run: only that of the base branch does
-abbrev pub first_continues : Bool → List Junction → Bool
-first_continues c [] = c
-first_continues c (q ∷ qs) = first_continues false qs
-
 -- the node at a position
 abbrev pub number_at : PlainBranch → List Junction → ℕ → ℕ
 number_at b way here = number_after (start_at 0 b way) here (reach b way).run

@@ -2,3 +2,4 @@ pub mod WordLemmas
 pub mod Ordered
 pub mod ReaderLemmas
 pub mod ReadLemmas
+pub mod Order

@@ -5,7 +5,7 @@ use Rattle.std.proofs.lemmas.Bool.Decides.{eqb_tells, leb_tells}
 use Rattle.std.specs.BTreeMap.{insert_entry}
 use Rattle.std.specs.Ordering.{nat_cmp}
 use Rattle.rev_watch.specs.Window.{PlainWindow, put_of, is_late, is_held, full_of, empty_window}
-use Rattle.rev_watch.specs.Order.{given_line, given, replaced, dropped_line, dropped, IsAfter, Ascends, count}
+use Rattle.rev_watch.proofs.Order.{given_line, given, replaced, dropped_line, dropped, IsAfter, Ascends, count}
 use Rattle.rev_watch.specs.declared.window.Put.{Put}
 
 -- a fact of a choice, from the fact of each side

@@ -6,5 +6,4 @@ pub mod Kinds
 pub mod Line
 pub mod Reader
 pub mod Window
-pub mod Order
 pub mod Settings

@@ -1,5 +1,5 @@
 use Rattle.std.proofs.Common.{◌≡◌, ◌+◌, ◌*◌, ◌/◌, ◌∙◌, subst, sym, arith}
-use Rattle.rev_classes.specs.Laws.{has_factor}
+use Rattle.rev_classes.proofs.Laws.{has_factor}
 use Rattle.rev_classes.proofs.Filling.{IsFilled, none_filled, filled-ends, filled-push, filled-many, filled-few}
 use Rattle.rev_classes.proofs.sizes_of.Goals as goal
 

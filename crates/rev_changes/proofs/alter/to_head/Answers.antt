@@ -4,7 +4,7 @@ use Rattle.std.proofs.lemmas.List.{length-append}
 use Rattle.rev_model.proofs.Places.{queue_in}
 use Rattle.rev_model.proofs.Keeps.{keeps-take_queue, keeps-to_head}
 use Rattle.rev_model.specs.declared.Entry.TheVariants.{Chunk}
-use Rattle.rev_changes.specs.Telling.{tells_two}
+use Rattle.rev_changes.proofs.Telling.{tells_two}
 use Rattle.rev_changes.proofs.alter.to_head.Goals as goal
 
 pub make-requires-clause-possible : goal.make-requires-clause-possible

@@ -1,9 +1,9 @@
 use Rattle.std.specs.Prelude.{None, length}
 use Rattle.std.proofs.Common.{ap, ◌∙◌}
 use Rattle.std.proofs.lemmas.List.{length-append}
-use Rattle.rev_changes.specs.Linking.{link_fill, link_bind, link_put, link_cas, linked_is, rest-linked}
-use Rattle.rev_changes.specs.Rest.{sound_of}
-use Rattle.rev_changes.specs.Telling.{tells_four}
+use Rattle.rev_changes.proofs.Linking.{link_fill, link_bind, link_put, link_cas, linked_is, rest-linked}
+use Rattle.rev_changes.proofs.Rest.{sound_of}
+use Rattle.rev_changes.proofs.Telling.{tells_four}
 use Rattle.rev_changes.proofs.enter.link.Goals as goal
 
 pub make-requires-clause-possible : goal.make-requires-clause-possible

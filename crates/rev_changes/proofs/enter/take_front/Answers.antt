@@ -1,8 +1,8 @@
 use Rattle.std.specs.Prelude.{Some}
 use Rattle.std.proofs.Common.{sym, ◌∙◌}
 use Rattle.rev_model.proofs.Places.{free_in}
-use Rattle.rev_changes.specs.Rest.{sound_of}
-use Rattle.rev_changes.specs.Taking.{front_take, front_rest, front_chunk}
+use Rattle.rev_changes.proofs.Rest.{sound_of}
+use Rattle.rev_changes.proofs.Taking.{front_take, front_rest, front_chunk}
 use Rattle.rev_changes.proofs.enter.take_front.Goals as goal
 
 pub change-requires-clause-possible : goal.change-requires-clause-possible

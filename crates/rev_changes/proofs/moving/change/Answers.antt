@@ -3,7 +3,7 @@ use Rattle.std.proofs.Common.{ap, sym, subst, ◌∙◌, arith}
 use Rattle.std.proofs.lemmas.List.{length-append}
 use Rattle.rev_model.specs.Move.{Fits, turned, reverse as back}
 use Rattle.rev_moves.specs.Seen.{plain_moves, plain_move}
-use Rattle.rev_changes.specs.Telling.{tells_made}
+use Rattle.rev_changes.proofs.Telling.{tells_made}
 use Rattle.rev_changes.proofs.moving.change.Goals as goal
 
 pub make-requires-clause-possible : goal.make-requires-clause-possible

@@ -1,5 +1,5 @@
 use Rattle.std.proofs.Common.{◌≡◌, ◌∙◌, true, sym, subst}
-use Rattle.rev_classes.specs.Laws.{are_sizes, has_factor}
+use Rattle.rev_classes.proofs.Laws.{are_sizes, has_factor}
 use Rattle.rev_classes.specs.Limits.{is_growth_factor, is_page_size}
 use Rattle.rev_classes.specs.Table.{AreClassSizes}
 use Rattle.rev_classes.proofs.ClassTable.build.Goals as goal

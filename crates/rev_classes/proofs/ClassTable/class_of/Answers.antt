@@ -2,7 +2,7 @@ use Rattle.std.proofs.Common.{◌≡◌, ◌+◌, ℕ, List, Some, None, Option,
 use Rattle.std.specs.List.{position}
 use Rattle.std.specs.Option.{option_map}
 use Rattle.rev_classes.specs.Sizes.{class_from}
-use Rattle.rev_classes.specs.Laws.{IsFound, class_of-position, class_from-found}
+use Rattle.rev_classes.proofs.Laws.{IsFound, class_of-position, class_from-found}
 use Rattle.rev_classes.proofs.ClassTable.class_of.Goals as goal
 
 class_at : (o : Option ℕ) (n i : ℕ) (zs : List ℕ) → o ≡ position (λ z. nat_le n z) zs → o ≡ Some i → Some (i + 1) ≡ class_from 1 zs n

@@ -1,10 +1,10 @@
 use Rattle.rev_model.proofs.Undo.{leads_none}
 use Rattle.std.proofs.Common.{ap, arith}
 use Rattle.rev_moves.specs.Record.{PlainRecord}
-use Rattle.rev_changes.specs.Telling.{tells_all}
+use Rattle.rev_changes.proofs.Telling.{tells_all}
 use Rattle.std.specs.Prelude.{length}
 use Rattle.rev_model.specs.State.{find}
-use Rattle.rev_commands.specs.Looking.{removal_most}
+use Rattle.rev_commands.proofs.Looking.{removal_most}
 use Rattle.rev_commands.proofs.delete.delete.Goals as goal
 
 pub returns-clause-leads : goal.returns-clause-leads

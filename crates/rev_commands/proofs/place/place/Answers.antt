@@ -3,10 +3,12 @@ use Rattle.std.proofs.Common.{sym, subst, arith, ◌∙◌}
 use Rattle.rev_model.specs.State.{Fixed, IsClass}
 use Rattle.rev_model.specs.Sound.{SoundBut}
 use Rattle.rev_model.specs.declared.Outcome.TheVariants.{NoChunk}
-use Rattle.rev_maintainer.specs.Rooming.{same_globals_after}
-use Rattle.rev_changes.specs.Telling.{Tells, tells_then}
+use Rattle.rev_maintainer.proofs.Rooming.{same_globals_after}
+use Rattle.rev_changes.specs.Telling.{Tells}
+use Rattle.rev_changes.proofs.Telling.{tells_then}
 use Rattle.rev_requests.specs.Plain.{plain_verb}
-use Rattle.rev_commands.specs.Looking.{removal_less, removal_need}
+use Rattle.rev_commands.proofs.Looking.{removal_less}
+use Rattle.rev_commands.specs.Looking.{removal_need}
 use Rattle.rev_commands.proofs.Settling.{told_some, told_none, placed_some, placed_none}
 use Rattle.rev_commands.proofs.place.place.Goals as goal
 

@@ -4,11 +4,14 @@ use Rattle.rev_model.specs.State.{find}
 use Rattle.rev_model.specs.Client.{lookup, refusal}
 use Rattle.rev_model.specs.Causes.{look_removals, settled_removals}
 use Rattle.rev_model.specs.declared.Outcome.TheVariants.{Stored}
-use Rattle.rev_changes.specs.Telling.{Tells, tells_then}
+use Rattle.rev_changes.specs.Telling.{Tells}
+use Rattle.rev_changes.proofs.Telling.{tells_then}
 use Rattle.rev_requests.specs.Plain.{plain_verb}
-use Rattle.rev_commands.specs.Finding.{found_key}
-use Rattle.rev_commands.specs.Looking.{found_need, look_most, look_need, removal_need}
-use Rattle.rev_commands.specs.Placing.{settled_item, same_frame}
+use Rattle.rev_commands.proofs.Finding.{found_key}
+use Rattle.rev_commands.specs.Looking.{found_need, look_need, removal_need}
+use Rattle.rev_commands.proofs.Looking.{look_most}
+use Rattle.rev_commands.specs.Placing.{settled_item}
+use Rattle.rev_commands.proofs.Placing.{same_frame}
 use Rattle.rev_commands.proofs.Settling.{settled_stored, settled_refused, told_stored, told_refused}
 use Rattle.rev_commands.proofs.Needs.{look_found}
 use Rattle.rev_commands.proofs.place.settle.Goals as goal

@@ -3,7 +3,7 @@ use Rattle.std.proofs.Common.{sym, ◌∙◌, ap, append-nil}
 use Rattle.std.specs.Fmt.{decimal}
 use Rattle.rev_model.specs.Client.{Bytes}
 use Rattle.rev_requests.specs.Plain.{plain_sum, amount}
-use Rattle.rev_commands.specs.Living.{lives}
+use Rattle.rev_commands.proofs.Living.{lives}
 use Rattle.rev_commands.specs.Numbers.{number_in}
 use Rattle.rev_commands.proofs.Plans.{counts_ok}
 use Rattle.rev_commands.proofs.plan.plan_count.Goals as goal

@@ -2,7 +2,7 @@ use Rattle.std.specs.Prelude.{ℕ, List, ◌++◌}
 use Rattle.std.proofs.Common.{sym, ◌∙◌, ap}
 use Rattle.rev_model.specs.Client.{Bytes, Appends, Prepends, joined}
 use Rattle.rev_requests.specs.Plain.{plain_side, plain_payload}
-use Rattle.rev_commands.specs.Living.{lives}
+use Rattle.rev_commands.proofs.Living.{lives}
 use Rattle.rev_commands.proofs.Plans.{joins_ok}
 use Rattle.rev_commands.proofs.plan.plan_join.Goals as goal
 

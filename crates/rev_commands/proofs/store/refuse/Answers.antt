@@ -3,12 +3,12 @@ use Rattle.std.proofs.Common.{arith, ap}
 use Rattle.rev_model.specs.State.{State, find}
 use Rattle.rev_model.specs.Client.{Verb, Sets, Adds, Replaces, Cases}
 use Rattle.rev_requests.specs.Plain.{plain_verb}
-use Rattle.rev_commands.specs.Looking.{removal_most}
+use Rattle.rev_commands.proofs.Looking.{removal_most}
 use Rattle.rev_commands.specs.Placing.{failed_need}
 use Rattle.rev_model.proofs.Undo.{leads_none}
 use Rattle.rev_model.specs.declared.Outcome.TheVariants.{TooLarge}
 use Rattle.rev_moves.specs.Record.{PlainRecord}
-use Rattle.rev_changes.specs.Telling.{tells_all}
+use Rattle.rev_changes.proofs.Telling.{tells_all}
 use Rattle.rev_commands.proofs.store.refuse.Goals as goal
 
 failed_most : (v : Verb) (s : State) (k : List ℕ) → failed_need v s k ≤ 4

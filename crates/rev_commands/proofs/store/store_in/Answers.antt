@@ -5,11 +5,12 @@ use Rattle.rev_items.specs.Plain.{PlainItem}
 use Rattle.rev_model.specs.Causes.{store_in_removals}
 use Rattle.rev_model.proofs.Undo.{leads_none}
 use Rattle.rev_moves.specs.Record.{PlainRecord}
-use Rattle.rev_changes.specs.Telling.{TellsAll, tells_all}
+use Rattle.rev_changes.specs.Telling.{TellsAll}
+use Rattle.rev_changes.proofs.Telling.{tells_all}
 use Rattle.rev_requests.specs.Plain.{plain_verb}
-use Rattle.rev_commands.specs.Looking.{removal_most}
+use Rattle.rev_commands.proofs.Looking.{removal_most}
 use Rattle.rev_model.specs.State.{find}
-use Rattle.rev_commands.specs.Placing.{room_most}
+use Rattle.rev_commands.proofs.Placing.{room_most}
 use Rattle.rev_commands.proofs.Settling.{stored_as}
 use Rattle.rev_commands.proofs.store.store_in.Goals as goal
 

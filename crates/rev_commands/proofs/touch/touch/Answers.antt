@@ -5,7 +5,7 @@ use Rattle.rev_model.proofs.Undo.{leads_none}
 use Rattle.rev_model.specs.Client.{touch}
 use Rattle.rev_moves.specs.Record.{PlainRecord}
 use Rattle.rev_commands.proofs.Hitting.{access_most}
-use Rattle.rev_changes.specs.Telling.{tells_all}
+use Rattle.rev_changes.proofs.Telling.{tells_all}
 use Rattle.rev_commands.proofs.touch.touch.Goals as goal
 
 pub returns-clause-step : goal.returns-clause-step

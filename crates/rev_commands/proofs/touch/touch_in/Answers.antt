@@ -2,11 +2,12 @@ use Rattle.std.specs.Prelude.{◌≡◌, ◌+◌, None}
 use Rattle.std.proofs.Common.{sym, ◌∙◌, ap, arith, w32, to_z, of_z}
 use Rattle.std.proofs.lemmas.Int.{to_z-of_z}
 use Rattle.rev_model.specs.Client.{touch}
-use Rattle.rev_commands.specs.Looking.{found, found_look, look_need}
+use Rattle.rev_commands.proofs.Looking.{found, found_look}
+use Rattle.rev_commands.specs.Looking.{look_need}
 use Rattle.rev_commands.specs.Hitting.{access_need, hit_need}
 use Rattle.rev_commands.proofs.Hitting.{access_room, look_access}
 use Rattle.rev_commands.proofs.Leaving.{touched_by, there}
-use Rattle.rev_changes.specs.Telling.{tells_still}
+use Rattle.rev_changes.proofs.Telling.{tells_still}
 use Rattle.std.specs.Option.{option_map}
 use Rattle.rev_model.specs.Words.{header_of}
 use Rattle.rev_commands.proofs.touch.touch_in.Goals as goal

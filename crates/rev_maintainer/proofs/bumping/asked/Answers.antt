@@ -1,6 +1,6 @@
 use Rattle.std.proofs.Common.{sym, ◌∙◌, arith}
 use Rattle.rev_model.specs.declared.Queue.TheVariants.{Hot, Warm}
-use Rattle.rev_maintainer.specs.Bumping.{other_cas, not_active, not_cold, all_three, some_stands}
+use Rattle.rev_maintainer.proofs.Bumps.{other_cas, not_active, not_cold, all_three, some_stands}
 use Rattle.rev_maintainer.proofs.bumping.asked.Goals as goal
 use Rattle.rev_maintainer.proofs.bumping.asked.Goals.{then-item-entry-via-then-item-entry, then-item-entry-via-else-item-entry+then-not-item}
 

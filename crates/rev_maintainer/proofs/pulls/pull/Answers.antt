@@ -3,8 +3,8 @@ use Rattle.std.proofs.Common.{sym, ◌∙◌, subst}
 use Rattle.rev_model.specs.declared.Outcome.{Outcome}
 use Rattle.rev_model.specs.State.{State}
 use Rattle.rev_model.proofs.Places.{tail_stands}
-use Rattle.rev_changes.specs.Rest.{sound_of, Rest}
-use Rattle.rev_maintainer.specs.Pulling.{rest_item}
+use Rattle.rev_changes.proofs.Rest.{sound_of, Rest}
+use Rattle.rev_maintainer.proofs.Pulling.{rest_item}
 use Rattle.rev_maintainer.proofs.pulls.pull.Goals as goal
 
 pub pull_item-requires-clause-stands : goal.pull_item-requires-clause-stands

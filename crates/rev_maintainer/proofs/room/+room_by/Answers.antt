@@ -4,10 +4,12 @@ use Rattle.rev_model.specs.State.{State, Fixed, free_of, IsClass}
 use Rattle.rev_model.specs.Pull.{squeezed, page_of}
 use Rattle.rev_moves.specs.Record.{PlainRecord}
 use Rattle.rev_changes.specs.Taking.{paired}
-use Rattle.rev_changes.specs.Telling.{Tells, tells_more, tells_then}
+use Rattle.rev_changes.specs.Telling.{Tells}
+use Rattle.rev_changes.proofs.Telling.{tells_more, tells_then}
 use Rattle.rev_model.specs.Causes.{squeeze_removals, room_removals_by}
-use Rattle.rev_maintainer.specs.Causes.{later_removals, given_removals}
-use Rattle.rev_maintainer.specs.Rooming.{same_pages_squeezed, same_page_of, next_need, later_room, given_room, room_need, need_some, need_least}
+use Rattle.rev_maintainer.proofs.Causes.{later_removals, given_removals}
+use Rattle.rev_maintainer.proofs.Rooming.{same_pages_squeezed, same_page_of, next_need, later_room, given_room, need_some, need_least}
+use Rattle.rev_maintainer.specs.Rooming.{room_need}
 use Rattle.rev_maintainer.proofs.room.+room_by.Goals as goal
 
 pub room_by-requires : goal.room_by-requires

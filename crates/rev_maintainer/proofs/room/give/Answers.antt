@@ -1,11 +1,12 @@
 use Rattle.std.specs.Prelude.{◌≤◌}
 use Rattle.std.proofs.Common.{arith, ap, sym, ◌∙◌}
 use Rattle.rev_changes.specs.Taking.{paired}
-use Rattle.rev_changes.specs.Telling.{tells_more}
+use Rattle.rev_changes.proofs.Telling.{tells_more}
 use Rattle.rev_maintainer.proofs.Arms.{given_front, given_page}
 use Rattle.rev_model.specs.State.{free_of}
 use Rattle.rev_model.specs.Pull.{page_of}
-use Rattle.rev_maintainer.specs.Rooming.{room_need, need_some}
+use Rattle.rev_maintainer.specs.Rooming.{room_need}
+use Rattle.rev_maintainer.proofs.Rooming.{need_some}
 use Rattle.rev_maintainer.proofs.room.give.Goals as goal
 
 pub returns-in-Some-page-clause-leads : goal.returns-in-Some-page-clause-leads

@@ -6,7 +6,8 @@ use Rattle.rev_model.specs.Causes.{pull_removals}
 use Rattle.rev_model.specs.declared.Outcome.TheVariants.{BadClass}
 use Rattle.rev_model.specs.declared.PullMode.TheVariants.{Plain}
 use Rattle.rev_moves.specs.Record.{PlainRecord}
-use Rattle.rev_changes.specs.Telling.{TellsAll, tells_all}
+use Rattle.rev_changes.specs.Telling.{TellsAll}
+use Rattle.rev_changes.proofs.Telling.{tells_all}
 use Rattle.rev_maintainer.proofs.stepping.pull_step.Goals as goal
 
 pub returns-clause-leads : goal.returns-clause-leads

@@ -1,5 +1,5 @@
 use Rattle.std.proofs.Common.{ap, map, ◌∙◌}
-use Rattle.rev_moves.specs.Lists.{map-reverse}
+use Rattle.rev_moves.proofs.Lists.{map-reverse}
 use Rattle.rev_moves.specs.Record.{group_of}
 use Rattle.rev_moves.proofs.record.straighten.Goals as goal
 

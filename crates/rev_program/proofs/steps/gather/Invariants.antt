@@ -1,6 +1,6 @@
 use Rattle.std.proofs.Common.{◌≡◌, ◌≤◌, ◌-◌, map, None}
 use Rattle.rev_requests.specs.Plain.{plain_step}
-use Rattle.rev_program.specs.Steps.{IsSoFar}
+use Rattle.rev_program.proofs.Reading.{IsSoFar}
 use Rattle.rev_program.proofs.steps.gather.Given as goal
 
 abbrev pub invariant-lines : goal.invariant-lines

@@ -1,6 +1,6 @@
 use Rattle.std.proofs.Common.{◌≡◌, ◌-◌}
 use Rattle.rev_script.specs.ByteReader.{IsEnded}
-use Rattle.rev_script.specs.RawLine.{IsSoFar}
+use Rattle.rev_script.proofs.Pieces.{IsSoFar}
 use Rattle.rev_script.proofs.raw_line.read_text.Given as goal
 
 abbrev pub invariant-pieces : goal.invariant-pieces

@@ -1,6 +1,7 @@
 use Rattle.std.proofs.Common.{◌≡◌, ◌≤◌, ◌-◌, None}
 use Rattle.rev_shell.specs.Answers.{with_bookmarks}
-use Rattle.rev_shell.specs.Run.{IsSoFar, sink_at}
+use Rattle.rev_shell.proofs.Runs.{IsSoFar}
+use Rattle.rev_shell.specs.Run.{sink_at}
 use Rattle.rev_shell.proofs.run.run_lines.Given as goal
 
 abbrev pub invariant-lines : goal.invariant-lines

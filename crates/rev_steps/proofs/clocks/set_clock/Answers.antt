@@ -3,7 +3,8 @@ use Rattle.std.proofs.Common.{◌∙◌, ap}
 use Rattle.std.proofs.lemmas.Bool.{le-ltb}
 use Rattle.std.proofs.lemmas.Result.{IfOk-weaker}
 use Rattle.rev_model.specs.Actor.{clock}
-use Rattle.rev_steps.specs.Exchange.{exchanged, timing_at, timing_is}
+use Rattle.rev_steps.specs.Exchange.{exchanged, timing_at}
+use Rattle.rev_steps.proofs.Exchange.{timing_is}
 use Rattle.rev_model.specs.declared.GlobalPart.TheVariants as part
 use Rattle.rev_steps.proofs.clocks.set_clock.Goals as goal
 

@@ -2,7 +2,7 @@ use Rattle.std.proofs.Common.{sym, ◌∙◌, ap}
 use Rattle.std.specs.List.{sum_by}
 use Rattle.rev_model.specs.State.{queue_place}
 use Rattle.rev_model.specs.Words.{weight}
-use Rattle.rev_queues.specs.Entries.{entries-at, footprints_weigh}
+use Rattle.rev_queues.proofs.Entries.{entries-at, footprints_weigh}
 use Rattle.rev_inverse.proofs.store.Store.bytes.Goals as goal
 
 pub returns : goal.returns

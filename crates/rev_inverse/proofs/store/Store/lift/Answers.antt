@@ -6,7 +6,8 @@ use Rattle.rev_model.specs.Move.{Possible, Lifts, moved}
 use Rattle.rev_model.specs.Move as model
 use Rattle.rev_model.specs.State.{WellFormed}
 use Rattle.rev_model.specs.declared.Entry.TheVariants.{Chunk}
-use Rattle.rev_queues.specs.Entries.{entries, entries-at}
+use Rattle.rev_queues.specs.Entries.{entries}
+use Rattle.rev_queues.proofs.Entries.{entries-at}
 use Rattle.rev_inverse.proofs.Paging.{fitted_lifted, lift_fits, some_chunk, state_of, state_lifted}
 use Rattle.rev_inverse.proofs.store.Store.lift.Goals as goal
 

@@ -1,6 +1,6 @@
 use Rattle.rev_model.proofs.Undo.{turned_well}
 use Rattle.rev_moves.specs.Seen.{plain_moves}
-use Rattle.rev_moves.specs.Turning.{leads_played}
+use Rattle.rev_moves.proofs.Turning.{leads_played}
 use Rattle.rev_inverse.proofs.store.Store.make.Goals as goal
 
 pub returns-clause-well : goal.returns-clause-well

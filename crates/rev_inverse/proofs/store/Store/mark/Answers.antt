@@ -3,7 +3,8 @@ use Rattle.rev_model.specs.Chunk.{same_entry}
 use Rattle.rev_model.specs.Lists.{distinct, insert}
 use Rattle.rev_model.specs.State.{State, queue_of, queue_place}
 use Rattle.rev_model.specs.declared.Entry.TheVariants.{Mark}
-use Rattle.rev_queues.specs.Entries.{entries-put, entries-at, last_of}
+use Rattle.rev_queues.proofs.Entries.{entries-put, entries-at}
+use Rattle.rev_queues.specs.Entries.{last_of}
 use Rattle.rev_inverse.proofs.Fits.{fitted_put}
 use Rattle.rev_inverse.proofs.Marking.{after_last, insert_last}
 use Rattle.rev_inverse.proofs.store.Store.mark.Goals as goal

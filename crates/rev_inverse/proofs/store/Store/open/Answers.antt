@@ -1,6 +1,6 @@
 use Rattle.std.proofs.Common.{sym, subst}
 use Rattle.rev_model.specs.Sound.{Sound}
-use Rattle.rev_inverse.specs.Empty.{empty_sound}
+use Rattle.rev_inverse.proofs.Empty.{empty_sound}
 use Rattle.rev_inverse.proofs.store.Store.open.Goals as goal
 
 pub returns-in-Ok-clause-sound : goal.returns-in-Ok-clause-sound

@@ -4,7 +4,7 @@ use Rattle.rev_model.specs.State.{State, WellFormed, queue_place}
 use Rattle.rev_model.specs.Words.{weight}
 use Rattle.rev_model.proofs.Slots.{put_free_slot, put_queue_slot, put_free_gone}
 use Rattle.rev_model.specs.declared.Placed.TheVariants.{ToFree, ToQueue}
-use Rattle.rev_queues.specs.Entries.{entries-put}
+use Rattle.rev_queues.proofs.Entries.{entries-put}
 use Rattle.rev_inverse.proofs.Fits.{fitted_slot, fitted_entry, fitted_put, gone_put}
 use Rattle.rev_inverse.proofs.store.Store.put.Goals as goal
 

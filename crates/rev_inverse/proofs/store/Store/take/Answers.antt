@@ -1,7 +1,7 @@
 use Rattle.std.proofs.lemmas.Grind.{common_steps}
 use Rattle.std.proofs.Common.{arith}
 use Rattle.rev_model.specs.State.{queue_place}
-use Rattle.rev_queues.specs.Entries.{entries-taken}
+use Rattle.rev_queues.proofs.Entries.{entries-taken}
 use Rattle.rev_inverse.proofs.Fits.{fitted_taken}
 use Rattle.rev_inverse.proofs.store.Store.take.Goals as goal
 

@@ -1,7 +1,7 @@
 use Rattle.std.proofs.Common.{ap, sym, subst, ◌∙◌, ◌≡◌, arith, length}
 use Rattle.rev_model.specs.Move.{Fits}
 use Rattle.rev_moves.specs.Record.{group_of, moves_in}
-use Rattle.rev_moves.specs.Turning.{next, ended}
+use Rattle.rev_moves.proofs.Turning.{next, ended}
 use Rattle.rev_inverse.proofs.store.Store.turn.Goals as goal
 
 pub exchange-requires-clause-well : goal.exchange-requires-clause-well

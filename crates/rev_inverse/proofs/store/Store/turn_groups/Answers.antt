@@ -1,9 +1,9 @@
 use Rattle.std.proofs.Common.{◌≡◌, ◌-◌, ◌<◌, Bool, List, length, map, slice_index_or, arith, ap, subst, sym, ◌∙◌, refl}
 use Rattle.std.proofs.lemmas.List.{length-map, length-set}
 use Rattle.rev_moves.specs.declared.moves.Move.{Move}
-use Rattle.rev_moves.specs.Lists.{length-in_order, turned-over, shown, written}
+use Rattle.rev_moves.proofs.Lists.{length-in_order, turned-over, shown, written}
 use Rattle.rev_moves.specs.Record.{group_of, in_order, place_in, moves_in, notes_in}
-use Rattle.rev_moves.specs.Turning.{IsTurnedFrom, next, ended, turned_none}
+use Rattle.rev_moves.proofs.Turning.{IsTurnedFrom, next, ended, turned_none}
 use Rattle.rev_inverse.proofs.store.Store.turn_groups.Goals as goal
 
 long : {A : Type 0} (b : Bool) (ms : List (Move A)) → length (in_order b (map group_of ms)) ≡ length ms

@@ -1,6 +1,6 @@
 use Rattle.std.proofs.Common.{◌≡◌, length, map}
 use Rattle.rev_moves.specs.Record.{group_of, in_order}
-use Rattle.rev_moves.specs.Turning.{IsTurnedFrom}
+use Rattle.rev_moves.proofs.Turning.{IsTurnedFrom}
 use Rattle.rev_inverse.proofs.store.Store.turn_groups.Given as goal
 
 abbrev pub invariant-loop-place : goal.invariant-loop-place

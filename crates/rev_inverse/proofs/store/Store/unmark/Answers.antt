@@ -4,7 +4,7 @@ use Rattle.rev_model.specs.Lists.{has, distinct}
 use Rattle.rev_model.specs.Move.{front}
 use Rattle.rev_model.specs.State.{State, queue_of, queue_place}
 use Rattle.rev_model.specs.declared.Entry.TheVariants.{Mark}
-use Rattle.rev_queues.specs.Entries.{entries-taken, entries-at}
+use Rattle.rev_queues.proofs.Entries.{entries-taken, entries-at}
 use Rattle.rev_inverse.proofs.Fits.{fitted_taken}
 use Rattle.rev_inverse.proofs.Marking.{end_there, end_taken}
 use Rattle.rev_inverse.proofs.store.Store.unmark.Goals as goal

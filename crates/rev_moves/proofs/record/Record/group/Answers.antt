@@ -1,5 +1,5 @@
 use Rattle.std.proofs.Common.{rules, ◌≡◌, ◌<◌, ◌≤◌, ◌∙◌, ap, arith, length, subst, slice_index_or, MatchOption}
-use Rattle.rev_moves.specs.Lists.{found}
+use Rattle.rev_moves.proofs.Lists.{found}
 use Rattle.rev_moves.specs.Record.{PlainRecord, group_of, place_in}
 use Rattle.rev_moves.proofs.record.Record.group.Goals as goal
 

@@ -1,6 +1,6 @@
 use Rattle.std.proofs.Common.{rules, ◌≡◌, ◌+◌, ◌-◌, ◌<◌, ◌≤◌, ap, map, sym, ◌∙◌, arith, refl, length, slice_set, subst}
 use Rattle.std.proofs.lemmas.List.{length-map}
-use Rattle.rev_moves.specs.Lists.{length-in_order, shown, written}
+use Rattle.rev_moves.proofs.Lists.{length-in_order, shown, written}
 use Rattle.rev_moves.specs.Record.{PlainRecord, group_of, in_order, place_in, moves_in, notes_in}
 use Rattle.rev_moves.proofs.record.Record.group_mut.Goals as goal
 

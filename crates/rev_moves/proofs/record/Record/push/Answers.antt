@@ -2,7 +2,7 @@ use Rattle.std.proofs.Common.{◌≡◌, ◌+◌, ◌≤◌, ◌++◌, ◌∷◌
 use Rattle.std.proofs.lemmas.List.{length-append, map-append}
 use Rattle.rev_moves.specs.Seen.{plain_moves}
 use Rattle.rev_moves.specs.Record.{PlainRecord, group_of, in_order, moves_in, notes_in}
-use Rattle.rev_moves.specs.Turning.{moves-more, notes-more}
+use Rattle.rev_moves.proofs.Turning.{moves-more, notes-more}
 use Rattle.rev_moves.proofs.record.Record.push.Goals as goal
 
 pub returns-clause-groups : goal.returns-clause-groups

@@ -1,5 +1,5 @@
 use Rattle.std.proofs.Common.{map}
-use Rattle.rev_moves.specs.Lists.{turned-over}
+use Rattle.rev_moves.proofs.Lists.{turned-over}
 use Rattle.rev_moves.specs.Record.{group_of}
 use Rattle.rev_moves.proofs.record.Record.turn_over.Goals as goal
 

@@ -1,6 +1,7 @@
 use Rattle.std.proofs.Common.{◌-◌, ◌≡◌, ◌≤◌, slice_get}
 use Rattle.rev_undotree.specs.Tree.{count}
-use Rattle.rev_undotree.specs.Children.{children_at, put_in, firsts, forks_from}
+use Rattle.rev_undotree.specs.Children.{children_at, put_in, firsts}
+use Rattle.rev_undotree.proofs.Children.{forks_from}
 use Rattle.rev_undotree.proofs.branch.Branch.child.Given as goal
 
 abbrev pub invariant-each : goal.invariant-each

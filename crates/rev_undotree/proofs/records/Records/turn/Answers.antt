@@ -2,7 +2,7 @@ use Rattle.std.proofs.Common.{rules, ◌≡◌, ◌<◌, ◌≤◌, ◌+◌, len
 use Rattle.std.proofs.lemmas.List.{length-map, with_items_is}
 use Rattle.rev_model.specs.Move.{Fits, turned}
 use Rattle.rev_moves.specs.Record.{PlainRecord, group_of, in_order, moves_in, notes_in, no_record}
-use Rattle.rev_moves.specs.Turning.{length-turned}
+use Rattle.rev_moves.proofs.Turning.{length-turned}
 use Rattle.rev_undotree.specs.declared.records.Extent.{Extent}
 use Rattle.rev_undotree.specs.Cuts.{cut_by}
 use Rattle.rev_undotree.proofs.Cuts.{length-cut, found, there, long_part, turns}

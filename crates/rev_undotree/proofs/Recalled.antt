@@ -33,13 +33,9 @@ use Rattle.rev_model.specs.declared.Listed.TheVariants.{InFree, InQueue}
 use Rattle.rev_model.specs.declared.Outcome.{Outcome}
 use Rattle.rev_model.specs.declared.Placed.TheVariants.{ToFree, ToQueue}
 use Rattle.rev_moves.specs.Record.{PlainRecord}
-use Rattle.rev_changes.specs.Seats.{item_stands}
-use Rattle.rev_undotree.specs.Named.{hashed, named, step_keys, stored_keys, is_named}
-
--- the note of a change
-abbrev pub note_of : Option KeyChange → Option Cause
-note_of None = None
-note_of (Some t) = t.note
+use Rattle.rev_changes.proofs.Seats.{item_stands}
+use Rattle.rev_undotree.specs.Named.{hashed, named, step_keys, stored_keys, note_of}
+use Rattle.rev_undotree.proofs.Named.{is_named}
 
 -- ---- a step and its record
 
