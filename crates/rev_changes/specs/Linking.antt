@@ -1,4 +1,5 @@
--- The moves by which a new item enters, and that the store is then sound.
+-- When a new item may enter: its chunk is loose, and its key is not in the index.
+-- Rule of this project: what must hold where an item is linked.
 use Rattle.std.specs.Prelude.{ℕ, ◌≡◌, None}
 use Rattle.rev_items.specs.Plain.{PlainItem}
 use Rattle.rev_model.specs.State.{State, find, IsClass}

@@ -1,4 +1,5 @@
--- The page that a class gets, taken from memory before the first change.
+-- The page that a class gets.
+-- Rule of this project: a page is planned, and its memory taken, before the first change.
 use Rattle.std.specs.Prelude.{ℕ, ◌≡◌, Option, None, Some}
 use Rattle.rev_model.specs.State.{State, per_page}
 use Rattle.rev_model.specs.Pull.{page_of}

@@ -1,4 +1,5 @@
--- A chunk that is taken, and what room needs of it.
+-- A chunk that is taken, with the state in which it is.
+-- Rule of this project: what room answers: a state and a chunk, or nothing.
 use Rattle.std.specs.Prelude.{Option, None, Some}
 use Rattle.rev_model.specs.State.{State}
 use Rattle.rev_model.specs.declared.ChunkRef.{ChunkRef}

@@ -1,4 +1,5 @@
 -- What a record tells of the keys that left the index.
+-- Rule of this project: a note beside each move, by which each removal has its cause.
 use Rattle.std.specs.Prelude.{◌≡◌, List, ◌++◌, length}
 use Rattle.rev_model.specs.State.{State}
 use Rattle.rev_model.specs.Track.{Removal, removals}

@@ -1,4 +1,5 @@
 -- Which configurations a store can be opened with.
+-- Rule of this project: the bounds of each option, and which fault is told first.
 use Rattle.std.specs.Prelude.{ℕ, ◌*◌, ◌%◌, Bool, cond, not, ◌&&◌, nat_eq, nat_lt, nat_le, List, length, Option, None, Some, ◌≡◌}
 use Rattle.rev_classes.specs.Sizes.{most_classes, sizes_of}
 use Rattle.rev_classes.specs.declared.Config.{Config}

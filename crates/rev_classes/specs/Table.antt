@@ -1,4 +1,5 @@
 -- What a class table shows, and what holds of each.
+-- Rule of this project: what every table of classes keeps, whatever configuration it was made from.
 use Rattle.std.specs.Prelude.{ℕ, ◌-◌, ◌<◌, ◌≤◌, ◌≡◌, List, length, slice_index}
 
 -- the page size in bytes, and the chunk sizes of the classes from 1 on

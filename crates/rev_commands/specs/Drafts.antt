@@ -1,4 +1,5 @@
 -- What a plan is to do, and that it does what the command says.
+-- Rule of this project: append, prepend, incr and decr are planned by one look-up and carried out behind a second one.
 use Rattle.std.specs.Prelude.{ℕ, ◌≡◌, List, [], None, Some}
 use Rattle.rev_items.specs.Plain.{PlainItem}
 use Rattle.rev_items.specs.Rules.{footprint_of}

@@ -1,4 +1,5 @@
 -- What a lookup found, told from the state after it and the chunk.
+-- Rule of this project: a look-up answers a chunk, and its item is that of the state after it.
 use Rattle.std.specs.Prelude.{Option, None, Some}
 use Rattle.rev_items.specs.Plain.{PlainItem}
 use Rattle.rev_model.specs.State.{State, item_at}

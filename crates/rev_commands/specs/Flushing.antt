@@ -1,4 +1,5 @@
--- What a flush leaves.
+-- The timing that a flush leaves.
+-- Rule of memcached: a flush takes effect at once or at its moment, and a later one replaces it.
 use Rattle.std.specs.Prelude.{ℕ, cond, None, Some, nat_le}
 use Rattle.rev_model.specs.declared.Globals.{Globals}
 use Rattle.rev_model.specs.declared.Timing.{Timing}

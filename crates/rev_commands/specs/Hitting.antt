@@ -1,4 +1,5 @@
 -- How many moves a hit takes.
+-- Rule of this project: memory for them is taken before the first.
 use Rattle.std.specs.Prelude.{ℕ, ◌+◌, cond, List, Option, None, Some}
 use Rattle.rev_items.specs.Plain.{PlainItem}
 use Rattle.rev_items.specs.declared.Bits.{Bits}

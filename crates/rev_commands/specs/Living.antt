@@ -1,4 +1,5 @@
 -- The live item of a key.
+-- Rule of memcached: a dead item is not found.
 use Rattle.std.specs.Prelude.{ℕ, List, Option}
 use Rattle.std.specs.Option.{option_map}
 use Rattle.rev_items.specs.Plain.{PlainItem}

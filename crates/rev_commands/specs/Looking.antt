@@ -1,4 +1,5 @@
--- What a lookup found, and how many moves it takes.
+-- How many moves a lookup takes.
+-- Rule of this project: memory for them is taken before the first.
 use Rattle.std.specs.Prelude.{ℕ, cond, List, Option, None, Some}
 use Rattle.rev_items.specs.Plain.{PlainItem}
 use Rattle.rev_model.specs.State.{State, item_at, find}

@@ -1,4 +1,5 @@
 -- The number that an item's data are.
+-- Rule of memcached: incr and decr take data that are a decimal number of 64 bits.
 use Rattle.std.specs.Prelude.{ℕ, cond, List, Option, None, Some}
 use Rattle.rev_model.specs.Client.{is_number, digits_from}
 

@@ -1,4 +1,5 @@
 -- A new item in the chunk that room gave: what the four verbs make of it.
+-- Rule of this project: the order within set, add, replace and cas, and how many moves each makes.
 use Rattle.std.specs.Prelude.{ℕ, ℤ, List, Option, None, Some}
 use Rattle.rev_items.specs.Plain.{PlainItem}
 use Rattle.rev_model.specs.State.{State}

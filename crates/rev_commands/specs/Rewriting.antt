@@ -1,4 +1,5 @@
 -- An item of a class takes the place of the key's item: what is done with the chunk that room gives, or without one.
+-- Rule of this project: it is done as a replace does it, but for what is answered.
 use Rattle.std.specs.Prelude.{ℕ, List}
 use Rattle.rev_model.specs.State.{State}
 use Rattle.rev_model.specs.declared.Outcome.{Outcome}

@@ -1,4 +1,5 @@
 -- What a move of a record tells of a key, and what a few do that go together.
+-- Rule of this project: a story is read off records, a change at a time.
 use Rattle.std.specs.Prelude.{ℕ, Bool, false, cond, List, [], ◌∷◌, Option, None, Some, is_some}
 use Rattle.std.proofs.Common.{ControlFlow, Continue, Break}
 use Rattle.rev_model.specs.Chunk.{same_chunk}

@@ -1,4 +1,5 @@
 -- The story of a key, its events on the way from the root to a node, and why it is not held there.
+-- Rule of this project: what `:story` and `:why` tell, by the states along the way.
 use Rattle.std.specs.Prelude.{ℕ, cond, List, [], ◌∷◌, ◌++◌, Option, None, Some}
 use Rattle.rev_model.specs.State.{State}
 use Rattle.rev_model.specs.Track.{held}

@@ -1,4 +1,5 @@
 -- Hash chains: the chunks of a bucket, each linked with the one before it and the one behind it.
+-- Rule of this project: when links stand for the chains, and what a step of links leaves.
 use Rattle.std.specs.Prelude.{◌≡◌, ℕ, ◌%◌, Option, List, length, map, slice_get, option_map}
 use Rattle.rev_links.specs.Rings.{walk, Closed, Opened}
 use Rattle.rev_links.specs.declared.places.Place.{Place}

@@ -1,4 +1,5 @@
 -- The items of chunks and the chunk of each key, as two finite maps; and when the chains stand for them.
+-- Rule of this project: an index is seen as its two maps; no bucket is seen above it.
 use Rattle.std.specs.Prelude.{◌≡◌, ℕ, zero, suc, ◌<◌, ◌≤◌, ◌^◌, Bool, true, false, cond, Option, Some, None, List, [], ◌∷◌, ◌++◌, length, map as map_list, slice_index, slice_index_or, slice_get, replicate}
 use Rattle.std.specs.Ordering.{nat_cmp, eq_by_cmp}
 use Rattle.std.specs.Cmp.Lexicographic.{slice_cmp}

@@ -1,4 +1,5 @@
--- The finite map of a table of pages.
+-- The map from chunks to items that a table of pages stands for.
+-- Rule of this project: what the slots of all pages hold, as one finite map.
 use Rattle.std.specs.Prelude.{ℕ, List, [], ◌∷◌, Option, None, slice_index_or, suc}
 use Rattle.std.specs.FinMap as map
 use Rattle.rev_items.specs.Plain.{PlainItem}

@@ -1,4 +1,6 @@
--- The state of a store that has just been opened, and that it is sound.
+-- The state of a store that has just been opened.
+-- Rule of memcached: the settings that it begins with.
+-- Rule of this project: no page is made, and the clock stands where the configuration says.
 use Rattle.std.specs.Prelude.{◌+◌, ◌*◌, [], None, length, replicate}
 use Rattle.std.specs.FinMap as map
 use Rattle.rev_classes.specs.Limits.{class_sizes}

@@ -1,4 +1,5 @@
 -- What an entry that leaves its queue stood behind, and which changes carry more than numbers, kind by kind.
+-- Rule of this project: what each kind of change exchanges with the store.
 use Rattle.std.specs.Prelude.{Option, None}
 use Rattle.rev_model.specs.declared.Entry.{Entry}
 use Rattle.rev_model.specs.declared.Placed.{Placed}

@@ -1,4 +1,5 @@
 -- What is read of a list one entry after another.
+-- Rule of this project: lists are read from one entry to the one behind it.
 use Rattle.std.specs.Prelude.{Bool, List, Option, None, Some, slice_get}
 use Rattle.rev_links.specs.Neighbours.{behind_of}
 

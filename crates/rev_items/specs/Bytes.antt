@@ -1,4 +1,5 @@
 -- Bytes in place or on the heap are the same bytes.
+-- Rule of this project: where a key or data lie is seen nowhere above this crate.
 use Rattle.std.specs.Prelude.{ℕ, List, length, take, drop, replicate, ◌-◌, ◌≡◌, ◌≤◌}
 use Rattle.rev_items.specs.Hash.{hash_of}
 use Rattle.rev_items.specs.declared.bytes.Place.{Place}

@@ -1,4 +1,5 @@
 -- FNV-1a with 32 bits, by which keys are spread over buckets.
+-- Rule of this project: its hash; no answer depends on it.
 use Rattle.std.specs.Prelude.{ℕ, ◌*◌, ◌%◌, ◌^◌, List, fold}
 use Rattle.std.specs.Int.Bits.{bit_xor}
 

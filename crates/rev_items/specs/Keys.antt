@@ -1,4 +1,5 @@
 -- Which bytes are a key.
+-- Rule of memcached: 1 to 250 bytes, none of them a space or a control byte.
 use Rattle.std.specs.Prelude.{ℕ, Bool, true, ◌&&◌, ◌==◌, not, nat_lt, nat_le, List, length, ◌≡◌}
 use Rattle.std.specs.List.{list_all}
 

@@ -1,4 +1,5 @@
 -- An item without its allocator.
+-- Rule of memcached: what an item is: key, data, flags, expiry, time, cas number, and the bits FETCHED and ACTIVE.
 use Rattle.std.specs.Prelude.{ℕ, List}
 use Rattle.rev_items.specs.declared.Bits.{Bits}
 pub use Rattle.rev_items.specs.Keys.{IsKey, is_key, is_key_byte}

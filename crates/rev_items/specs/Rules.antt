@@ -1,4 +1,6 @@
 -- The rules on one item: its size, when it expires, and when it is dead.
+-- Rule of memcached: how an expiry time is read, and that an item past it, or flushed, is dead.
+-- Rule of this project: a header of 56 bytes, and that a flush covers items by their cas numbers.
 use Rattle.std.specs.Prelude.{ℕ, ℤ, pos, negsuc, ◌+◌, Bool, cond, not, ◌&&◌, ◌||◌, length, nat_eq, nat_le}
 use Rattle.rev_items.specs.Plain.{PlainItem}
 

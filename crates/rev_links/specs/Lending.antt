@@ -1,4 +1,5 @@
 -- What becomes of values of which one is lent.
+-- Rule of this project: a cell is lent, and not read and written back.
 use Rattle.std.specs.Prelude.{ℕ, List, slice_set}
 use Rattle.std.specs.Borrow.{Lends, MutBor, Fml, RattleType}
 use Rattle.std.specs.declared.alloc.Allocator.{Ghosts}

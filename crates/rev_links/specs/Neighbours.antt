@@ -1,4 +1,5 @@
 -- What stands behind a member of a list, and behind which place a member is put.
+-- Rule of this project: places of lists that run through slots.
 use Rattle.std.specs.Prelude.{Bool, cond, Option, Some, None, List, [], ◌∷◌, slice_get}
 use Rattle.rev_links.specs.declared.places.Place.{Place}
 use Rattle.rev_links.specs.declared.places.Place.TheVariants.{End, At}

@@ -1,5 +1,6 @@
 -- Lists that run through slots: each member knows the place before it and the place after it,
 -- and a list's end stands before its first member and after its last one.
+-- Rule of this project: when links stand for a list, and what a step of links leaves.
 use Rattle.std.specs.Prelude.{◌≡◌, ◌≢◌, ℕ, suc, zero, Option, Some, None, List, [], ◌∷◌, ◌⊎◌}
 use Rattle.rev_links.specs.declared.places.Place.{Place}
 use Rattle.rev_links.specs.declared.places.Place.TheVariants.{End, At}

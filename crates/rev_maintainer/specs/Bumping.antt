@@ -1,4 +1,6 @@
--- What a bump finds, how many moves it makes, and that it keeps a store sound.
+-- What a bump finds, and how many moves it makes.
+-- Rule of memcached: an item of COLD that was hit goes to the head of WARM (new_lru.txt).
+-- Rule of this project: an entry asks for its item by chunk and cas number, and does nothing where that is gone.
 use Rattle.std.specs.Prelude.{ℕ, Bool, false, cond, ◌&&◌, List, [], ◌∷◌, Option, None, Some, nat_eq}
 use Rattle.rev_items.specs.Plain.{PlainItem}
 use Rattle.rev_model.specs.Chunk.{same_entry}

@@ -1,4 +1,5 @@
--- How many moves room needs, and what a pull leaves alone.
+-- How many moves room needs.
+-- Rule of this project: memory for them is taken before the first, so that no step ends half done.
 use Rattle.std.specs.Prelude.{ℕ, ◌≡◌, ◌+◌, ◌*◌, List, [], ◌∷◌, Option, None, Some}
 use Rattle.rev_model.specs.State.{State, free_of}
 use Rattle.rev_model.specs.Pull.{page_of}

@@ -1,4 +1,5 @@
 -- Which keys a step takes out of the index, in their order, each with its cause, or none where the key is stored again.
+-- Rule of this project: the causes that `:why` and `:story` tell, step by step.
 use Rattle.std.specs.Prelude.{ℕ, zero, suc, cond, List, [], ◌++◌, Option, None, Some, nat_eq}
 use Rattle.std.specs.Fmt.{decimal}
 use Rattle.rev_items.specs.Plain.{PlainItem}

@@ -1,4 +1,5 @@
 -- Chunks and entries: the test for equality, the order, the code.
+-- Rule of this project: a chunk is a slot of a page, and chunks stand in the order of page and slot.
 use Rattle.std.specs.Prelude.{ℕ, Bool, true, false, ◌&&◌, ◌==◌, ◌<◌, refl, List, length, slice_index}
 use Rattle.std.specs.Coded.{Coded, code_by, coded×, coded_ℕ}
 use Rattle.std.specs.Ordering.{nat_cmp, ordering_then}

@@ -1,4 +1,5 @@
 -- The codes of items and of the two maps.
+-- Rule of this project: plain items and maps are values that a number can stand for, as the maps of std ask.
 use Rattle.std.specs.Prelude.{ℕ, Bool, List, refl}
 use Rattle.std.specs.Coded.{Coded, code_by, coded×, coded_ℕ, coded_list, coded_bool}
 use Rattle.std.specs.FinMap as map

@@ -1,4 +1,5 @@
 -- What a step does to a key, told by the states at its two ends, and the cause where the key leaves the index.
+-- Rule of this project: what an event of a key is, said by states alone and not by how the step is made.
 use Rattle.std.specs.Prelude.{ℕ, Bool, true, false, cond, not, ◌&&◌, ◌==◌, List, [], ◌∷◌, Option, None, Some, is_some}
 use Rattle.std.specs.Option.{option_map}
 use Rattle.rev_items.specs.Plain.{PlainItem}

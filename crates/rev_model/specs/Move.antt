@@ -1,4 +1,5 @@
 -- The moves of a record on the plain state: what a move leaves, its reverse, and when it is possible.
+-- Rule of this project: what is reversible, and how: a record of reverses that is played from last to first.
 use Rattle.std.specs.Prelude.{ℕ, ◌≡◌, ◌+◌, ◌/◌, ◌%◌, ◌^◌, ◌<◌, nat_eq, nat_le, not, ◌&&◌, ◌||◌, Bool, true, false, cond, List, [], ◌∷◌, ◌++◌, Option, None, Some, is_some, length, slice_set, take, drop, zero, suc, map as map_list}
 use Rattle.std.specs.Option.{option_map}
 use Rattle.std.specs.FinMap as map

@@ -1,4 +1,5 @@
 -- Sound stores, also with one chunk held aside by a step.
+-- Rule of this project: what holds of a store between steps, so that no chunk, item or key is lost.
 use Rattle.std.specs.Prelude.{ℕ, ◌≡◌, ◌+◌, ◌<◌, ◌≤◌, ◌≢◌, Bool, true, false, cond, ◌&&◌, List, Option, None, Some, length, slice_index, nat_eq, nat_lt, zero, suc}
 use Rattle.std.specs.List.{sum_by}
 use Rattle.std.specs.FinMap as map

@@ -1,4 +1,6 @@
 -- The plain state of a store, and when it is well formed.
+-- Rule of memcached: what there is: classes, pages, chunks, free lists, four queues a class, an index and counters.
+-- Rule of this project: all of it as lists, maps and numbers.
 use Rattle.std.specs.Prelude.{ℕ, ◌≡◌, ◌+◌, ◌*◌, ◌<◌, ◌≤◌, ◌/◌, true, false, cond, List, [], Option, Some, is_some, length, slice_index, slice_index_or, nat_eq, ◌-◌}
 use Rattle.std.specs.List.{sum_by}
 use Rattle.std.specs.Ordering.{nat_cmp}

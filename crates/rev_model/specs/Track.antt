@@ -1,4 +1,5 @@
 -- Where a key was before a step, read off the step's record and where it is after the step.
+-- Rule of this project: what a record tells of a key, so that no step is played again for it.
 use Rattle.std.specs.Prelude.{ℕ, Bool, false, cond, List, [], ◌∷◌, ◌++◌, Option, None, Some, is_some}
 use Rattle.std.specs.Ordering.{eq_by_cmp, nat_cmp}
 use Rattle.std.specs.Cmp.Lexicographic.{slice_cmp}

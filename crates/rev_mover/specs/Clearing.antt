@@ -1,4 +1,6 @@
 -- What the mover does with the chunk that it comes to.
+-- Rule of memcached: a dead item is freed; a live one is rescued to a free chunk of its class, or else evicted.
+-- Rule of this project: how many moves that takes.
 use Rattle.std.specs.Prelude.{ℕ, cond, Option, None, Some}
 use Rattle.rev_items.specs.Plain.{PlainItem}
 use Rattle.rev_model.specs.State.{State, free_of}

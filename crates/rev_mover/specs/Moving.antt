@@ -1,4 +1,5 @@
 -- The page mover at work: the chunk that it comes to, the mover a slot further, and the page given back.
+-- Rule of this project: a page goes slot by slot, each in a step of its own.
 use Rattle.std.specs.Prelude.{◌≡◌, ◌+◌, ◌<◌, Option, None, Some, slice_set}
 use Rattle.rev_model.specs.State.{State, per_page}
 use Rattle.rev_model.specs.Actor.{with_globals, handed}

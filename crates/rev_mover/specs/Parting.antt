@@ -1,4 +1,5 @@
 -- The slots of a page that goes to a class.
+-- Rule of this project: what a page takes along, and how many moves its way takes.
 use Rattle.std.specs.Prelude.{ℕ, ◌≡◌, ◌<◌, Option, None, Some}
 use Rattle.rev_model.specs.State.{State, per_page}
 

@@ -1,4 +1,5 @@
 -- A record that leads back still does after more moves.
+-- Rule of this project: what every call that makes moves keeps of the record.
 use Rattle.rev_moves.specs.Record.{PlainRecord}
 use Rattle.rev_model.specs.State.{State}
 use Rattle.rev_model.specs.Move.{LeadsBack}

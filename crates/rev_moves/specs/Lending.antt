@@ -1,4 +1,5 @@
 -- What becomes of a record of which a group is lent.
+-- Rule of this project: a change of a record is turned in its place.
 use Rattle.std.specs.Prelude.{ℕ, ◌+◌, ◌-◌, length, slice_set}
 use Rattle.std.specs.Borrow.{Lends, MutBor, Fml, RattleType}
 use Rattle.std.specs.declared.alloc.Allocator.{Ghosts}

@@ -1,4 +1,5 @@
 -- A record without its allocator.
+-- Rule of this project: a record is its moves, the note beside each, and how they are grouped.
 use Rattle.std.specs.Prelude.{ℕ, ◌≡◌, ◌-◌, ◌++◌, Bool, true, false, List, [], ◌∷◌, Option, length, reverse}
 use Rattle.rev_model.specs.Move.{Move}
 use Rattle.rev_model.specs.declared.Cause.{Cause}

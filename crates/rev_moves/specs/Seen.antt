@@ -1,4 +1,5 @@
 -- A move as contracts see it.
+-- Rule of this project: which moves of the model a change that is kept as one stands for.
 use Rattle.std.specs.Prelude.{List, [], ◌∷◌, ◌≡◌, Option, Some, None}
 use Rattle.rev_model.specs.Move as plain
 use Rattle.rev_model.specs.declared.Cause.{Cause}

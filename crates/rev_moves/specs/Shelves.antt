@@ -1,4 +1,5 @@
 -- What lies on a shelf.
+-- Rule of this project: a page's slots that are out of the store lie on a shelf of its change.
 use Rattle.std.specs.Prelude.{ℕ, ◌≡◌, Option, None, Some}
 use Rattle.rev_moves.specs.declared.parts.Slots.{Slots}
 

@@ -1,4 +1,5 @@
 -- What holds of a request that was read.
+-- Rule of this project: the bounds of `--temp-ttl`, `--heap` and the number of files.
 use Rattle.std.specs.Prelude.{ℕ, ℤ, pos, negsuc, Bool, true, nat_eq, ◌≡◌, ◌≤◌, length, IfSome}
 use Rattle.rev_options.specs.declared.Request.{Request}
 use Rattle.rev_options.specs.declared.Request.TheVariants.{Run, Record}

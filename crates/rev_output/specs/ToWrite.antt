@@ -1,4 +1,5 @@
 -- What a contract sees of a writer of std as a sink.
+-- Rule of this project: the writer, and how often it failed.
 use Rattle.std.specs.Prelude.{ℕ}
 use Rattle.rev_output.specs.declared.ToWrite.{ToWrite}
 

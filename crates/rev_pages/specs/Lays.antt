@@ -1,4 +1,5 @@
 -- How a page gets its slots and loses them, in three forms.
+-- Rule of this project: a page is laid and lifted by one move, with its chunks in front of the free list.
 use Rattle.std.specs.Prelude.{◌≡◌, ℕ, ◌<◌, ◌+◌, ◌++◌, ◌∷◌, [], false, length, take, drop, slice_index, slice_set}
 use Rattle.rev_model.specs.declared.ChunkRef.{ChunkRef}
 use Rattle.rev_model.specs.declared.Form.{Form}

@@ -1,4 +1,6 @@
 -- The pages as plain lists, and when links stand for them.
+-- Rule of memcached: each page is a class's or the pool's, and each class has a free list.
+-- Rule of this project: how these lie in the tables of the page table.
 use Rattle.std.specs.Prelude.{◌≡◌, ℕ, ◌∷◌, ◌++◌, ◌<◌, ◌≤◌, List, [], length, map, nat_eq, take, replicate, slice_index, slice_index_or, slice_set}
 use Rattle.std.specs.List.{count_by, range_with_len}
 use Rattle.rev_links.specs.declared.places.Place.TheVariants.{End}

@@ -1,4 +1,5 @@
--- Where the link of each place lies
+-- Where the link of each place lies.
+-- Rule of this project: the tables of the free lists, place by place.
 use Rattle.std.specs.Prelude.{◌≡◌, Option, List, [], length, map, slice_get, slice_index_or, option_map}
 use Rattle.rev_links.specs.Rings.{Closed, Opened}
 use Rattle.rev_links.specs.declared.places.Place.{Place}

@@ -1,4 +1,5 @@
 -- What the user of a recording is told when it ends without rows.
+-- Rule of this project: statuses and texts of `lrudb record`.
 use Rattle.std.specs.Prelude.{ℕ, ◌≤◌, ◌≢◌, List, ◌++◌, codes, decimal, String, string_bytes}
 use Rattle.std.specs.declared.alloc.Global.{Global}
 use Rattle.rev_program.specs.declared.steps.ScriptFault.{ScriptFault}

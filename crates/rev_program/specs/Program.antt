@@ -1,4 +1,5 @@
 -- How the program may end.
+-- Rule of this project: its exit statuses.
 use Rattle.std.specs.Prelude.{◌≡◌, ◌≢◌, ◌≤◌, ◌⊎◌, ℕ, List, Option}
 use Rattle.std.specs.Io.KnownBytes.{Keeps}
 use Rattle.rev_program.specs.Fault as fault

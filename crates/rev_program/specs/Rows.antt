@@ -1,4 +1,5 @@
 -- The text of a recording.
+-- Rule of this project: a row for each play, and a line for each actor that stopped.
 use Rattle.std.specs.Prelude.{ℕ, suc, List, [], ◌∷◌, ◌++◌, Option, None, Some, Result, Ok, Err, codes, decimal}
 use Rattle.rev_model.specs.Actor.{Step}
 use Rattle.rev_model.specs.declared.Outcome.{Outcome}

@@ -1,4 +1,5 @@
 -- What is read of a script whose lines are steps.
+-- Rule of this project: a file is steps from its first line to its last, or nothing is played.
 use Rattle.std.specs.Prelude.{◌≡◌, ◌<◌, ℕ, List, length, take, Some}
 use Rattle.std.specs.Io.KnownBytes.{Consumes, IsAtEnd}
 use Rattle.rev_model.specs.Actor as model

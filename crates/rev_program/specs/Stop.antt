@@ -1,4 +1,5 @@
 -- What the user is told when the program ends before all is done.
+-- Rule of this project: exit statuses and their texts: the command line, the configuration, and a run that ends early.
 use Rattle.std.specs.Prelude.{ℕ, List, ◌++◌, codes, string_bytes}
 use Rattle.rev_classes.specs.declared.ConfigFault.{ConfigFault}
 use Rattle.rev_classes.specs.declared.ConfigFault.TheVariants as fault

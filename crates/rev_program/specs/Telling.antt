@@ -1,4 +1,5 @@
 -- What the user was told.
+-- Rule of this project: the whole text, or a front of it where a write failed.
 use Rattle.std.specs.Prelude.{◌≡◌, ℕ, List, [], ◌∷◌, ◌++◌, Option}
 use Rattle.std.specs.Io.KnownBytes.{Appends}
 use Rattle.rev_output.specs.Sink.{WroteFront}

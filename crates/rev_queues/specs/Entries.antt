@@ -1,4 +1,5 @@
--- Entries with their footprints: they leave and enter a list as bare entries do, and the others keep their footprints.
+-- Entries with their footprints, and how one leaves a list and enters it.
+-- Rule of this project: a queue keeps beside each entry the bytes that it counts.
 use Rattle.std.specs.Prelude.{ℕ, cond, Option, None, Some, List, [], ◌∷◌, map}
 use Rattle.std.specs.List.{sum_by}
 use Rattle.rev_model.specs.Chunk.{same_entry}

@@ -1,4 +1,5 @@
 -- Where the link and the standing of each place of a queue lie.
+-- Rule of this project: the tables of the queues, place by place.
 use Rattle.std.specs.Prelude.{◌≡◌, ◌≢◌, ℕ, Option, Some, None, List, length, map, slice_get, option_map}
 use Rattle.rev_links.specs.declared.places.Place.{Place}
 use Rattle.rev_links.specs.declared.places.Place.TheVariants.{End, At}

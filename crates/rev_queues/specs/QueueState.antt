@@ -1,4 +1,6 @@
 -- The queues as plain lists of entries with their footprints, and how those lists lie in the tables.
+-- Rule of memcached: four queues a class, in which chunks stand and the crawler's mark.
+-- Rule of this project: how these lie in the tables, with sums beside them.
 use Rattle.std.specs.Prelude.{◌≡◌, ℕ, ◌<◌, ◌≤◌, ◌*◌, ◌+◌, Bool, true, false, Option, Some, None, List, [], length, map, option_map, replicate, slice_get, slice_index, slice_index_or}
 use Rattle.std.specs.List.{range_with_len, sum_by}
 use Rattle.rev_links.specs.declared.places.Place.TheVariants.{End, At}

@@ -1,4 +1,5 @@
 -- What each call of a recorder answers and leaves.
+-- Rule of this project: each call is logged where it was decided, and its receipt enters the hand.
 use Rattle.std.specs.Prelude.{◌≡◌, ℕ, ◌+◌, ◌<◌, not, false, [], ◌∷◌, ◌++◌, length, Option, Some, None}
 use Rattle.rev_model.specs.Actor.{Step}
 use Rattle.rev_model.specs.declared.Outcome.{Outcome}

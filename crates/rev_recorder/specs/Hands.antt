@@ -1,4 +1,5 @@
 -- The entries of a hand, and when hands and a log agree.
+-- Rule of this project: what an actor was told is what stands in the log and in the tree.
 use Rattle.std.specs.Prelude.{◌≡◌, ℕ, ◌+◌, ◌<◌, ◌==◌, ◌&&◌, Bool, true, false, not, cond, List, [], ◌∷◌, ◌++◌, length, map, take, All, sum_by, slice_get, Option, Some}
 use Rattle.std.specs.List.{list_any}
 use Rattle.rev_model.specs.Actor.{Step}

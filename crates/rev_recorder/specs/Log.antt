@@ -1,4 +1,5 @@
 -- The log of a recorder's calls, and when it is legal for the rows of a session.
+-- Rule of this project: calls stand in the order in which the tree took them.
 use Rattle.std.specs.Prelude.{◌≡◌, ℕ, ◌+◌, ◌<◌, true, false, List, [], ◌∷◌, length, take, Option, Some}
 use Rattle.rev_undotree.specs.Rows.{Row, parent_of}
 use Rattle.rev_undotree.specs.Finds.{is_held}

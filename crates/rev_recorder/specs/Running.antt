@@ -1,4 +1,5 @@
 -- What `run_actors` leaves of each hand.
+-- Rule of this project: an actor's steps are played in its order, up to the first refusal.
 use Rattle.std.specs.Prelude.{◌⊎◌, ◌≡◌, ◌≢◌, ℕ, List, [], ◌∷◌, ◌++◌, length, map, Some, None, Result, Ok, Err}
 use Rattle.std.specs.Global.{Vec}
 use Rattle.rev_model.specs.Actor.{Step}

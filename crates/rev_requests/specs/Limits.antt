@@ -1,4 +1,5 @@
--- The limits of `lru tune`, which are this project's own.
+-- The limits of `lru tune`.
+-- Rule of this project: shares and factors beyond these are refused.
 use Rattle.std.specs.Prelude.{ℕ, ◌+◌, Bool, ◌&&◌, nat_le}
 use Rattle.rev_model.specs.declared.Settings.{Settings}
 

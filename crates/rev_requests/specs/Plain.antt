@@ -1,4 +1,5 @@
 -- A step as contracts see it.
+-- Rule of this project: which step of the model a request stands for.
 use Rattle.std.specs.Prelude.{ℕ, List, Some}
 use Rattle.rev_model.specs.Client as client
 use Rattle.rev_model.specs.Actor as actor

@@ -1,4 +1,6 @@
 -- What each line of a script does to a session, and what is answered.
+-- Rule of memcached: which answer a command gets, and that `noreply` drops it.
+-- Rule of this project: the lines that begin with `:`, and refusals of the tree.
 use Rattle.std.specs.Prelude.{ℕ, ℤ, ◌+◌, ◌++◌, Bool, true, false, cond, not, ◌&&◌, nat_eq, nat_lt, List, [], ◌∷◌, length, Option, None, Some, codes}
 use Rattle.rev_model.specs.State.{State, free_of, queue_of, find}
 use Rattle.rev_model.specs.Move.{is_class}

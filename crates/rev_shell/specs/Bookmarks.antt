@@ -1,4 +1,5 @@
 -- Names for nodes, in the order in which they were first given.
+-- Rule of this project: `:mark`, `:marks` and `:goto`.
 use Rattle.std.specs.Prelude.{ℕ, cond, List, [], ◌∷◌, ◌++◌, Option, None, Some, codes, decimal}
 use Rattle.std.specs.Str.{bytes_eq}
 use Rattle.rev_undotree.specs.Positions.{SessionState}

@@ -1,4 +1,5 @@
 -- What a contract sees of bookmarks.
+-- Rule of this project: names as lists of bytes, nodes as numbers.
 use Rattle.std.specs.Prelude.{ℕ, List, map}
 use Rattle.std.specs.declared.vec.Vec.{Vec}
 use Rattle.rev_undotree.specs.declared.session.NodeId.{NodeId}

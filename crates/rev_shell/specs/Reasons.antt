@@ -1,4 +1,5 @@
 -- What is answered to the question why a key is gone, and to that for its story.
+-- Rule of this project: the texts of `:why` and `:story`.
 use Rattle.std.specs.Prelude.{ℕ, List, [], ◌∷◌, ◌++◌, codes, decimal}
 use Rattle.rev_model.specs.declared.Cause.{Cause}
 use Rattle.rev_model.specs.declared.Cause.TheVariants.{Evicted, ReclaimedByPull, ReclaimedByCrawler, ReclaimedByHit, ReclaimedByMover, EvictedByMover, Deleted, DroppedByFailedSet}

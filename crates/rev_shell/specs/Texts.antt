@@ -1,4 +1,6 @@
 -- The texts of answers.
+-- Rule of memcached: those of its protocol (protocol.txt).
+-- Rule of this project: the texts of steps of the actors, and of all that a store shows.
 use Rattle.std.specs.Prelude.{ℕ, Bool, cond, List, [], ◌∷◌, ◌++◌, length, Option, None, Some, codes, decimal, suc}
 use Rattle.std.specs.Option.{option_and_then}
 use Rattle.rev_items.specs.Plain.{PlainItem}

@@ -1,4 +1,5 @@
 -- What the commands of the tree answer, and where they go.
+-- Rule of this project: `:back`, `:forward`, `:go`, `:tree` and `:prune`.
 use Rattle.std.specs.Prelude.{ℕ, suc, cond, nat_eq, List, [], ◌∷◌, ◌++◌, slice_get, Option, None, Some, codes, decimal}
 use Rattle.rev_undotree.specs.Steps.{outcome_of}
 use Rattle.rev_undotree.specs.Rows.{Row, at}

@@ -1,4 +1,5 @@
 -- The words by which a tree's lines name steps and outcomes.
+-- Rule of this project: one word for each step and each outcome.
 use Rattle.std.specs.Prelude.{ℕ, List, codes}
 use Rattle.rev_model.specs.Client.{ClientStep, Verb, Side, Sum, Stores, Joins, Gets, Touches, Deletes, Flushes, Counts, Sets, Adds, Replaces, Cases, Appends, Prepends, Increases, Decreases}
 use Rattle.rev_model.specs.Actor.{Step, Client, Pull, Bump, CrawlStart, Crawl, Schedule, Advance, Clock, Tune, TempTtl}

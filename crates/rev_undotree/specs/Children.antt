@@ -1,4 +1,5 @@
 -- The children of the node at a position of a branch, by rising number.
+-- Rule of this project: their order, by which `:forward` names one.
 use Rattle.std.specs.Prelude.{ℕ, cond, eqb, ltb, List, [], ◌∷◌, Option, Some, None}
 use Rattle.std.proofs.Common.{suc, zero}
 use Rattle.rev_undotree.specs.Tree.{PlainNode, PlainBranch, Forks, bare, fork}

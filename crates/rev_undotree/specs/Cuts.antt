@@ -1,4 +1,5 @@
 -- Records whose groups stand one behind another in a list.
+-- Rule of this project: the records of a run lie in one list, each cut off by its extent.
 use Rattle.std.specs.Prelude.{ℕ, ◌≡◌, ◌+◌, List, [], ◌∷◌, take, drop}
 use Rattle.rev_moves.specs.Record.{PlainRecord, Group, in_order, whole}
 use Rattle.rev_undotree.specs.declared.records.Extent.{Extent}

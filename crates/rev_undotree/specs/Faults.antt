@@ -1,4 +1,5 @@
 -- Why a play was refused.
+-- Rule of this project: a tree that is full, a tree that is too deep, or memory; and nothing has changed.
 use Rattle.std.specs.Prelude.{◌≡◌, Result, IsErrAnd}
 use Rattle.rev_undotree.specs.declared.session.PlayFault.{PlayFault}
 pub use Rattle.rev_undotree.specs.declared.session.PlayFault.TheVariants.{TooManyNodes, TooDeep, Memory}

@@ -1,4 +1,5 @@
 -- Where a numbered node stands, and what order the numbers of a tree have.
+-- Rule of this project: a node stands at one position, and is found there by its number.
 use Rattle.std.specs.Prelude.{◌≡◌, ℕ, ◌<◌, Bool, true, is_some, List, ◌++◌, get_or, Option, None}
 use Rattle.std.proofs.Common.{suc, zero}
 use Rattle.rev_undotree.specs.Tree.{PlainBranch}

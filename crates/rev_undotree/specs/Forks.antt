@@ -1,4 +1,5 @@
 -- Where a play forks.
+-- Rule of this project: a play at a run's end continues it, and any other begins a branch.
 use Rattle.std.specs.Prelude.{ℕ, List, [], ◌∷◌, ◌++◌, cond, eqb, length, Option, Some, None}
 use Rattle.rev_undotree.specs.Tree.{PlainBranch, count}
 use Rattle.rev_undotree.specs.declared.junction.Junction.{Junction}

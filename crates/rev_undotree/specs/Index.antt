@@ -1,4 +1,5 @@
 -- Where nodes stand, by their numbers, as it was noted when they were played.
+-- Rule of this project: the notes by which a node is found without a search.
 use Rattle.std.specs.Prelude.{ℕ, ◌-◌, Bool, cond, List, [], ◌∷◌, ◌++◌, length, take, reverse, get_or, slice_get, Option, None, Some}
 use Rattle.std.proofs.Common.{suc, zero}
 use Rattle.rev_undotree.specs.declared.junction.Junction.{Junction}

@@ -1,4 +1,5 @@
 -- What an index says of a tree: it leads to each node that stands there.
+-- Rule of this project: when those notes are right.
 use Rattle.std.specs.Prelude.{◌≡◌, ℕ, ◌≤◌, List, [], ◌∷◌, ◌++◌, length, Some, None, slice_get}
 use Rattle.rev_undotree.specs.Tree.{PlainBranch}
 use Rattle.rev_undotree.specs.Rows.{number_at}

@@ -1,4 +1,5 @@
 -- How the entries of a log are linked. A link is the number of an entry and one more, or 0 for none.
+-- Rule of this project: the mentions of a bucket lead from each to the one before it.
 use Rattle.std.specs.Prelude.{◌≡◌, ℕ, ◌-◌, ◌^◌, ◌%◌, ◌<◌, ◌≤◌, List, length, map, get_or}
 use Rattle.rev_undotree.specs.declared.mention.Mention.{Mention}
 use Rattle.rev_undotree.specs.declared.links.Entry.{Entry}

@@ -1,4 +1,5 @@
 -- Which nodes mention a key: all at which something befell it.
+-- Rule of this project: a node that does not mention a key did nothing to it.
 use Rattle.std.specs.Prelude.{◌≡◌, ℕ, ◌-◌, ◌+◌, ◌<◌, ◌≤◌, ◌⊎◌, List, Option, None, Some, slice_get, nat_eq, true}
 use Rattle.rev_items.specs.Hash.{hash_of}
 use Rattle.rev_undotree.specs.declared.mention.Mention.{Mention}

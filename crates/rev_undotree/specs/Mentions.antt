@@ -1,4 +1,5 @@
 -- What a log of mentions says.
+-- Rule of this project: which hash is mentioned at which node.
 use Rattle.std.specs.Prelude.{◌≡◌, ℕ, ◌≤◌, List, Some, slice_get}
 use Rattle.rev_undotree.specs.declared.mention.Mention.{Mention}
 

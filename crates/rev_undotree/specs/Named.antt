@@ -1,4 +1,5 @@
 -- Which keys the record of a step names, by their hashes.
+-- Rule of this project: a play mentions each key that its record names, and the one that it stored.
 use Rattle.std.specs.Prelude.{ℕ, cond, List, [], ◌∷◌, ◌++◌, Option, None, Some}
 use Rattle.rev_items.specs.Plain.{PlainItem}
 use Rattle.rev_items.specs.Hash.{hash_of}

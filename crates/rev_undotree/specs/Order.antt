@@ -1,4 +1,5 @@
 -- What order the numbers of a tree have, and how deep its forks nest.
+-- Rule of this project: numbers rise along each run and from fork to fork.
 use Rattle.std.specs.Prelude.{ℕ, ◌-◌, ◌<◌, ◌≤◌, List, [], ◌∷◌, length, Option, Some, None}
 use Rattle.rev_undotree.specs.Tree.{PlainNode, PlainBranch, Forks, bare, fork}
 

@@ -1,4 +1,5 @@
 -- A position that one can go to, and how far a position is on the way to it.
+-- Rule of this project: what stands in a tree.
 use Rattle.std.specs.Prelude.{◌≡◌, ℕ, ◌<◌, ◌≤◌, List, [], ◌∷◌, length}
 use Rattle.rev_undotree.specs.Tree.{PlainBranch, count, fork_at}
 use Rattle.rev_undotree.specs.declared.junction.Junction.{Junction}

@@ -1,4 +1,5 @@
 -- Where a branch leaves its parent's run: that is known beside the branch, and not in it.
+-- Rule of this project: who holds a branch knows where it leaves.
 use Rattle.std.specs.Prelude.{ℕ, ◌+◌, ◌≤◌, List, [], ◌∷◌, map}
 use Rattle.std.proofs.Common.{arith}
 use Rattle.rev_undotree.specs.Tree.{PlainBranch, forks_of, size_of}

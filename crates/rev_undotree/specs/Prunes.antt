@@ -1,4 +1,5 @@
 -- What a prune takes away: a node and all below it.
+-- Rule of this project: their numbers are never given again.
 use Rattle.std.specs.Prelude.{ℕ, Bool, true, false, cond, nat_eq, nat_lt, List, [], ◌∷◌, take, Option, None}
 use Rattle.std.proofs.Common.{suc}
 use Rattle.rev_undotree.specs.Tree.{PlainBranch, Forks, bare, fork}

@@ -1,4 +1,5 @@
 -- The rows of a session by number, and what its tree says of them.
+-- Rule of this project: a session is what its rows say: the state at a node is its steps from the root, run forward.
 use Rattle.std.specs.Prelude.{◌≡◌, ℕ, ◌<◌, Bool, true, false, cond, eqb, List, [], ◌∷◌, ◌++◌, get_or, Option, Some, None}
 use Rattle.std.proofs.Common.{suc, zero}
 use Rattle.rev_undotree.specs.Steps.{State, Step, next}

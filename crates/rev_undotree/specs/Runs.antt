@@ -1,4 +1,5 @@
 -- A run as it is kept: what its nodes are beside their records, and the records apart from that.
+-- Rule of this project: nodes and their records lie in two lists, side by side.
 use Rattle.std.specs.Prelude.{ℕ, List, [], ◌∷◌}
 use Rattle.rev_moves.specs.Record.{flat}
 use Rattle.rev_undotree.specs.Steps.{Step, Outcome, PlainRecord}

@@ -1,4 +1,5 @@
 -- The states along a tree, which nobody holds, and the direction of its records.
+-- Rule of this project: a state is kept once, and reached by turning records.
 use Rattle.std.specs.Prelude.{◌≡◌, ℕ, ◌<◌, ◌≤◌, List, [], ◌∷◌, length}
 use Rattle.std.proofs.Common.{suc, zero}
 use Rattle.rev_undotree.specs.Steps.{State, next, outcome_of, turned, Undoes, Redoes}

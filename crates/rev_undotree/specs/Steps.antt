@@ -1,4 +1,5 @@
 -- What is known here of a step and of a record: nothing but their contracts.
+-- Rule of this project: a record, turned, leads back, and turned again forward.
 use Rattle.std.specs.Prelude.{◌≡◌, reverse}
 pub use Rattle.rev_model.specs.State.{State}
 pub use Rattle.rev_model.specs.Sound.{Sound}

@@ -1,4 +1,5 @@
 -- The nodes on the way from the root to the current node, with their records.
+-- Rule of this project: what may be read of a node on that way.
 use Rattle.std.specs.Prelude.{◌≡◌, ℕ, ◌-◌, cond, nat_le, List, [], ◌∷◌, Some, slice_get}
 use Rattle.rev_model.specs.Actor.{step}
 use Rattle.rev_model.specs.Causes.{step_removals}

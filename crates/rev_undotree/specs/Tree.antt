@@ -1,4 +1,5 @@
 -- What a branch is seen as: where it leaves its parent's run, its run, and the branches that fork from it.
+-- Rule of this project: the tree of all attempts, as plain data.
 use Rattle.std.specs.Prelude.{◌≡◌, ℕ, ◌+◌, List, [], ◌∷◌, refl, Option, Some, None}
 use Rattle.std.proofs.Common.{ap, ◌∙◌, suc, zero}
 use Rattle.std.specs.Coded.{Coded, code_by, coded×, coded_ℕ, coded_list, coded_option}

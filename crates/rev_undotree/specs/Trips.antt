@@ -1,4 +1,5 @@
 -- A trip from one position to another: up to the last common position, and down from there.
+-- Rule of this project: `:go` turns the records on that way and no others.
 use Rattle.std.specs.Prelude.{◌≡◌, ℕ, ◌+◌, List}
 use Rattle.std.proofs.Common.{suc}
 use Rattle.rev_undotree.specs.Positions.{Below, Proper}

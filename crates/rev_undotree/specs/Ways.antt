@@ -1,4 +1,5 @@
 -- Positions in a tree: the forks on the way from the base branch, and how much of each run is taken.
+-- Rule of this project: how a position is written.
 use Rattle.std.specs.Prelude.{ℕ, ◌<◌, List, [], ◌∷◌, ◌++◌, get_or, set}
 use Rattle.rev_undotree.specs.Steps.{PlainRecord}
 use Rattle.rev_model.specs.Actor as actor

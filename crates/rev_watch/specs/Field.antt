@@ -1,4 +1,5 @@
 -- The fields of a log's lines, by memcached's own names.
+-- Rule of memcached: those names.
 use Rattle.std.specs.Prelude.{ℕ, List, codes}
 use Rattle.rev_watch.specs.declared.fault.Field.{Field}
 use Rattle.rev_watch.specs.declared.fault.Field.TheVariants.{Ts, Gid, Kind, Key, Status, Cmd, Ttl, Clsid, Cfd, Size, Fetch, La, Src, Dst, Crawler, Lru, Elapsed, Examined, Reclaimed, Skipped}

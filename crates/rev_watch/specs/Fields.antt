@@ -1,5 +1,7 @@
 -- The values of fields, each by its name, wherever it stands. The first fault decides, in the order in which a line's
 -- event asks for its fields.
+-- Rule of memcached: how each value is written.
+-- Rule of this project: which fault is told.
 use Rattle.std.specs.Prelude.{ℕ, ℤ, if◌then◌else◌, nat_le, List, [], ◌∷◌, length, Option, None, Some, Result, Ok, Err, Bool, true, false, codes}
 use Rattle.std.specs.Option.{ok_or, option_map}
 use Rattle.std.specs.Str.{bytes_eq}

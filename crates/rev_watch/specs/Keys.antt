@@ -1,4 +1,5 @@
 -- Keys stand in a line percent-encoded.
+-- Rule of memcached: its encoding of keys in a log.
 use Rattle.std.specs.Prelude.{ℕ, ◌==◌, Bool, true, false, ◌&&◌, not, if◌then◌else◌, List, [], ◌∷◌, Result, Ok, Err}
 use Rattle.std.specs.Char.{is_digit}
 use Rattle.percent_encoding.specs.Percent.{percent_decode}

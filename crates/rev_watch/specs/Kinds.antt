@@ -1,4 +1,5 @@
 -- The kinds of events whose fields are looked at, by memcached's own names.
+-- Rule of memcached: those names.
 use Rattle.std.specs.Prelude.{ℕ, List, if◌then◌else◌, Option, None, Some, codes}
 use Rattle.std.specs.Str.{bytes_eq}
 use Rattle.rev_watch.specs.declared.kind.Kind.{Kind}

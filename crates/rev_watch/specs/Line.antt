@@ -1,5 +1,7 @@
 -- What a line of a log says: its time, its number, its kind, in this order, and then the fields of the kind, by
 -- their names.
+-- Rule of memcached: the lines of `watch` (protocol.txt).
+-- Rule of this project: which fault is told of a line that is none.
 use Rattle.std.specs.Prelude.{ℕ, if◌then◌else◌, List, Option, None, Some, Result, Ok, Err}
 use Rattle.std.specs.Option.{ok_or}
 use Rattle.std.specs.Io.BufRead.{strip_last}

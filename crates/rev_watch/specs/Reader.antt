@@ -1,4 +1,5 @@
 -- What a contract sees of a reader of a log.
+-- Rule of this project: lines are the same whatever the pieces in which they arrive.
 use Rattle.std.specs.Prelude.{◌≡◌, ◌<◌, ◌≤◌, ◌+◌, ◌-◌, ◌^◌, min, ℕ, false, List, [], ◌∷◌, ◌++◌, length, take, slice_range, ◌⊎◌, Option, None, Some, Ok, Err}
 use Rattle.std.specs.Io.KnownBytes.{prepend_known, Consumes, Keeps, IsAtEnd}
 use Rattle.rev_script.specs.Script.{has_lf}

@@ -1,4 +1,6 @@
 -- What the texts of `stats settings` and `stats` say: lines `STAT name value`.
+-- Rule of memcached: those lines.
+-- Rule of this project: which of them are read, and the bounds of their values.
 use Rattle.std.specs.Prelude.{ℕ, Bool, true, false, ◌==◌, if◌then◌else◌, List, [], ◌∷◌, Option, Result, Ok, Err, codes}
 use Rattle.std.specs.Io.BufRead.{strip_last}
 use Rattle.std.specs.List.{slice_split, filter_map}

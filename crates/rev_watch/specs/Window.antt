@@ -1,4 +1,5 @@
 -- Lines, each with its number, are held back and given out by rising numbers.
+-- Rule of this project: how many are held back, and which line is late.
 use Rattle.std.specs.Prelude.{ℕ, Bool, false, nat_le, is_some, if◌then◌else◌, List, [], ◌∷◌, length, Option, None, Some}
 use Rattle.std.specs.BTreeMap.{insert_entry, is_at}
 use Rattle.std.specs.Ordering.{nat_cmp}

@@ -1,4 +1,5 @@
 -- The words of a line, and what stands in a word behind a name.
+-- Rule of memcached: words `name=value`, parted by single spaces.
 use Rattle.std.specs.Prelude.{ℕ, ◌==◌, if◌then◌else◌, List, [], ◌∷◌, length, take, drop, Option, None, Some}
 use Rattle.std.specs.List.{slice_split, filter_map}
 use Rattle.std.specs.Option.{option_and_then}
