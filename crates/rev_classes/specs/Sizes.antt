@@ -1,5 +1,6 @@
 -- The chunk sizes of the slab classes.
--- Rule of memcached: sizes grow by a factor and are rounded up to 8 bytes; an item lies in the smallest class that holds it.
+-- Rule of memcached: sizes grow by a factor and are rounded up to 8 bytes; an item lies in the smallest class that
+-- holds it.
 -- Rule of this project: the growth goes by whole numbers, and the last class has the whole page as its chunk.
 use Rattle.std.specs.Prelude.{ℕ, zero, suc, ◌+◌, ◌*◌, ◌/◌, Bool, cond, nat_le, List, [], ◌∷◌, Option, None, Some}
 use Rattle.std.specs.Int.{next_multiple_of}

@@ -1,5 +1,6 @@
 -- What a store's parts keep beside the plain state.
--- Rule of this project: pages, queues and index speak of the same slots, and a queue counts the bytes of the items that stand in it.
+-- Rule of this project: pages, queues and index speak of the same slots, and a queue counts the bytes of the items
+-- that stand in it.
 use Rattle.std.specs.Prelude.{ℕ, ◌≡◌, ◌≤◌, ◌+◌, [], length, slice_index, slice_index_or}
 use Rattle.rev_links.specs.Rings.{In}
 use Rattle.rev_model.specs.State.{Fixed, per_page}

@@ -1,6 +1,7 @@
 -- The steps of the actors, of the clock and of the settings; and any step.
 -- Rule of memcached: what the LRU maintainer, the crawler, the page mover and `lru tune` do (new_lru.txt).
--- Rule of this project: each does so in single steps, and which page, chunk or refusal it is where memcached leaves that open.
+-- Rule of this project: each does so in single steps, and which page, chunk or refusal it is where memcached leaves
+-- that open.
 use Rattle.std.specs.Prelude.{ℕ, ℤ, pos, negsuc, zero, suc, ◌+◌, Bool, false, cond, ◌&&◌, ◌||◌, List, [], ◌∷◌, ◌++◌, Option, None, Some, slice_set, nat_eq, nat_lt, nat_le, is_some}
 use Rattle.std.specs.FinMap as map
 use Rattle.rev_items.specs.Plain.{PlainItem}

@@ -1,5 +1,6 @@
 -- The steps of clients.
--- Rule of memcached: what set, add, replace, cas, append, prepend, incr, decr, get, touch, delete and flush_all do (protocol.txt).
+-- Rule of memcached: what set, add, replace, cas, append, prepend, incr, decr, get, touch, delete and flush_all do
+-- (protocol.txt).
 -- Rule of this project: the order of look-up, room and link within a step.
 use Rattle.std.specs.Prelude.{ℕ, ℤ, pos, negsuc, ◌+◌, ◌-◌, ◌*◌, ◌%◌, ◌^◌, Bool, true, cond, ◌&&◌, List, [], ◌∷◌, ◌++◌, Option, None, Some, length, nat_eq, nat_lt, nat_le}
 use Rattle.std.specs.List.{list_all}

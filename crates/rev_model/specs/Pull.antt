@@ -1,5 +1,6 @@
 -- Pull and room.
--- Rule of memcached: which item of a queue goes where when it is pulled, and how a chunk is found for a new item (new_lru.txt).
+-- Rule of memcached: which item of a queue goes where when it is pulled, and how a chunk is found for a new item
+-- (new_lru.txt).
 -- Rule of this project: ten rounds, and the lowest page first.
 use Rattle.std.specs.Prelude.{ℕ, zero, suc, ◌+◌, Bool, true, false, cond, not, ◌||◌, List, [], ◌∷◌, Option, None, Some, length, nat_eq, nat_lt}
 use Rattle.std.specs.List.{list_any}

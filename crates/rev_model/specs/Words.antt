@@ -1,5 +1,6 @@
 -- Rules on values, sums over queues, and the changes that steps are made of.
--- Rule of memcached: the share and the age of a queue, by which it is full or its tail is old; TEMP for what dies soon (new_lru.txt).
+-- Rule of memcached: the share and the age of a queue, by which it is full or its tail is old; TEMP for what dies
+-- soon (new_lru.txt).
 -- Rule of this project: shares of bytes in per cent, ages in thousandths, on whole numbers.
 use Rattle.std.specs.Prelude.{ℕ, ℤ, pos, negsuc, ◌+◌, ◌-◌, ◌*◌, ◌/◌, ◌%◌, ◌^◌, Bool, false, cond, not, ◌&&◌, List, [], ◌∷◌, Option, None, Some, slice_index_or, slice_set, nat_eq, nat_lt}
 use Rattle.std.specs.List.{sum_by}

@@ -1,5 +1,6 @@
 -- What a run writes, as a function of the bytes read.
--- Rule of this project: old scripts give old bytes, whatever the pieces in which they arrive; and what was written at each fault.
+-- Rule of this project: old scripts give old bytes, whatever the pieces in which they arrive; and what was written
+-- at each fault.
 use Rattle.std.specs.Prelude.{◌≡◌, ◌<◌, ◌-◌, ℕ, List, [], ◌∷◌, ◌++◌, length, take, Option}
 use Rattle.std.specs.Io.KnownBytes.{Consumes, Appends, IsAtEnd}
 use Rattle.rev_classes.specs.declared.Config.{Config}

@@ -1,5 +1,6 @@
 -- Steps that exchange a part of the globals.
--- Rule of this project: a step of the clock or of the settings is one move; a flush that is due takes effect with the clock.
+-- Rule of this project: a step of the clock or of the settings is one move; a flush that is due takes effect with
+-- the clock.
 use Rattle.std.specs.Prelude.{ℕ, cond, None}
 use Rattle.rev_model.specs.State.{State}
 use Rattle.rev_model.specs.Actor.{with_globals, is_due}

@@ -1,4 +1,5 @@
--- The machine of calls on rows: which play continues a run, how deep nodes nest, the way from the root, and the distance.
+-- The machine of calls on rows: which play continues a run, how deep nodes nest, the way from the root, and the
+-- distance.
 -- Rule of this project: what each call of the tree does, said by rows alone.
 use Rattle.std.specs.Prelude.{ℕ, ◌+◌, ◌-◌, ◌*◌, Bool, true, false, cond, eqb, List, [], ◌∷◌, ◌++◌, length, Option, Some, None}
 use Rattle.std.proofs.Common.{suc, zero}

@@ -1,5 +1,6 @@
 -- A store that stands at a position of a tree.
--- Rule of this project: the records above the current node point back, all others forward; a session is its root state, its rows and its node.
+-- Rule of this project: the records above the current node point back, all others forward; a session is its root
+-- state, its rows and its node.
 use Rattle.std.specs.Prelude.{◌≡◌, ℕ, ◌+◌, ◌<◌, ◌≤◌, Bool, true, false, eqb, List, [], ◌∷◌, ◌++◌, length, map, Option, Some, None}
 use Rattle.std.proofs.Common.{suc}
 use Rattle.rev_undotree.specs.Steps.{State, Step, Sound}
