@@ -1,4 +1,5 @@
 -- What an import writes: lines of a script, one behind another, each whole with its data block.
+-- Rule of this project: each line that is written is read as exactly one step.
 use Rattle.std.specs.Prelude.{◌≡◌, ℕ, Bool, true, ◌&&◌, nat_lt, List, ◌∷◌, ◌++◌, length, map, codes}
 use Rattle.std.specs.List.{list_all, concat}
 use Rattle.rev_model.specs.declared.Queue.{Queue}

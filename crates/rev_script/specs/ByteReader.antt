@@ -1,4 +1,5 @@
 -- What a contract sees of a reader of bytes.
+-- Rule of this project: bytes are the same whatever the pieces in which they arrive.
 use Rattle.std.specs.Prelude.{◌≡◌, ◌<◌, ◌+◌, ◌-◌, ℕ, List, [], length, take, Option}
 use Rattle.std.specs.Io.KnownBytes.{prepend_known, Consumes, IsAtEnd}
 use Rattle.rev_script.specs.Source.{Told, one_more}

@@ -1,5 +1,8 @@
--- What a line's words ask for. A line's first word names a command; the words behind it are looked at in this order: how many
+-- What a line's words ask for. A line's first word names a command; the words behind it are looked at in this
+-- order: how many
 -- there are and whether `noreply` stands where it may, then keys, then numbers. The first fault decides the answer.
+-- Rule of memcached: its commands and the texts of its errors (protocol.txt).
+-- Rule of this project: the commands of the actors and the lines that begin with `:`.
 use Rattle.std.specs.Prelude.{ℕ, ◌+◌, ◌==◌, Bool, true, false, ◌&&◌, ◌||◌, nat_le, nat_lt, if◌then◌else◌, List, [], ◌∷◌, length, drop, Option, None, Some, codes, ℤ, pos}
 use Rattle.std.specs.List.{list_all, slice_split}
 use Rattle.std.specs.Str.{bytes_eq}

@@ -1,4 +1,6 @@
 -- What was read of a data block.
+-- Rule of memcached: so many bytes and what ends them.
+-- Rule of this project: what was taken where a fault came.
 use Rattle.std.specs.Prelude.{◌≡◌, ◌≢◌, ◌<◌, ◌≤◌, ◌+◌, ◌⊎◌, ℕ, Bool, true, false, List, length, take, drop}
 use Rattle.rev_script.specs.ByteReader.{PlainReader, Took, Broke, AtEnd}
 use Rattle.rev_script.specs.Script.{is_ending, ending_size}

@@ -1,4 +1,5 @@
 -- What a contract sees of a reader of std as a source.
+-- Rule of this project: the reader, what its last read did, and how often it failed.
 use Rattle.std.specs.Prelude.{ℕ}
 use Rattle.rev_script.specs.declared.source.FromRead.{FromRead}
 use Rattle.rev_script.specs.declared.source.LastRead.{LastRead}

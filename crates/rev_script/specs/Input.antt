@@ -1,4 +1,5 @@
 -- What a contract sees of a source's bytes in a dialect.
+-- Rule of this project: what a reader of lines reads.
 use Rattle.rev_script.specs.Line.{PlainInput}
 use Rattle.rev_script.specs.declared.input.Input.{Input}
 

@@ -1,4 +1,5 @@
 -- The keys of a line that is not malformed: the words that stand for keys meet the rule of keys.
+-- Rule of this project: no step has a key that is none.
 use Rattle.std.specs.Prelude.{◌≡◌, ℕ, List, drop, true}
 use Rattle.std.specs.List.{list_all}
 use Rattle.rev_items.specs.Keys.{is_key}

@@ -1,4 +1,5 @@
 -- What a contract sees of a line of the code.
+-- Rule of this project: which line of a script it stands for, and what was taken where a fault came.
 use Rattle.std.specs.Prelude.{ℤ, ◌≡◌, ◌≢◌, ◌⊎◌, ◌<◌, ◌+◌, ℕ, Bool, true, false, length, drop, List, [], Option, None, Some}
 use Rattle.rev_requests.specs.Plain.{plain_payload}
 use Rattle.rev_script.specs.Words.{word}

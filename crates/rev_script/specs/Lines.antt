@@ -1,4 +1,5 @@
 -- What a contract sees of a reader of lines.
+-- Rule of this project: what it reads, and the fault that it answers from then on.
 use Rattle.std.specs.Prelude.{◌≡◌, false, Option, None}
 use Rattle.rev_script.specs.ByteReader.{unread}
 use Rattle.rev_script.specs.Line.{PlainInput}

@@ -1,4 +1,6 @@
 -- Numbers in a script: decimal digits, with any number of zeros in front and no sign.
+-- Rule of memcached: its numbers of 32 and 64 bits.
+-- Rule of this project: factors with at most three digits behind the point.
 use Rattle.std.specs.Prelude.{ℕ, ◌+◌, ◌-◌, ◌*◌, ◌^◌, Bool, true, false, ◌&&◌, nat_le, nat_lt, if◌then◌else◌, List, [], ◌∷◌, length, Option, None, Some, ℤ, pos, ◌-ℤ◌, ◌==◌, bit_or, slice_index_or}
 use Rattle.std.specs.List.{list_all, fold}
 

@@ -1,4 +1,5 @@
 -- What was read of a line, before it is looked at.
+-- Rule of this project: a line ends at LF or at the end, and no more than its limit is kept.
 use Rattle.std.specs.Prelude.{◌≡◌, ℕ, Bool, false, if◌then◌else◌, List, [], ◌∷◌, ◌++◌, length, take}
 use Rattle.rev_script.specs.ByteReader.{PlainReader, Took, Broke, AtEnd}
 use Rattle.rev_script.specs.Script.{has_lf}

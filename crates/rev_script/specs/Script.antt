@@ -1,5 +1,8 @@
--- The lines of a script, on the whole list of its bytes: each ends at LF or at the end, a storage line with its data block.
+-- The lines of a script, on the whole list of its bytes: each ends at LF or at the end, a storage line with its
+-- data block.
 -- A dialect says what has to stand behind the data of a block. All else is the same in each.
+-- Rule of memcached: lines and data blocks (protocol.txt).
+-- Rule of this project: limits of a line by its first word, and the dialect for people and editors.
 use Rattle.std.specs.Prelude.{◌≡◌, ℕ, ℤ, zero, suc, ◌+◌, ◌==◌, Bool, true, false, ◌&&◌, ◌||◌, not, nat_le, nat_lt, if◌then◌else◌, List, [], ◌∷◌, ◌++◌, length, take, drop, map, count_by}
 use Rattle.std.specs.Str.{bytes_eq}
 use Rattle.std.specs.Io.BufRead.{strip_last}

@@ -1,4 +1,5 @@
 -- What a source tells of itself.
+-- Rule of this project: reads that fail are counted, and after the end comes nothing.
 use Rattle.std.specs.Prelude.{ℕ, ◌+◌, ◌%◌, List, [], Option, Some, ◌==◌, ◌&&◌, nat_lt, if◌then◌else◌, Result, Ok, Err}
 use Rattle.rev_script.specs.declared.source.LastRead.{LastRead}
 use Rattle.rev_script.specs.declared.source.LastRead.TheVariants.{Gave, Ended, Failed}

@@ -1,4 +1,6 @@
 -- The step that a line asks for, and the steps of all lines.
+-- Rule of this project: a `get` is a step for each key, and append and prepend use no flags or expiry time of their
+-- line.
 use Rattle.std.specs.Prelude.{◌≡◌, ◌+◌, ℕ, ℤ, List, [], ◌∷◌, ◌++◌, take, map, Option, None, Some, slice_get}
 use Rattle.rev_model.specs.Client.{ClientStep, Payload, Stores, Joins, Deletes, Touches, Gets, Flushes, Counts, Sets, Adds, Replaces, Cases, Appends, Prepends, Increases, Decreases}
 use Rattle.rev_model.specs.Actor.{Step, Client, Clock, Pull, Bump, CrawlStart, Crawl, Schedule, Advance, Tune, TempTtl}
