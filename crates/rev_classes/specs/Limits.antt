@@ -6,6 +6,7 @@ use Rattle.rev_classes.specs.declared.Config.{Config}
 use Rattle.rev_classes.specs.declared.ConfigFault.{ConfigFault}
 use Rattle.rev_classes.specs.declared.ConfigFault.TheVariants.{BadPage, BadFactor, TooManyClasses, BadLimit}
 
+-- from the least to the most
 abbrev pub is_within : (least most n : ℕ) → Bool
 is_within least most n = nat_le least n && nat_le n most
 
@@ -33,5 +34,6 @@ fault_of c =
     (cond (nat_lt most_classes (length (class_sizes c))) (Some TooManyClasses)
     (cond (not (are_limits c)) (Some BadLimit) None)))
 
+-- the configuration breaks no limit
 abbrev pub IsWithinLimits : Config → Type 0
 IsWithinLimits c = fault_of c ≡ None

@@ -19,6 +19,7 @@ use Rattle.rev_commands.specs.declared.plan.Plan.TheVariants.{Missing, Refused, 
 abbrev pub missed : State → List ℕ → Outcome → State × Outcome
 missed s k gone = ((lookup s k).0, gone)
 
+-- nothing is done
 abbrev pub unchanged : State → Outcome → State × Outcome
 unchanged s o = (s, o)
 
@@ -28,6 +29,7 @@ carried s k gone Missing = missed s k gone
 carried s k gone (Refused o) = unchanged s o
 carried s k gone (Replaced d) = rewritten_in s d.class k d.item.value d.item.flags d.item.moment gone d.answer
 
+-- what it takes out of the index
 abbrev pub carried_removals : {A : Type 0} → State → List ℕ → Plan A → List Removal
 carried_removals s k Missing = look_removals s k
 carried_removals s k (Refused o) = []
@@ -39,6 +41,7 @@ pub record Drafted {A : Type 0} (s : State) (k : List ℕ) (d : Draft A) : Type 
   pub item : d.item ≡ new_item s k d.item.value d.item.flags d.item.moment
   pub fits : class_of s.fixed (footprint_of d.item) ≡ Some d.class
 
+-- a draft is one of the key
 abbrev pub Fits : {A : Type 0} → State → List ℕ → Plan A → Type 0
 Fits s k Missing = Unit {0}
 Fits s k (Refused o) = Unit {0}

@@ -10,6 +10,7 @@ abbrev pub held_item : ChunkRef → Option PlainItem → Option (ChunkRef × Pla
 held_item x None = None
 held_item x (Some i) = Some (x, i)
 
+-- the chunk with what it holds now
 abbrev pub held : State → Option ChunkRef → Option (ChunkRef × PlainItem)
 held s None = None
 held s (Some x) = held_item x (item_at s x)

@@ -16,9 +16,11 @@ abbrev pub read_need : ℕ → State → Option PlainItem → ℕ
 read_need more s None = 0
 read_need more s (Some i) = cond (is_dead s.globals i) 4 (hit_need i.bits + more)
 
+-- the same by the chunk of the key
 abbrev pub led_need : ℕ → State → Option ChunkRef → ℕ
 led_need more s None = 0
 led_need more s (Some x) = read_need more s (item_at s x)
 
+-- the same by the key
 abbrev pub access_need : ℕ → State → List ℕ → ℕ
 access_need more s k = led_need more s (find s k)

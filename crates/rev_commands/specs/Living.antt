@@ -7,6 +7,7 @@ use Rattle.rev_model.specs.State.{State}
 use Rattle.rev_model.specs.declared.ChunkRef.{ChunkRef}
 use Rattle.rev_model.specs.Client.{lookup}
 
+-- the item of what was found
 abbrev pub item_of : Option (ChunkRef × PlainItem) → Option PlainItem
 item_of o = option_map (λ f. f.1) o
 

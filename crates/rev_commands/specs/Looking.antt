@@ -12,10 +12,12 @@ abbrev pub dead_need : Globals → Option PlainItem → ℕ
 dead_need g None = 0
 dead_need g (Some i) = cond (is_dead g i) 4 0
 
+-- the same by the chunk of the key
 abbrev pub looked_need : State → Option ChunkRef → ℕ
 looked_need s None = 0
 looked_need s (Some x) = dead_need s.globals (item_at s x)
 
+-- of a lookup
 abbrev pub look_need : State → List ℕ → ℕ
 look_need s k = looked_need s (find s k)
 
@@ -24,5 +26,6 @@ abbrev pub found_need : Option ChunkRef → ℕ
 found_need None = 0
 found_need (Some x) = 4
 
+-- of a lookup and of what it found
 abbrev pub removal_need : State → List ℕ → ℕ
 removal_need s k = found_need (find s k)

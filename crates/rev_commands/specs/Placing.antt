@@ -23,6 +23,7 @@ abbrev pub settled_item_by : ℕ → ChunkRef → PlainItem → State × Option 
 settled_item_by c x i (s, old) None = (linked c x i (removed old s), Stored)
 settled_item_by c x i (s, old) (Some o) = (freed c x s, o)
 
+-- the same by what the lookup found
 abbrev pub settled_item : Verb → ℕ → ChunkRef → PlainItem → State × Option (ChunkRef × PlainItem) → State × Outcome
 settled_item v c x i (s, old) = settled_item_by c x i (s, old) (refusal v old)
 

@@ -7,11 +7,13 @@ use Rattle.rev_model.specs.declared.Outcome.TheVariants.{Stored, NotStored}
 use Rattle.rev_model.specs.Client.{rewritten_room}
 use Rattle.rev_model.specs.Pull.{room}
 
+-- room for the new item, and then what is done with the chunk
 unfoldable pub rewritten_in : State → ℕ → List ℕ → List ℕ → ℕ → ℕ → Outcome → Outcome → State × Outcome
 rewritten_in s c k value flags m gone done = rewritten_room c k value flags m gone done (room s c)
 
 -- ---- as replace does it, but for what is answered
 
+-- `done` for a replace that stores, and `gone` for one that finds nothing
 abbrev pub named : Outcome → Outcome → Outcome → Outcome
 named gone done Stored = done
 named gone done NotStored = gone

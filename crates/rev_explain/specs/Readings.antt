@@ -38,6 +38,7 @@ abbrev pub keyed_through : List ℕ → List Move → ChunkRef → ControlFlow B
 keyed_through k [] x = Continue x
 keyed_through k (m ∷ ms) x = or_before (keyed_after k m x) (keyed_through k ms)
 
+-- the same of the queue
 abbrev pub queue_through : List Move → ChunkRef → ControlFlow (Option ClassQueue) ChunkRef
 queue_through [] x = Continue x
 queue_through (m ∷ ms) x = or_before (queue_after m x) (queue_through ms)

@@ -23,6 +23,7 @@ abbrev pub row_events : State → List (Option Row) → List ℕ → ℕ → Opt
 row_events root rows k n None = []
 row_events root rows k n (Some r) = told n (event (at root rows r.parent) r.step k)
 
+-- the events of the key at these nodes
 abbrev pub events_along : State → List (Option Row) → List ℕ → List ℕ → List Event
 events_along root rows k [] = []
 events_along root rows k (n ∷ ns) = row_events root rows k n (row_of rows n) ++ events_along root rows k ns
@@ -31,6 +32,7 @@ events_along root rows k (n ∷ ns) = row_events root rows k n (row_of rows n) +
 abbrev pub story : State → List (Option Row) → ℕ → List ℕ → List Event
 story root rows n k = events_along root rows k (lineage rows n)
 
+-- where an event tells that the key left, that; else w
 abbrev pub left_or : Why → NodeId → EventKind → Why
 left_or w n (kind.Left c) = why.Left n c
 left_or w n (kind.Stored q) = w

@@ -14,6 +14,7 @@ use Rattle.rev_items.specs.Hash.{hash_of}
 abbrev pub ChainPlace : Type 0
 ChainPlace = Place Bucket ChunkRef
 
+-- what stands behind and before a place
 abbrev pub ChainLink : Type 0
 ChainLink = Link Bucket ChunkRef
 
@@ -30,6 +31,7 @@ link_at ends links (At x) = cell_at links x.page x.slot
 abbrev pub next_in : List ChainLink → List (List ChainLink) → ChainPlace → Option ChainPlace
 next_in ends links p = option_map (λ l. l.next) (link_at ends links p)
 
+-- the place before a place
 abbrev pub previous_in : List ChainLink → List (List ChainLink) → ChainPlace → Option ChainPlace
 previous_in ends links p = option_map (λ l. l.previous) (link_at ends links p)
 

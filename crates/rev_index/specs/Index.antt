@@ -27,6 +27,7 @@ abbrev pub bound : ChunkRef → Option PlainItem → Keys → Keys
 bound x None m = m
 bound x (Some i) m = map.insert m i.key x
 
+-- without the key of the item
 abbrev pub unbound : Option PlainItem → Keys → Keys
 unbound None m = m
 unbound (Some i) m = map.remove m i.key

@@ -17,6 +17,7 @@ abbrev pub made_from : ℕ → List (List (Option PlainItem)) → Contents
 made_from p [] = map.empty
 made_from p (l ∷ ls) = made_slots p 0 l (made_from (suc p) ls)
 
+-- all pages
 abbrev pub made : List (List (Option PlainItem)) → Contents
 made ls = made_from 0 ls
 

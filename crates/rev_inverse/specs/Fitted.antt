@@ -10,6 +10,7 @@ use Rattle.rev_queues.specs.Entries.{Queued}
 use Rattle.rev_queues.specs.QueueState.{QueuesState}
 use Rattle.rev_index.specs.Index.{PlainIndex}
 
+-- the parts of a store fit one another, where the bump queue has this capacity
 pub record Fitted (f : Fixed) (pages : PagesState) (queues : QueuesState) (index : PlainIndex) (capacity : ℕ) : Type 0 where
   -- there is room for every page that may be made, and each page has the slots of its class in each part
   pub table : length pages.slots ≡ f.limit + 62

@@ -5,6 +5,7 @@ use Rattle.rev_items.specs.Hash.{hash_of}
 use Rattle.rev_items.specs.declared.bytes.Place.{Place}
 use Rattle.rev_items.specs.declared.bytes.Place.TheVariants.{Inline, Heap}
 
+-- the bytes in a place
 abbrev pub bytes_at : {A : Type 0} → Place A → List ℕ
 bytes_at (Inline count _ bytes) = take count bytes
 bytes_at (Heap _ bytes) = bytes.items

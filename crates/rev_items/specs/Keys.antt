@@ -11,5 +11,6 @@ is_key_byte b = nat_lt 32 b && not (b == 127)
 abbrev pub is_key : List ℕ → Bool
 is_key bytes = nat_lt 0 (length bytes) && (nat_le (length bytes) 250 && list_all is_key_byte bytes)
 
+-- the same as a fact
 abbrev pub IsKey : List ℕ → Type 0
 IsKey bytes = is_key bytes ≡ true

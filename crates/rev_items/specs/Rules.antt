@@ -9,6 +9,7 @@ use Rattle.rev_items.specs.Plain.{PlainItem}
 abbrev pub footprint : (key_length flags data_length : ℕ) → ℕ
 footprint key_length flags data_length = 56 + key_length + 1 + cond (nat_eq flags 0) 0 4 + data_length + 2
 
+-- the same of an item
 abbrev pub footprint_of : PlainItem → ℕ
 footprint_of i = footprint (length i.key) i.flags (length i.value)
 

@@ -18,6 +18,7 @@ use Rattle.rev_model.specs.declared.Queue.TheVariants.{Warm, Cold}
 abbrev pub is_asked : State → BumpEntry → PlainItem → Bool
 is_asked s b i = nat_eq i.cas b.cas && (i.bits.active && has same_entry (Chunk b.chunk) (queue_of s (owner_of s b.chunk.page) Cold))
 
+-- what is read of that item
 abbrev pub asked_item : State → BumpEntry → Option PlainItem → Option ItemHeader
 asked_item s b None = None
 asked_item s b (Some i) = cond (is_asked s b i) (Some (header_of i)) None
@@ -26,10 +27,12 @@ asked_item s b (Some i) = cond (is_asked s b i) (Some (header_of i)) None
 abbrev pub asked : State → BumpEntry → Option ItemHeader
 asked s b = asked_item s b (item_at s b.chunk)
 
+-- one move for the entry, four for the item
 abbrev pub entry_need : Option ItemHeader → ℕ
 entry_need None = 1
 entry_need (Some g) = 5
 
+-- the moves of a bump, by the bump queue
 abbrev pub need_from : State → List BumpEntry → ℕ
 need_from s [] = 0
 need_from s (b ∷ bs) = entry_need (asked s b)

@@ -33,24 +33,30 @@ live_removals Warm m i = []
 live_removals Cold m i = cond (evicts m) (removal (Some i) (Some Evicted)) []
 live_removals Temp m i = []
 
+-- of an item: a dead one is reclaimed
 abbrev pub item_removals : State → Queue → PullMode → Option PlainItem → List Removal
 item_removals s q m None = []
 item_removals s q m (Some i) = cond (is_dead s.globals i) (removal (Some i) (Some ReclaimedByPull)) (live_removals q m i)
 
+-- of the entry that the pull looks at
 abbrev pub tail_removals : State → Queue → PullMode → Option ChunkRef → List Removal
 tail_removals s q m None = []
 tail_removals s q m (Some x) = item_removals s q m (item_at s x)
 
+-- of a pull
 abbrev pub pull_removals : State → ℕ → Queue → PullMode → List Removal
 pull_removals s c q m = tail_removals s q m (tail (queue_of s c q))
 
+-- of the pull of a round: COLD evicts, or HOT is pulled where COLD holds no item
 abbrev pub squeeze_removals_by : State → ℕ → Option ChunkRef → List Removal
 squeeze_removals_by s c (Some x) = pull_removals s c Cold Evicting
 squeeze_removals_by s c None = pull_removals s c Hot ShareZero
 
+-- of a round that gets no chunk
 abbrev pub squeeze_removals : State → ℕ → List Removal
 squeeze_removals s c = squeeze_removals_by s c (tail (queue_of s c Cold))
 
+-- nothing where there is a chunk, or else these
 abbrev pub none_or : Option (State × ChunkRef) → List Removal → List Removal
 none_or (Some r) rs = []
 none_or None rs = rs
@@ -60,6 +66,7 @@ abbrev pub room_removals_by : ℕ → State → ℕ → List Removal
 room_removals_by zero s c = []
 room_removals_by (suc k) s c = none_or (given s c) (squeeze_removals s c ++ room_removals_by k (squeezed s c) c)
 
+-- of room: ten rounds
 abbrev pub room_removals : State → ℕ → List Removal
 room_removals s c = room_removals_by 10 s c
 
@@ -69,6 +76,7 @@ abbrev pub dead_removals : State → Option PlainItem → List Removal
 dead_removals s None = []
 dead_removals s (Some i) = cond (is_dead s.globals i) (removal (Some i) (Some ReclaimedByHit)) []
 
+-- of a lookup, by the chunk of the key
 abbrev pub looked_removals : State → Option ChunkRef → List Removal
 looked_removals s None = []
 looked_removals s (Some x) = dead_removals s (item_at s x)
@@ -77,6 +85,7 @@ looked_removals s (Some x) = dead_removals s (item_at s x)
 abbrev pub look_removals : State → List ℕ → List Removal
 look_removals s k = looked_removals s (find s k)
 
+-- of what a lookup found, where it goes for this cause
 abbrev pub found_removals : Option Cause → Option (ChunkRef × PlainItem) → List Removal
 found_removals cause None = []
 found_removals cause (Some (x, i)) = removal (Some i) cause
@@ -99,6 +108,7 @@ abbrev pub settled_removals : Option (ChunkRef × PlainItem) → Option Outcome 
 settled_removals old None = found_removals None old
 settled_removals old (Some o) = []
 
+-- behind room: without a chunk nothing is stored; else the lookup, and what makes way
 abbrev pub after_room : Verb → List ℕ → State × Option ChunkRef → List Removal
 after_room v k (t, None) = failed_removals v t k
 after_room v k (t, Some x) = look_removals t k ++ settled_removals (lookup t k).1 (refusal v (lookup t k).1)
@@ -107,10 +117,12 @@ after_room v k (t, Some x) = look_removals t k ++ settled_removals (lookup t k).
 unfoldable pub store_in_removals : State → Verb → ℕ → List ℕ → List Removal
 store_in_removals s v c k = room_removals s c ++ after_room v k (room s c)
 
+-- of the verbs, by the class of the new item
 abbrev pub stored_removals : State → Verb → List ℕ → Option ℕ → List Removal
 stored_removals s v k None = failed_removals v s k
 stored_removals s v k (Some c) = store_in_removals s v c k
 
+-- of set, add, replace and cas
 abbrev pub store_removals : State → Verb → List ℕ → ℕ → Payload → List Removal
 store_removals s v k flags d = stored_removals s v k (class_for s k flags d)
 
@@ -121,9 +133,11 @@ abbrev pub after_rewrite : List ℕ → State × Option ChunkRef → List Remova
 after_rewrite k (t, None) = []
 after_rewrite k (t, Some x) = clear_removals None t k
 
+-- of an item of class c that takes the place of another
 unfoldable pub rewrite_in_removals : State → ℕ → List ℕ → List Removal
 rewrite_in_removals s c k = room_removals s c ++ after_rewrite k (room s c)
 
+-- by the class of the new item
 abbrev pub rewritten_removals : State → List ℕ → Option ℕ → List Removal
 rewritten_removals s k None = []
 rewritten_removals s k (Some c) = rewrite_in_removals s c k
@@ -132,20 +146,25 @@ rewritten_removals s k (Some c) = rewrite_in_removals s c k
 abbrev pub rewrite_removals : State → PlainItem → Payload → List Removal
 rewrite_removals s i d = rewritten_removals s i.key (class_for s i.key i.flags d)
 
+-- of append and prepend, behind the first lookup
 abbrev pub join_found_removals : Side → Payload → State × Option (ChunkRef × PlainItem) → List Removal
 join_found_removals side d (s, None) = []
 join_found_removals side d (s, Some (x, i)) = rewrite_removals s i (joined side i.value d)
 
+-- of append and prepend
 abbrev pub join_removals : State → Side → List ℕ → Payload → List Removal
 join_removals s side k d = look_removals s k ++ join_found_removals side d (lookup s k)
 
+-- of incr and decr, behind the first lookup
 abbrev pub count_found_removals : Sum → ℕ → State × Option (ChunkRef × PlainItem) → List Removal
 count_found_removals side d (s, None) = []
 count_found_removals side d (s, Some (x, i)) = cond (is_number i.value) (rewrite_removals s i (Bytes (decimal (summed side (digits_from 0 i.value) d)))) []
 
+-- of incr and decr
 abbrev pub count_removals : State → Sum → List ℕ → ℕ → List Removal
 count_removals s side k d = look_removals s k ++ count_found_removals side d (lookup s k)
 
+-- of a client's step
 abbrev pub client_removals : State → ClientStep → List Removal
 client_removals s (Stores v k flags e d) = store_removals s v k flags d
 client_removals s (Joins side k d) = join_removals s side k d
@@ -161,6 +180,7 @@ abbrev pub crawl_item_removals : State → Option PlainItem → List Removal
 crawl_item_removals s None = []
 crawl_item_removals s (Some i) = cond (is_dead s.globals i) (removal (Some i) (Some ReclaimedByCrawler)) []
 
+-- of the entry in front of the mark
 abbrev pub crawl_entry_removals : State → Option Entry → List Removal
 crawl_entry_removals s None = []
 crawl_entry_removals s (Some (Chunk x)) = crawl_item_removals s (item_at s x)
@@ -170,10 +190,12 @@ crawl_entry_removals s (Some Mark) = []
 abbrev pub crawl_removals : State → ℕ → Queue → List Removal
 crawl_removals s c q = cond (is_class s c) (cond (has same_entry Mark (queue_of s c q)) (crawl_entry_removals s (before same_entry Mark (queue_of s c q))) []) []
 
+-- of a live item that the mover comes to
 abbrev pub rescue_removals : PlainItem → Option ChunkRef → List Removal
 rescue_removals i None = removal (Some i) (Some EvictedByMover)
 rescue_removals i (Some y) = []
 
+-- of what stands in a chunk that the mover comes to
 abbrev pub cleared_removals : State → ℕ → ChunkRef → Option PlainItem → List Removal
 cleared_removals s c x None = []
 cleared_removals s c x (Some i) = cond (is_dead s.globals i) (removal (Some i) (Some ReclaimedByMover)) (rescue_removals i (spare x.page (free_of s c)))
@@ -183,9 +205,11 @@ abbrev pub advance_removals_of : State → Option Mover → List Removal
 advance_removals_of s None = []
 advance_removals_of s (Some m) = cond (nat_eq m.slot (per_page s.fixed m.src)) [] (cleared_removals s m.src record { page = m.page; slot = m.slot } (item_at s record { page = m.page; slot = m.slot }))
 
+-- of a step of the page mover
 abbrev pub advance_removals : State → List Removal
 advance_removals s = advance_removals_of s s.globals.mover
 
+-- of the maintainer's pull
 abbrev pub pull_step_removals : State → ℕ → Queue → List Removal
 pull_step_removals s c q = cond (is_class s c) (pull_removals s c q Plain) []
 

@@ -12,6 +12,7 @@ use Rattle.rev_model.specs.declared.Entry.TheVariants.{Chunk, Mark}
 abbrev pub same_chunk : ChunkRef → ChunkRef → Bool
 same_chunk a b = (a.page == b.page) && (a.slot == b.slot)
 
+-- the same chunk, or both the mark
 abbrev pub same_entry : Entry → Entry → Bool
 same_entry (Chunk a) (Chunk b) = same_chunk a b
 same_entry (Chunk a) Mark = false
@@ -22,6 +23,7 @@ same_entry Mark Mark = true
 abbrev pub chunk_cmp : ChunkRef → ChunkRef → Ordering
 chunk_cmp a b = ordering_then (nat_cmp a.page b.page) (nat_cmp a.slot b.slot)
 
+-- the code of a chunk: its page and its slot
 abbrev pub coded_chunk : Coded ChunkRef
 coded_chunk = code_by (ℕ × ℕ) (coded× coded_ℕ coded_ℕ) (λ c. (c.page, c.slot)) (λ p. record { page = p.0; slot = p.1 }) (λ _. refl)
 
@@ -29,6 +31,7 @@ coded_chunk = code_by (ℕ × ℕ) (coded× coded_ℕ coded_ℕ) (λ c. (c.page,
 abbrev pub HasSlot : List ℕ → ChunkRef → Type 0
 HasSlot slots x = (x.page < length slots) × (x.slot < slice_index slots x.page)
 
+-- the same of an entry; a mark needs none
 abbrev pub EntryHasSlot : List ℕ → Entry → Type 0
 EntryHasSlot slots (Chunk x) = HasSlot slots x
 EntryHasSlot slots Mark = Unit {0}

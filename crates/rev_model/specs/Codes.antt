@@ -7,6 +7,7 @@ use Rattle.rev_items.specs.Plain.{PlainItem}
 use Rattle.rev_model.specs.Chunk.{coded_chunk}
 use Rattle.rev_model.specs.State.{Contents, Keys}
 
+-- the code of an item: all its fields
 abbrev pub coded_item : Coded PlainItem
 coded_item =
     code_by (List ℕ × (List ℕ × (ℕ × (ℕ × (ℕ × (ℕ × (Bool × Bool)))))))
@@ -15,8 +16,10 @@ coded_item =
     (λ p. record { key = p.0; value = p.1.0; flags = p.1.1.0; moment = p.1.1.1.0; time = p.1.1.1.1.0; cas = p.1.1.1.1.1.0; bits = record { fetched = p.1.1.1.1.1.1.0; active = p.1.1.1.1.1.1.1 } })
     (λ _. refl)
 
+-- the code of the map from chunks to items
 abbrev pub coded_contents : Coded Contents
 coded_contents = map.code coded_chunk coded_item
 
+-- the code of the map from keys to chunks
 abbrev pub coded_keys : Coded Keys
 coded_keys = map.code (coded_list coded_ℕ) coded_chunk

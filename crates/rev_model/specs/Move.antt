@@ -47,9 +47,11 @@ pub data Move : Type 0 where
   MarksIn : ClassSet → Move
   MarksOut : ClassSet → Move
 
+-- the state with this free list of class c
 abbrev pub with_free : State → ℕ → List ChunkRef → State
 with_free s c l = record s { free = slice_set s.free c l }
 
+-- the state with this queue of class c
 abbrev pub with_queue : State → ℕ → Queue → List Entry → State
 with_queue s c q l = record s { queues = slice_set s.queues (queue_place c q) l }
 
@@ -58,9 +60,11 @@ abbrev pub put_at : {K X : Type 0} {R : K → K → Ordering} → map.FinMap R X
 put_at m k None = map.remove m k
 put_at m k (Some x) = map.insert m k x
 
+-- the item with these bits, time and moment
 abbrev pub touched : Touched → PlainItem → PlainItem
 touched t i = record i { bits = t.bits; time = t.time; moment = t.moment }
 
+-- the item's bits, time and moment
 abbrev pub touched_of : PlainItem → Touched
 touched_of i = record { bits = i.bits; time = i.time; moment = i.moment }
 
@@ -69,6 +73,7 @@ abbrev pub bound : ChunkRef → Option PlainItem → State → State
 bound x None s = s
 bound x (Some i) s = record s { index = map.insert s.index i.key x }
 
+-- the state without the key of the item
 abbrev pub unbound : Option PlainItem → State → State
 unbound None s = s
 unbound (Some i) s = record s { index = map.remove s.index i.key }
@@ -79,6 +84,7 @@ front [] = []
 front (x ∷ []) = []
 front (x ∷ y ∷ ys) = x ∷ front (y ∷ ys)
 
+-- the last, d where there is none
 abbrev pub last_or {ℓ} : {X : Type ℓ} → X → List X → X
 last_or d [] = d
 last_or d (x ∷ xs) = last_or x xs
@@ -88,24 +94,29 @@ abbrev pub falling : ℕ → ℕ → List ChunkRef
 falling p zero = []
 falling p (suc n) = record { page = p; slot = n } ∷ falling p n
 
+-- page p gets class c and n chunks, by its form
 abbrev pub laid : ℕ → ℕ → ℕ → Form → State → State
 laid p c n Fresh s = record s { owner = s.owner ++ c ∷ []; free = slice_set s.free c (falling p n ++ free_of s c) }
 laid p c n Pool s = record s { owner = slice_set s.owner p c; free = slice_set s.free c (falling p n ++ free_of s c) }
 laid p c n Withdrawn s = record s { owner = slice_set s.owner p c }
 
+-- page p of class c loses its n chunks, by its form
 abbrev pub lifted : ℕ → ℕ → ℕ → Form → State → State
 lifted p c n Fresh s = record s { owner = front s.owner; free = slice_set s.free c (drop n (free_of s c)) }
 lifted p c n Pool s = record s { owner = slice_set s.owner p 0; free = slice_set s.free c (drop n (free_of s c)) }
 lifted p c n Withdrawn s = record s { owner = slice_set s.owner p 0 }
 
+-- what puts back the front entry of the bump queue, which was taken out
 abbrev pub out_of : List BumpEntry → Move
 out_of [] = BumpsOut
 out_of (b ∷ bs) = BumpsFront b
 
+-- what puts back the last entry of the bump queue, which was taken out
 abbrev pub back_of : List BumpEntry → Move
 back_of [] = BumpsBack
 back_of (b ∷ bs) = BumpsIn (last_or b bs)
 
+-- the bits, time and moment that the item had
 abbrev pub retouched : Touched → Option PlainItem → Touched
 retouched t None = t
 retouched t (Some i) = touched_of i
@@ -165,6 +176,7 @@ abbrev pub marked : (ℕ → Bool) → ℕ → List (List Entry) → List (List 
 marked named p [] = []
 marked named p (l ∷ ls) = cond (named (p / 4)) (l ++ Mark ∷ []) l ∷ marked named (suc p) ls
 
+-- the same queues lose their last entry, which is the mark
 abbrev pub unmarked : (ℕ → Bool) → ℕ → List (List Entry) → List (List Entry)
 unmarked named p [] = []
 unmarked named p (l ∷ ls) = cond (named (p / 4)) (front l) l ∷ unmarked named (suc p) ls
@@ -232,6 +244,7 @@ MayEnter s c q Mark = has same_entry Mark (queue_of s c q) ≡ false
 abbrev pub HoldsNoItem : State → ℕ → Type 0
 HoldsNoItem s p = (x : ChunkRef) → x.page ≡ p → item_at s x ≡ None
 
+-- a fresh page is the next one; of the others the page is there and in the pool
 abbrev pub PageReady : ℕ → Form → State → Type 0
 PageReady p Fresh s = p ≡ length s.owner
 PageReady p Pool s = (p < length s.owner) × (owner_of s p ≡ 0)

@@ -28,6 +28,7 @@ abbrev pub is_held : Option ChunkRef → ChunkRef → Bool
 is_held None x = false
 is_held (Some h) x = same_chunk x h
 
+-- in how many ways the chunk is out of all lists: withdrawn, or held
 abbrev pub away : Option Mover → Option ChunkRef → ChunkRef → ℕ
 away m h x = cond (is_withdrawn m x) 1 0 + cond (is_held h x) 1 0
 
@@ -41,6 +42,7 @@ pub record Filed (f : Fixed) (owner : List ℕ) (queues : List (List Entry)) (co
   pub keyed : (x : ChunkRef) (i : PlainItem) → map.get content x ≡ Some i → map.get index i.key ≡ Some x
   pub class : (x : ChunkRef) (i : PlainItem) → map.get content x ≡ Some i → class_of f (footprint_of i) ≡ Some (slice_index owner x.page)
 
+-- a page that is under way is one of at least two of its class, and goes to another class or to the pool
 abbrev pub MoverSound : Fixed → List ℕ → Option Mover → Type 0
 MoverSound f owner None = Unit {0}
 MoverSound f owner (Some m) = (0 < m.src) × (m.src ≤ length f.sizes) × (m.dst ≤ length f.sizes) × (m.dst ≢ m.src) × (m.page < length owner) × (slice_index owner m.page ≡ m.src) × (m.slot ≤ per_page f m.src) × (2 ≤ owned_pages m.src owner)
@@ -50,6 +52,7 @@ abbrev pub owning : ℕ → List ℕ → ℕ
 owning zero owner = 0
 owning (suc c) owner = cond (nat_lt 0 (owned_pages (suc c) owner)) 1 0 + owning c owner
 
+-- the settings are within the limits of `lru tune`
 pub record SettingsSound (g : Settings) : Type 0 where
   pub hot : (1 ≤ g.hot_share) × (g.hot_share ≤ 79)
   pub warm : (1 ≤ g.warm_share) × (g.warm_share ≤ 79)
@@ -62,18 +65,21 @@ pub record TableSound (f : Fixed) : Type 0 where
   pub limit : f.limit ≤ 4096
   pub bump : f.bump_room ≤ 4096
 
+-- what no item speaks of: the mover, the number of pages, the settings, the class table
 pub record Kept (f : Fixed) (owner : List ℕ) (m : Option Mover) (g : Settings) : Type 0 where
   pub mover : MoverSound f owner m
   pub pages : length owner ≤ f.limit + owning (length f.sizes) owner
   pub settings : SettingsSound g
   pub table : TableSound f
 
+-- sound, but for the chunk h, which a step holds
 pub record SoundBut (h : Option ChunkRef) (s : State) : Type 0 where
   pub well : WellFormed s
   pub placed : Placed s.fixed s.owner s.free s.queues s.globals.mover h
   pub filed : Filed s.fixed s.owner s.queues s.content s.index
   pub kept : Kept s.fixed s.owner s.globals.mover s.globals.settings
 
+-- sound between steps
 abbrev pub Sound : State → Type 0
 Sound s = SoundBut None s
 

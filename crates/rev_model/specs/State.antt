@@ -19,9 +19,11 @@ use Rattle.rev_model.specs.declared.Counter.TheVariants.{Evicted, Reclaimed, Cra
 use Rattle.rev_model.specs.declared.BumpEntry.{BumpEntry}
 use Rattle.rev_model.specs.declared.Globals.{Globals}
 
+-- chunk to item
 abbrev pub Contents : Type 0
 Contents = map.FinMap chunk_cmp PlainItem
 
+-- key to chunk
 abbrev pub Keys : Type 0
 Keys = map.FinMap (slice_cmp nat_cmp) ChunkRef
 
@@ -33,6 +35,7 @@ pub record Fixed : Type 0 where
   pub limit : ℕ
   pub bump_room : ℕ
 
+-- a store
 pub record State : Type 0 where
   -- page to class, 0 for the pool
   pub owner : List ℕ
@@ -48,15 +51,18 @@ pub record State : Type 0 where
   pub globals : Globals
   pub fixed : Fixed
 
+-- the number of a queue among its class's four
 abbrev pub queue_number : Queue → ℕ
 queue_number Hot = 0
 queue_number Warm = 1
 queue_number Cold = 2
 queue_number Temp = 3
 
+-- the place of a queue of class c among all
 abbrev pub queue_place : ℕ → Queue → ℕ
 queue_place c q = 4 * c + queue_number q
 
+-- the number of a counter among its class's seven
 abbrev pub counter_number : Counter → ℕ
 counter_number Evicted = 0
 counter_number Reclaimed = 1
@@ -66,27 +72,35 @@ counter_number MovesToCold = 4
 counter_number MovesToWarm = 5
 counter_number MovesWithinLru = 6
 
+-- the place of a counter of class c among all
 abbrev pub counter_place : ℕ → Counter → ℕ
 counter_place c k = 7 * c + counter_number k
 
+-- the free list of class c
 abbrev pub free_of : State → ℕ → List ChunkRef
 free_of s c = slice_index_or s.free c []
 
+-- a queue of class c
 abbrev pub queue_of : State → ℕ → Queue → List Entry
 queue_of s c q = slice_index_or s.queues (queue_place c q) []
 
+-- a counter of class c
 abbrev pub counter_of : State → ℕ → Counter → ℕ
 counter_of s c k = slice_index s.counters (counter_place c k)
 
+-- the class of page p
 abbrev pub owner_of : State → ℕ → ℕ
 owner_of s p = slice_index s.owner p
 
+-- the item in a chunk
 abbrev pub item_at : State → ChunkRef → Option PlainItem
 item_at s x = map.get s.content x
 
+-- the chunk of a key
 abbrev pub find : State → List ℕ → Option ChunkRef
 find s k = map.get s.index k
 
+-- the classes are numbered from 1 to this
 abbrev pub last_class : State → ℕ
 last_class s = length s.fixed.sizes
 
@@ -98,6 +112,7 @@ per_page f c = cond (nat_eq c 0) 0 (f.page_size / slice_index f.sizes (c - 1))
 abbrev pub stands_in : List (List ChunkRef) → List (List Entry) → ChunkRef → ℕ
 stands_in free queues x = sum_by (count same_chunk x) free + sum_by (count same_entry (Chunk x)) queues
 
+-- the same in a state
 abbrev pub stands : State → ChunkRef → ℕ
 stands s x = stands_in s.free s.queues x
 
@@ -131,6 +146,7 @@ pub record WellOwned (f : Fixed) (owner : List ℕ) : Type 0 where
   pub owners : (p : ℕ) → slice_index owner p ≤ length f.sizes
   pub pages : length owner ≤ f.limit + 62
 
+-- what every state between two moves keeps
 pub record WellFormed (s : State) : Type 0 where
   pub lists : WellListed s.fixed s.owner s.free s.queues
   pub filled : WellFilled s.fixed s.owner s.free s.queues s.content

@@ -24,6 +24,7 @@ use Rattle.rev_model.specs.declared.KeyChange.{KeyChange}
 abbrev pub held : State → List ℕ → Bool
 held s k = is_some (find s k)
 
+-- the chunk stands in this queue
 abbrev pub sits_in : State → ChunkRef → ℕ → Queue → Bool
 sits_in s x c q = has same_entry (Chunk x) (queue_of s c q)
 
@@ -35,13 +36,16 @@ class_queue_within s x c =
     (cond (sits_in s x c Cold) (Some (record { class = c; queue = Cold }))
     (cond (sits_in s x c Temp) (Some (record { class = c; queue = Temp })) None)))
 
+-- the class and the queue in which the chunk stands
 abbrev pub class_queue_in : State → ChunkRef → Option ClassQueue
 class_queue_in s x = class_queue_within s x (owner_of s x.page)
 
+-- the chunk, and where it stands
 abbrev pub key_place_at : State → Option ChunkRef → Option KeyPlace
 key_place_at s None = None
 key_place_at s (Some x) = Some (record { chunk = x; lru = class_queue_in s x })
 
+-- where the key is
 abbrev pub key_place_of : State → List ℕ → Option KeyPlace
 key_place_of s k = key_place_at s (find s k)
 
@@ -50,10 +54,12 @@ key_place_of s k = key_place_at s (find s k)
 abbrev pub same_key : List ℕ → List ℕ → Bool
 same_key k l = eq_by_cmp (slice_cmp nat_cmp) k l
 
+-- there is an item, and it has the key
 abbrev pub has_key : List ℕ → Option PlainItem → Bool
 has_key k None = false
 has_key k (Some i) = same_key k i.key
 
+-- the chunk is x
 abbrev pub is_chunk : Option ChunkRef → ChunkRef → Bool
 is_chunk None x = false
 is_chunk (Some y) x = same_chunk x y
@@ -65,10 +71,12 @@ keyed k home (Fills y o ∷ ms) x = cond (same_chunk x y) (has_key k o) (keyed k
 keyed k home (Shifts a b ∷ ms) x = cond (same_chunk x b) (keyed k home ms a) (cond (same_chunk x a) false (keyed k home ms x))
 keyed k home (m ∷ ms) x = keyed k home ms x
 
+-- the note beside the first move
 abbrev pub first_note : List (Option Cause) → Option Cause
 first_note [] = None
 first_note (n ∷ ns) = n
 
+-- the notes beside the others
 abbrev pub more_notes : List (Option Cause) → List (Option Cause)
 more_notes [] = []
 more_notes (n ∷ ns) = ns
@@ -86,6 +94,7 @@ key_change k home (Unbinds x ∷ ms) ns = cond (keyed k home ms x) (Some (record
 key_change k home (Shifts a b ∷ ms) ns = cond (keyed k home ms a) (Some (shift_change b (key_change k home ms (more_notes ns)))) (key_change k home ms (more_notes ns))
 key_change k home (m ∷ ms) ns = key_change k home ms (more_notes ns)
 
+-- where the key leads behind the change, `home` where nothing changed
 abbrev pub leads_or : Option ChunkRef → Option KeyChange → Option ChunkRef
 leads_or home None = home
 leads_or home (Some t) = t.leads
@@ -99,14 +108,17 @@ class_queue_before home lru (Fills y o ∷ ms) x = cond (same_chunk x y) None (c
 class_queue_before home lru (Shifts a b ∷ ms) x = cond (same_chunk x b) (class_queue_before home lru ms a) (cond (same_chunk x a) None (class_queue_before home lru ms x))
 class_queue_before home lru (m ∷ ms) x = class_queue_before home lru ms x
 
+-- the chunk of a place
 abbrev pub chunk_of : Option KeyPlace → Option ChunkRef
 chunk_of None = None
 chunk_of (Some p) = Some p.chunk
 
+-- the class and queue of a place
 abbrev pub class_queue_of : Option KeyPlace → Option ClassQueue
 class_queue_of None = None
 class_queue_of (Some p) = p.lru
 
+-- the place of the key, by its chunk before the step
 abbrev pub key_place_from : Option ChunkRef → Option ClassQueue → List Move → Option ChunkRef → Option KeyPlace
 key_place_from home lru ms None = None
 key_place_from home lru ms (Some x) = Some (record { chunk = x; lru = class_queue_before home lru ms x })
@@ -121,10 +133,12 @@ pub record Removal : Type 0 where
   pub key : List ℕ
   pub note : Option Cause
 
+-- one removal, where there was an item
 abbrev pub removal : Option PlainItem → Option Cause → List Removal
 removal None n = []
 removal (Some i) n = record { key = i.key; note = n } ∷ []
 
+-- of a record whose step left t: each binding of a key, when it is played, undoes a removal
 abbrev pub removals : List Move → List (Option Cause) → State → List Removal
 removals [] ns t = []
 removals (Binds x ∷ ms) ns t = removal (item_at (turned ms t).0 x) (first_note ns) ++ removals ms (more_notes ns) t

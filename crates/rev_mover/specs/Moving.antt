@@ -16,6 +16,7 @@ slot_chunk m = record { page = m.page; slot = m.slot }
 abbrev pub next_mover : Mover → Mover
 next_mover m = record m { slot = m.slot + 1 }
 
+-- the state with this move of a page under way, or with none
 abbrev pub with_mover : Option Mover → State → State
 with_mover m s = with_globals (record s.globals { mover = m }) s
 

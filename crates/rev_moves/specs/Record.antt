@@ -11,13 +11,16 @@ pub record Group : Type 0 where
   pub moves : List Move
   pub notes : List (Option Cause)
 
+-- the group of a change
 abbrev pub group_of : {A : Type 0} → stored.Move A → Group
 group_of m = record { moves = plain_moves m; notes = plain_notes m }
 
+-- the moves of groups, in a row
 abbrev pub moves_in : List Group → List Move
 moves_in [] = []
 moves_in (p ∷ ps) = p.moves ++ moves_in ps
 
+-- their notes
 abbrev pub notes_in : List Group → List (Option Cause)
 notes_in [] = []
 notes_in (p ∷ ps) = p.notes ++ notes_in ps

@@ -53,6 +53,7 @@ abbrev pub first_move : List plain.Move → plain.Move
 first_move [] = plain.BumpsBack
 first_move (m ∷ ms) = m
 
+-- the move that is played last
 abbrev pub plain_move : {A : Type 0} → Move A → plain.Move
 plain_move m = first_move (plain_moves m)
 

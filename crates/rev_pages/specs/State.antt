@@ -23,9 +23,11 @@ pub record PagesState : Type 0 where
 abbrev pub no_pages : ℕ → ℕ → PagesState
 no_pages lists places = record { owner = []; free = replicate lists []; slots = replicate places 0 }
 
+-- the free list of class c
 abbrev pub free_of : PagesState → ℕ → List ChunkRef
 free_of s c = slice_index_or s.free c []
 
+-- with this free list of class c
 abbrev pub with_free : PagesState → ℕ → List ChunkRef → PagesState
 with_free s c xs = record s { free = slice_set s.free c xs }
 
@@ -41,6 +43,7 @@ all_chunks = 4294967296
 unfoldable pub chain : List FreeLink → List (List FreeLink) → FreeList → List ChunkRef
 chain ends links c = walk (next_in ends links) all_chunks (End c)
 
+-- the free lists of all classes
 abbrev pub chains : List FreeLink → List (List FreeLink) → List (List ChunkRef)
 chains ends links = map (λ n. chain ends links (record { class = n })) (range_with_len 0 (length ends))
 
@@ -83,6 +86,7 @@ with_slots s page n = record s { slots = slice_set s.slots page n }
 abbrev pub with_new_page : PagesState → ℕ → ℕ → ℕ → PagesState
 with_new_page s page c n = with_slots (with_owner s (s.owner ++ c ∷ [])) page n
 
+-- page `page` of class c with n slots
 abbrev pub with_page : PagesState → ℕ → ℕ → ℕ → PagesState
 with_page s page c n = with_slots (with_owner s (slice_set s.owner page c)) page n
 

@@ -8,9 +8,11 @@ use Rattle.rev_links.specs.declared.places.Link.{Link}
 use Rattle.rev_pages.specs.declared.places.FreeList.{FreeList}
 use Rattle.rev_model.specs.declared.ChunkRef.{ChunkRef}
 
+-- a place of a free list: a class's end, or a chunk
 abbrev pub FreePlace : Type 0
 FreePlace = Place FreeList ChunkRef
 
+-- what stands behind and before a place
 abbrev pub FreeLink : Type 0
 FreeLink = Link FreeList ChunkRef
 
@@ -19,9 +21,11 @@ abbrev pub link_at : List FreeLink → List (List FreeLink) → FreePlace → Op
 link_at ends links (End c) = slice_get ends c.class
 link_at ends links (At x) = slice_get (slice_index_or links x.page []) x.slot
 
+-- the place behind a place
 abbrev pub next_in : List FreeLink → List (List FreeLink) → FreePlace → Option FreePlace
 next_in ends links p = option_map (λ l. l.next) (link_at ends links p)
 
+-- the place before a place
 abbrev pub previous_in : List FreeLink → List (List FreeLink) → FreePlace → Option FreePlace
 previous_in ends links p = option_map (λ l. l.previous) (link_at ends links p)
 

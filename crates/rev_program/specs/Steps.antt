@@ -40,6 +40,7 @@ pub record IsRefused (d : Dialect) (old new : Told) (e : ScriptFault) : Type 0 w
   pub took : Consumes old.remaining new.remaining read
   pub because : Because e d read old new
 
+-- a reader's fault as one of a script
 abbrev pub script_fault : LineFault → ScriptFault
 script_fault faults.Memory = Memory
 script_fault faults.Read = Read

@@ -12,6 +12,7 @@ pub record Queued : Type 0 where
   pub entry : Entry
   pub footprint : ℕ
 
+-- the entries alone
 abbrev pub entries : List Queued → List Entry
 entries l = map (λ (q : Queued). q.entry) l
 

@@ -13,12 +13,15 @@ use Rattle.rev_queues.specs.declared.members.Member.TheVariants.{Chunk, Mark}
 use Rattle.rev_queues.specs.declared.members.QueueSlot.{QueueSlot}
 use Rattle.rev_queues.specs.declared.members.Standing.{Standing}
 
+-- a place of a queue: a queue's end, or a member
 abbrev pub Position : Type 0
 Position = Place QueueId Member
 
+-- what stands behind and before a place
 abbrev pub PositionLink : Type 0
 PositionLink = Link QueueId Member
 
+-- a chunk's slot, if it is there
 abbrev pub slot_at : List (List QueueSlot) → ChunkRef → Option QueueSlot
 slot_at slots x = cell_at slots x.page x.slot
 
@@ -28,9 +31,11 @@ link_at ends marks slots (End c) = slice_get ends c.number
 link_at ends marks slots (At (Mark c)) = slice_get marks c.number
 link_at ends marks slots (At (Chunk x)) = option_map (λ s. s.link) (slot_at slots x)
 
+-- the place behind a place
 abbrev pub next_in : List PositionLink → List PositionLink → List (List QueueSlot) → Position → Option Position
 next_in ends marks slots p = option_map (λ l. l.next) (link_at ends marks slots p)
 
+-- the place before a place
 abbrev pub previous_in : List PositionLink → List PositionLink → List (List QueueSlot) → Position → Option Position
 previous_in ends marks slots p = option_map (λ l. l.previous) (link_at ends marks slots p)
 
@@ -38,10 +43,12 @@ previous_in ends marks slots p = option_map (λ l. l.previous) (link_at ends mar
 abbrev pub standing_at : List (List QueueSlot) → ChunkRef → Option Standing
 standing_at slots x = option_map (λ s. s.standing) (slot_at slots x)
 
+-- the bytes of a standing, 0 where a chunk stands nowhere
 abbrev pub footprint_in : Option Standing → ℕ
 footprint_in None = 0
 footprint_in (Some s) = s.footprint
 
+-- the bytes that a chunk counts
 abbrev pub footprint_of : List (List QueueSlot) → ChunkRef → ℕ
 footprint_of slots x = footprint_in (standing_at slots x)
 

@@ -47,35 +47,43 @@ StandsIn queues class x = (q : Queue) × (has same_entry (entry.Chunk x) (entrie
 abbrev pub IsClear : List (List Queued) → ℕ → Type 0
 IsClear queues page = (x : ChunkRef) → x.page ≡ page → (p : ℕ) → has same_entry (entry.Chunk x) (entries (slice_index_or queues p [])) ≡ false
 
+-- a member as an entry: each queue has a mark of its own
 abbrev pub entry_of : Member → Entry
 entry_of (Chunk x) = entry.Chunk x
 entry_of (Mark q) = entry.Mark
 
+-- an entry of queue q as a member
 abbrev pub member_of_entry : QueueId → Entry → Member
 member_of_entry q (entry.Chunk x) = Chunk x
 member_of_entry q entry.Mark = Mark q
 
+-- the place of an entry, or the end of queue q
 abbrev pub position_of : QueueId → Option Entry → Position
 position_of q None = End q
 position_of q (Some e) = At (member_of_entry q e)
 
+-- the entry at a place
 abbrev pub entry_at : Position → Option Entry
 entry_at (End q) = None
 entry_at (At m) = Some (entry_of m)
 
+-- the entry is a mark
 abbrev pub is_mark : Entry → Bool
 is_mark (entry.Chunk x) = false
 is_mark entry.Mark = true
 
+-- the chunk at a place
 abbrev pub chunk_at : Position → Option ChunkRef
 chunk_at (End q) = None
 chunk_at (At (Chunk x)) = Some x
 chunk_at (At (Mark q)) = None
 
+-- the bytes of an entry with so large a footprint
 abbrev pub bytes_told : Entry → ℕ → ℕ
 bytes_told (entry.Chunk x) n = n
 bytes_told entry.Mark n = 0
 
+-- which of all queues it is
 abbrev pub id_of : ℕ → Queue → QueueId
 id_of class queue = record { number = queue_place class queue }
 
@@ -91,9 +99,11 @@ all_members = 4294967297
 unfoldable pub chain : List PositionLink → List PositionLink → List (List QueueSlot) → QueueId → List Member
 chain ends marks slots q = walk (next_in ends marks slots) all_members (End q)
 
+-- what a queue of the tables is
 abbrev pub queue_at : List PositionLink → List PositionLink → List (List QueueSlot) → QueueId → List Queued
 queue_at ends marks slots q = map (queued slots) (chain ends marks slots q)
 
+-- what the tables are
 abbrev pub state_of : List PositionLink → List PositionLink → List (List QueueSlot) → QueuesState
 state_of ends marks slots = record { queues = map (λ n. queue_at ends marks slots (record { number = n })) (range_with_len 0 (length ends)); slots = map length slots }
 

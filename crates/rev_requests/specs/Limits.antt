@@ -10,6 +10,7 @@ pub record PlainTune : Type 0 where
   pub hot_factor : ℕ
   pub warm_factor : ℕ
 
+-- from the least to the most
 abbrev pub is_within : ℕ → ℕ → ℕ → Bool
 is_within least most n = nat_le least n && nat_le n most
 

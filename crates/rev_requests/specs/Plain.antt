@@ -20,20 +20,24 @@ use Rattle.rev_requests.specs.declared.actors.ActorStep.TheVariants as actors
 use Rattle.rev_requests.specs.declared.steps.Step.{Step}
 use Rattle.rev_requests.specs.declared.steps.Step.TheVariants as steps
 
+-- data, or how many bytes were skipped
 abbrev pub plain_payload : {A : Type 0} → Payload A → client.Payload
 plain_payload (payloads.Bytes v) = client.Bytes v
 plain_payload (payloads.Skipped n) = client.Skipped n
 
+-- the four verbs that store
 abbrev pub plain_verb : StoreVerb → client.Verb
 plain_verb verbs.Set = client.Sets
 plain_verb verbs.Add = client.Adds
 plain_verb verbs.Replace = client.Replaces
 plain_verb (verbs.Cas n) = client.Cases n
 
+-- append and prepend
 abbrev pub plain_side : JoinSide → client.Side
 plain_side sides.Append = client.Appends
 plain_side sides.Prepend = client.Prepends
 
+-- incr and decr
 abbrev pub plain_sum : Arithmetic → client.Sum
 plain_sum (sums.Increment n) = client.Increases
 plain_sum (sums.Decrement n) = client.Decreases
@@ -43,18 +47,21 @@ abbrev pub amount : Arithmetic → ℕ
 amount (sums.Increment n) = n
 amount (sums.Decrement n) = n
 
+-- a command of one key
 abbrev pub plain_keyed : KeyCommand → List ℕ → client.ClientStep
 plain_keyed commands.Get key = client.Gets key
 plain_keyed commands.Delete key = client.Deletes key
 plain_keyed (commands.Touch exptime) key = client.Touches key exptime
 plain_keyed (commands.Count a) key = client.Counts (plain_sum a) key (amount a)
 
+-- a client's step
 abbrev pub plain_client : {A : Type 0} → ClientStep A → client.ClientStep
 plain_client (clients.Store verb key flags exptime payload) = client.Stores (plain_verb verb) key flags exptime (plain_payload payload)
 plain_client (clients.Join side key payload) = client.Joins (plain_side side) key (plain_payload payload)
 plain_client (clients.Keyed command key) = plain_keyed command key
 plain_client (clients.FlushAll delay) = client.Flushes (Some delay)
 
+-- a step of an actor or of the clock
 abbrev pub plain_actor : ActorStep → actor.Step
 plain_actor (actors.Pull c q) = actor.Pull c q
 plain_actor actors.Bump = actor.Bump
@@ -65,6 +72,7 @@ plain_actor actors.Advance = actor.Advance
 plain_actor (actors.Clock now) = actor.Clock now
 plain_actor (actors.TempTtl ttl) = actor.TempTtl ttl
 
+-- any step
 abbrev pub plain_step : {A : Type 0} → Step A → actor.Step
 plain_step (steps.Client e) = actor.Client (plain_client e)
 plain_step (steps.Actor a) = plain_actor a
