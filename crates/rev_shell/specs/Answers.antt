@@ -37,9 +37,11 @@ state_of m = at m.root m.rows m.current
 abbrev pub is_full : SessionState → Bool
 is_full m = nat_eq (length m.rows) 1048576
 
+-- the node's forks would nest too deep
 abbrev pub is_too_deep : SessionState → Bool
 is_too_deep m = nat_lt (length m.rows) 1048576 && nat_lt 64 (nesting_below m.rows m.current)
 
+-- a play, or why it is refused
 unfoldable pub reply : SessionState → Step → Reply
 reply m e = cond (is_full m) TooManyNodes (cond (is_too_deep m) TooDeep (Played (outcome_of (state_of m) e)))
 
@@ -57,6 +59,7 @@ if_played (Played o) after before = after
 if_played TooManyNodes after before = before
 if_played TooDeep after before = before
 
+-- the session after a step
 abbrev pub after_step : SessionState → Step → SessionState
 after_step m e = if_played (reply m e) (played m e) m
 
@@ -66,6 +69,7 @@ or_refused (Played o) text = text
 or_refused TooManyNodes text = output (codes "SERVER_ERROR too many nodes")
 or_refused TooDeep text = output (codes "SERVER_ERROR too many nested forks")
 
+-- the text of a play's outcome
 abbrev pub reply_outcome : Reply → List ℕ
 reply_outcome (Played o) = outcome_text o
 reply_outcome TooManyNodes = []
@@ -81,6 +85,7 @@ abbrev pub is_hit : Outcome → Bool
 is_hit (outcomes.Hit len cas) = true
 is_hit _ = false
 
+-- the play was a hit
 abbrev pub was_hit : Reply → Bool
 was_hit (Played o) = is_hit o
 was_hit TooManyNodes = false
@@ -90,11 +95,13 @@ was_hit TooDeep = false
 abbrev pub value_of : Bool → Reply → State → List ℕ → List ℕ
 value_of with_cas r s k = cond (was_hit r) (found_value with_cas (item_of s k)) []
 
+-- the values of the keys that are hit, and END
 abbrev pub values : Bool → SessionState → List (List ℕ) → List ℕ
 values with_cas m [] = output (codes "END")
 values with_cas m (k ∷ ks) =
     or_refused (reply m (get k)) (value_of with_cas (reply m (get k)) (state_of m) k ++ values with_cas (after_step m (get k)) ks)
 
+-- the session after them
 abbrev pub after_gets : SessionState → List (List ℕ) → SessionState
 after_gets m [] = m
 after_gets m (k ∷ ks) = if_played (reply m (get k)) (after_gets (after_step m (get k)) ks) m
@@ -105,6 +112,7 @@ pub record MarkedSession : Type 0 where
   pub session : SessionState
   pub bookmarks : List (List ℕ × ℕ)
 
+-- a session and its bookmarks
 abbrev pub with_bookmarks : SessionState → List (List ℕ × ℕ) → MarkedSession
 with_bookmarks m marks = record { session = m; bookmarks = marks }
 
@@ -113,6 +121,7 @@ with_bookmarks m marks = record { session = m; bookmarks = marks }
 abbrev pub of_class : State → ℕ → List ℕ → List ℕ
 of_class s c text = cond (is_class s c) text (output (codes "NOCLASS"))
 
+-- what is answered to a line that begins with `:`
 abbrev pub debug_text : MarkedSession → DebugCommand → List ℕ
 debug_text d debugs.At = node_text d.session.current
 debug_text d debugs.Back = parent_text (parent_of d.session.rows d.session.current)
@@ -128,6 +137,7 @@ debug_text d debugs.Tree = tree_text d.session
 debug_text d debugs.Marks = marks_text d.bookmarks
 debug_text d (debugs.Prune n) = prune_text d.session n
 
+-- the session after it
 abbrev pub after_debug : SessionState → DebugCommand → SessionState
 after_debug m debugs.At = m
 after_debug m debugs.Back = gone_to m (parent_of m.rows m.current)
@@ -149,10 +159,12 @@ query_text m queries.Chunk k = place_text (find (state_of m) k)
 query_text m queries.Why k = why_text (why_of m.root m.rows m.current k)
 query_text m queries.Story k = events_text (story m.root m.rows m.current k)
 
+-- what is answered to a line of bookmarks
 abbrev pub bookmark_text : MarkedSession → BookmarkCommand → List ℕ → List ℕ
 bookmark_text d bookmarks.Mark name = mark_text name d.session.current
 bookmark_text d bookmarks.Goto name = goto_text d.session (marked d.bookmarks name)
 
+-- the session after it
 abbrev pub after_bookmark : MarkedSession → BookmarkCommand → List ℕ → MarkedSession
 after_bookmark d bookmarks.Mark name = with_bookmarks d.session (with_mark d.bookmarks name d.session.current)
 after_bookmark d bookmarks.Goto name = with_bookmarks (gone_by d.session (marked d.bookmarks name)) d.bookmarks

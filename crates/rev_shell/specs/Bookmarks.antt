@@ -16,9 +16,11 @@ abbrev pub with_mark : List (List ℕ × ℕ) → List ℕ → ℕ → List (Lis
 with_mark [] name n = (name, n) ∷ []
 with_mark (b ∷ bs) name n = cond (bytes_eq name b.0) ((b.0, n) ∷ bs) (b ∷ with_mark bs name n)
 
+-- the line of a bookmark
 abbrev pub mark_text : List ℕ → ℕ → List ℕ
 mark_text name n = output (codes "MARK " ++ name ++ codes " " ++ decimal n)
 
+-- the lines of all, and END
 abbrev pub marks_text : List (List ℕ × ℕ) → List ℕ
 marks_text [] = output (codes "END")
 marks_text (b ∷ bs) = mark_text b.0 b.1 ++ marks_text bs
@@ -28,6 +30,7 @@ abbrev pub goto_text : SessionState → Option ℕ → List ℕ
 goto_text m None = output (codes "NOMARK")
 goto_text m (Some n) = go_text m n
 
+-- the session at the node, if there is one
 abbrev pub gone_by : SessionState → Option ℕ → SessionState
 gone_by m None = m
 gone_by m (Some n) = gone m n

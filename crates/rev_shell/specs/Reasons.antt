@@ -11,6 +11,7 @@ use Rattle.rev_explain.specs.declared.events.Why.{Why}
 use Rattle.rev_explain.specs.declared.events.Why.TheVariants as why
 use Rattle.rev_shell.specs.Texts.{output, queue_text}
 
+-- the word of a cause
 abbrev pub cause_word : Cause → List ℕ
 cause_word Evicted = codes "evicted"
 cause_word ReclaimedByPull = codes "reclaimed_by_pull"
@@ -21,11 +22,13 @@ cause_word EvictedByMover = codes "evicted_by_mover"
 cause_word Deleted = codes "deleted"
 cause_word DroppedByFailedSet = codes "dropped_by_failed_set"
 
+-- the answer to `:why`
 abbrev pub why_text : Why → List ℕ
 why_text why.Present = output (codes "PRESENT")
 why_text why.Never = output (codes "NEVER")
 why_text (why.Left n c) = output (codes "LEFT " ++ decimal n.0 ++ codes " " ++ cause_word c)
 
+-- a class and a queue
 abbrev pub place_words : ClassQueue → List ℕ
 place_words p = codes " " ++ decimal p.class ++ codes " " ++ queue_text p.queue
 
@@ -36,6 +39,7 @@ event_words (kind.Replaced p) = codes " replaced" ++ place_words p
 event_words (kind.Moved from to) = codes " moved " ++ queue_text from ++ codes " " ++ queue_text to
 event_words (kind.Left c) = codes " left " ++ cause_word c
 
+-- the line of an event
 abbrev pub event_text : Event → List ℕ
 event_text e = output (decimal e.node.0 ++ event_words e.kind)
 

@@ -63,6 +63,7 @@ pub record PlainSink : Type 0 where
   pub contents : Option (List ℕ)
   pub failures : ℕ
 
+-- a writer with these
 abbrev pub sink_at : Option (List ℕ) → ℕ → PlainSink
 sink_at contents failures = record { contents = contents; failures = failures }
 
@@ -97,6 +98,7 @@ pub record IsStopped (d : Dialect) (reader_old reader_new : Told) (old new : Pla
   pub because : Because e read reader_old reader_new old new
   pub wrote : Wrote e d start read old.contents new.contents
 
+-- a reader's fault at a line, as one of the run
 abbrev pub run_fault : LineFault → ℕ → RunFault
 run_fault faults.Memory line = Memory line
 run_fault faults.Read line = Read

@@ -85,6 +85,7 @@ value_text with_cas i =
 abbrev pub item_of : State → List ℕ → Option PlainItem
 item_of s k = option_and_then (item_at s) (find s k)
 
+-- the value of an item that was found
 abbrev pub found_value : Bool → Option PlainItem → List ℕ
 found_value with_cas None = []
 found_value with_cas (Some i) = value_text with_cas i
@@ -97,9 +98,11 @@ queue_text Warm = codes "warm"
 queue_text Cold = codes "cold"
 queue_text Temp = codes "temp"
 
+-- F for FETCHED, A for ACTIVE, - for neither
 abbrev pub bits_text : Bits → List ℕ
 bits_text b = cond b.fetched (cond b.active (codes "FA") (codes "F")) (cond b.active (codes "A") (codes "-"))
 
+-- a chunk: its page and its slot
 abbrev pub chunk_text : ChunkRef → List ℕ
 chunk_text x = decimal x.page ++ codes ":" ++ decimal x.slot
 
@@ -124,10 +127,12 @@ abbrev pub found_text : State → Option ChunkRef → List ℕ
 found_text s None = output (codes "NOITEM")
 found_text s (Some x) = item_text s x (item_at s x)
 
+-- the answer to `:chunk`
 abbrev pub place_text : Option ChunkRef → List ℕ
 place_text None = output (codes "NOITEM")
 place_text (Some x) = output (codes "CHUNK " ++ chunk_text x)
 
+-- an item's key
 abbrev pub key_text : Option PlainItem → List ℕ
 key_text None = []
 key_text (Some i) = i.key
@@ -142,6 +147,7 @@ abbrev pub entries_text : State → List Entry → List ℕ
 entries_text s [] = []
 entries_text s (e ∷ es) = entry_text s e ++ entries_text s es
 
+-- a free chunk
 abbrev pub free_text : ChunkRef → List ℕ
 free_text x = codes " " ++ chunk_text x
 
@@ -154,13 +160,16 @@ chunks_text (x ∷ xs) = free_text x ++ chunks_text xs
 abbrev pub page_text : ℕ → ℕ → List ℕ
 page_text p c = output (codes "PAGE " ++ decimal p ++ codes " " ++ decimal c)
 
+-- a line for each page
 abbrev pub pages_text : ℕ → List ℕ → List ℕ
 pages_text p [] = []
 pages_text p (c ∷ cs) = page_text p c ++ pages_text (suc p) cs
 
+-- a counter with its name
 abbrev pub counter_text : List ℕ → ℕ → List ℕ
 counter_text name n = codes " " ++ name ++ codes " " ++ decimal n
 
+-- the counters of what left, and of memory that was wanting
 abbrev pub removals_text : State → ℕ → List ℕ
 removals_text s c =
     counter_text (codes "evicted") (counter_of s c counters.Evicted)
@@ -168,6 +177,7 @@ removals_text s c =
     ++ counter_text (codes "crawler_reclaimed") (counter_of s c counters.CrawlerReclaimed)
     ++ counter_text (codes "outofmemory") (counter_of s c counters.OutOfMemory)
 
+-- the counters of items that were moved
 abbrev pub moves_text : State → ℕ → List ℕ
 moves_text s c =
     counter_text (codes "moves_to_cold") (counter_of s c counters.MovesToCold)
@@ -196,9 +206,11 @@ clock_text g = codes " now " ++ decimal g.clock ++ codes " cas " ++ decimal g.la
 abbrev pub pending_text : Globals → ℕ → List ℕ
 pending_text g bump = codes " flush " ++ flush_text g.flush ++ codes " mover " ++ mover_text g.mover ++ codes " bump " ++ decimal bump
 
+-- the answer to `:globals`
 abbrev pub globals_text : State → List ℕ
 globals_text s = output (codes "GLOBALS" ++ clock_text s.globals ++ pending_text s.globals (length s.bump))
 
+-- the answer of a node
 abbrev pub node_text : ℕ → List ℕ
 node_text n = output (codes "NODE " ++ decimal n)
 

@@ -20,6 +20,7 @@ gone_to m (Some n) = record m { current = n }
 abbrev pub child_at : SessionState → ℕ → Option ℕ
 child_at m i = slice_get (children m.rows m.current) i
 
+-- the answer to `:forward`
 abbrev pub child_text : Option ℕ → List ℕ
 child_text None = output (codes "NOCHILD")
 child_text (Some n) = node_text n
@@ -33,6 +34,7 @@ trip_text n turns = output (codes "NODE " ++ decimal n ++ codes " TURNS " ++ dec
 abbrev pub go_text : SessionState → ℕ → List ℕ
 go_text m n = cond (is_held m.rows n) (trip_text n (distance m.rows m.current n)) (output (codes "NONODE"))
 
+-- the session at node n, where it is held
 abbrev pub gone : SessionState → ℕ → SessionState
 gone m n = cond (is_held m.rows n) (record m { current = n }) m
 
@@ -41,12 +43,15 @@ gone m n = cond (is_held m.rows n) (record m { current = n }) m
 abbrev pub by_prune : {X : Type 0} → SessionState → ℕ → X → X → X → X → X
 by_prune m n missing root path done = cond (is_held m.rows n) (cond (nat_eq n 0) root (cond (is_below m.rows n m.current) path done)) missing
 
+-- the answer of a prune that was done
 abbrev pub pruned_text : ℕ → List ℕ
 pruned_text n = output (codes "PRUNED " ++ decimal n)
 
+-- the answer to `:prune`
 abbrev pub prune_text : SessionState → ℕ → List ℕ
 prune_text m n = by_prune m n (output (codes "NONODE")) (output (codes "ROOT")) (output (codes "ONPATH")) (pruned_text n)
 
+-- the session after it
 abbrev pub after_prune : SessionState → ℕ → SessionState
 after_prune m n = by_prune m n m m m (record m { rows = pruned m.rows n })
 
@@ -63,5 +68,6 @@ abbrev pub rows_text : SessionState → ℕ → List (Option Row) → List ℕ
 rows_text m n [] = []
 rows_text m n (q ∷ qs) = row_text m (suc n) q ++ rows_text m (suc n) qs
 
+-- the answer to `:tree`
 abbrev pub tree_text : SessionState → List ℕ
 tree_text m = output (codes "0 - root -") ++ rows_text m 0 m.rows ++ output (codes "END")

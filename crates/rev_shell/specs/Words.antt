@@ -6,20 +6,24 @@ use Rattle.rev_model.specs.Actor.{Step, Client, Pull, Bump, CrawlStart, Crawl, S
 use Rattle.rev_model.specs.declared.Outcome.{Outcome}
 use Rattle.rev_model.specs.declared.Outcome.TheVariants as outcomes
 
+-- of a verb that stores
 abbrev pub verb_word : Verb → List ℕ
 verb_word Sets = codes "set"
 verb_word Adds = codes "add"
 verb_word Replaces = codes "replace"
 verb_word (Cases n) = codes "cas"
 
+-- of append and prepend
 abbrev pub side_word : Side → List ℕ
 side_word Appends = codes "append"
 side_word Prepends = codes "prepend"
 
+-- of incr and decr
 abbrev pub sum_word : Sum → List ℕ
 sum_word Increases = codes "incr"
 sum_word Decreases = codes "decr"
 
+-- of a client's step
 abbrev pub client_word : ClientStep → List ℕ
 client_word (Stores verb k flags exptime payload) = verb_word verb
 client_word (Joins side k payload) = side_word side
@@ -29,6 +33,7 @@ client_word (Deletes k) = codes "delete"
 client_word (Flushes delay) = codes "flush_all"
 client_word (Counts sum k n) = sum_word sum
 
+-- of any step
 abbrev pub step_word : Step → List ℕ
 step_word (Client e) = client_word e
 step_word (Pull c q) = codes "pull"
@@ -41,6 +46,7 @@ step_word (Clock n) = codes "clock"
 step_word (Tune hot warm hot_factor warm_factor) = codes "tune"
 step_word (TempTtl n) = codes "temp_ttl"
 
+-- of an outcome
 abbrev pub outcome_word : Outcome → List ℕ
 outcome_word outcomes.Stored = codes "STORED"
 outcome_word outcomes.NotStored = codes "NOT_STORED"

@@ -4,6 +4,7 @@ use Rattle.std.specs.Prelude.{ℕ, List, codes}
 use Rattle.rev_watch.specs.declared.fault.Field.{Field}
 use Rattle.rev_watch.specs.declared.fault.Field.TheVariants.{Ts, Gid, Kind, Key, Status, Cmd, Ttl, Clsid, Cfd, Size, Fetch, La, Src, Dst, Crawler, Lru, Elapsed, Examined, Reclaimed, Skipped}
 
+-- the name of a field
 abbrev pub name_of : Field → List ℕ
 name_of Ts = codes "ts"
 name_of Gid = codes "gid"

@@ -46,6 +46,7 @@ value_in field ws = and_then (optional_in field ws) (λ v. ok_or v (Missing fiel
 unfoldable pub number_in : ℕ → Field → List (List ℕ) → Result ℕ LineFault
 number_in limit field ws = and_then (value_in field ws) (λ v. ok_or (number limit v) (BadValue field))
 
+-- the signed number of a field
 unfoldable pub signed_in : Field → List (List ℕ) → Result ℤ LineFault
 signed_in field ws = and_then (value_in field ws) (λ v. ok_or (signed v) (BadValue field))
 
@@ -54,6 +55,7 @@ abbrev pub signed_or_none : Field → Option (List ℕ) → Result (Option ℤ) 
 signed_or_none field None = Ok None
 signed_or_none field (Some v) = ok_or (option_map (λ z. Some z) (signed v)) (BadValue field)
 
+-- a signed number of a field, or none
 unfoldable pub optional_signed_in : Field → List (List ℕ) → Result (Option ℤ) LineFault
 optional_signed_in field ws = and_then (optional_in field ws) (signed_or_none field)
 
@@ -79,6 +81,7 @@ store_command w =
     else (if bytes_eq w (codes "cas") then commands.Cas
     else commands.Other)))))
 
+-- what became of a storage command
 unfoldable pub store_outcome : List ℕ → StoreOutcome
 store_outcome w =
     if bytes_eq w (codes "stored") then stores.Stored
@@ -102,6 +105,7 @@ time_left w =
     if bytes_eq w (codes "-1") then Ok None
     else ok_or (option_map (λ n. Some n) (number_u32 w)) (BadValue fields.Ttl)
 
+-- a queue, by its name
 unfoldable pub queue : List ℕ → Result Queue LineFault
 queue w =
     if bytes_eq w (codes "hot") then Ok queues.Hot

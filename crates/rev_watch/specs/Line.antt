@@ -34,6 +34,7 @@ look_up ws =
     and_then (key_in ws) (λ key.
     Ok (events.LookUp key (look_up_outcome outcome) class connection size))))))
 
+-- a storage command, whatever became of it
 unfoldable pub store : {A : Type 0} → List (List ℕ) → Result (Event A) LineFault
 store ws =
     and_then (value_in fields.Status ws) (λ outcome.
@@ -45,12 +46,14 @@ store ws =
     and_then (key_in ws) (λ key.
     Ok (events.Store key (store_command command) (store_outcome outcome) ttl class connection size))))))))
 
+-- an item was deleted
 unfoldable pub deletion : {A : Type 0} → List (List ℕ) → Result (Event A) LineFault
 deletion ws =
     and_then (optional_signed_in fields.Cfd ws) (λ connection.
     and_then (key_in ws) (λ key.
     Ok (events.Deletion key connection)))
 
+-- an item was evicted
 unfoldable pub eviction : {A : Type 0} → List (List ℕ) → Result (Event A) LineFault
 eviction ws =
     and_then (word_in fetched fields.Fetch ws) (λ was_fetched.
@@ -61,12 +64,14 @@ eviction ws =
     and_then (key_in ws) (λ key.
     Ok (events.Eviction key was_fetched ttl last_access class size)))))))
 
+-- a page goes to another class
 unfoldable pub page_move : {A : Type 0} → List (List ℕ) → Result (Event A) LineFault
 page_move ws =
     and_then (number_in 4294967295 fields.Src ws) (λ source.
     and_then (number_in 4294967295 fields.Dst ws) (λ target.
     Ok (events.PageMove source target)))
 
+-- the crawler is done with a queue
 unfoldable pub crawl_end : {A : Type 0} → List (List ℕ) → Result (Event A) LineFault
 crawl_end ws =
     and_then (number_in 4294967295 fields.Crawler ws) (λ class.
@@ -76,9 +81,11 @@ crawl_end ws =
     and_then (number_in 18446744073709551615 fields.Reclaimed ws) (λ reclaimed.
     Ok (events.CrawlEnd class of elapsed examined reclaimed))))))
 
+-- a connection came
 unfoldable pub connection_opened : {A : Type 0} → List (List ℕ) → Result (Event A) LineFault
 connection_opened ws = and_then (signed_in fields.Cfd ws) (λ connection. Ok (events.ConnectionOpened connection))
 
+-- a connection went
 unfoldable pub connection_closed : {A : Type 0} → List (List ℕ) → Result (Event A) LineFault
 connection_closed ws = and_then (signed_in fields.Cfd ws) (λ connection. Ok (events.ConnectionClosed connection))
 
@@ -97,6 +104,7 @@ event_of_kind kinds.CrawlEnd ws = crawl_end ws
 event_of_kind kinds.ConnectionOpened ws = connection_opened ws
 event_of_kind kinds.ConnectionClosed ws = connection_closed ws
 
+-- the event of the kind that the word names
 abbrev pub event_with : {A : Type 0} → Option Kind → List ℕ → List ℕ → Result (Event A) LineFault
 event_with None word rest = unknown word
 event_with (Some kind) word rest = and_then (fields_of rest) (event_of_kind kind)
@@ -113,6 +121,7 @@ time_of None micros = None
 time_of (Some seconds) None = None
 time_of (Some seconds) (Some micros) = Some record { seconds = seconds; microseconds = micros }
 
+-- the time that a value says
 unfoldable pub timestamp : List ℕ → Option Timestamp
 timestamp v = if has 46 v then time_of (number_u32 (until 46 v)) (number 999999 (past 46 v)) else None
 
@@ -120,9 +129,11 @@ timestamp v = if has 46 v then time_of (number_u32 (until 46 v)) (number 999999 
 abbrev pub value_of : Field → List ℕ → Result (List ℕ) LineFault
 value_of field word = ok_or (value_behind (name_of field) 61 word) (Missing field)
 
+-- the time, by its word
 unfoldable pub timestamp_of : List ℕ → Result Timestamp LineFault
 timestamp_of word = and_then (value_of fields.Ts word) (λ v. ok_or (timestamp v) (BadValue fields.Ts))
 
+-- the number, by its word
 unfoldable pub gid_of : List ℕ → Result ℕ LineFault
 gid_of word = and_then (value_of fields.Gid word) (λ v. ok_or (number 18446744073709551615 v) (BadValue fields.Gid))
 
@@ -134,6 +145,7 @@ behind text = past 32 text
 abbrev pub first : List ℕ → List ℕ
 first text = until 32 text
 
+-- a line of the log
 unfoldable pub log_line : {A : Type 0} → List ℕ → Result (Line A) LineFault
 log_line text =
     and_then (timestamp_of (first text)) (λ time.
@@ -142,6 +154,7 @@ log_line text =
     and_then (event_of kind (behind (behind (behind text)))) (λ event.
     Ok (lines.Log record { time = time; gid = gid; event = event })))))
 
+-- lines were left out
 unfoldable pub skipped_line : {A : Type 0} → List ℕ → Result (Line A) LineFault
 skipped_line v = and_then (ok_or (number 18446744073709551615 v) (BadValue fields.Skipped)) (λ n. Ok (lines.Skipped n))
 
@@ -152,6 +165,7 @@ told_behind (Some time) skipped text = log_line text
 told_behind None (Some count) text = skipped_line count
 told_behind None None text = Ok lines.Other
 
+-- what a text says
 unfoldable pub line_in : {A : Type 0} → List ℕ → Result (Line A) LineFault
 line_in text = told_behind (value_behind (name_of fields.Ts) 61 text) (value_behind (name_of fields.Skipped) 61 text) text
 

@@ -16,6 +16,7 @@ use Rattle.rev_watch.specs.declared.settings.Stat.TheVariants.{MaxBytes, GrowthF
 use Rattle.rev_watch.specs.declared.settings.StatFault.{StatFault}
 use Rattle.rev_watch.specs.declared.settings.StatFault.TheVariants.{Missing, Twice, BadValue}
 
+-- the name of a value
 abbrev pub stat_name : Stat → List ℕ
 stat_name MaxBytes = codes "maxbytes"
 stat_name GrowthFactor = codes "growth_factor"
@@ -51,9 +52,11 @@ the_only stat [] = Err (Missing stat)
 the_only stat (v ∷ []) = Ok v
 the_only stat (v ∷ w ∷ vs) = Err (Twice stat)
 
+-- the value of this name, which stands once
 unfoldable pub stat_in : Stat → List ℕ → Result (List ℕ) StatFault
 stat_in stat text = the_only stat (filter_map (stat_value (stat_name stat)) (whole_lines text))
 
+-- a number, at most the limit
 unfoldable pub number_stat : ℕ → Stat → List ℕ → Result ℕ StatFault
 number_stat limit stat text = and_then (stat_in stat text) (λ v. ok_or (number limit v) (BadValue stat))
 
@@ -61,15 +64,18 @@ number_stat limit stat text = and_then (stat_in stat text) (λ v. ok_or (number 
 unfoldable pub thousandths_stat : Stat → List ℕ → Result ℕ StatFault
 thousandths_stat stat text = and_then (stat_in stat text) (λ v. ok_or (factor v) (BadValue stat))
 
+-- a switch: yes or no
 abbrev pub switch : Stat → List ℕ → Result Bool StatFault
 switch stat v =
     if bytes_eq v (codes "yes") then Ok true
     else (if bytes_eq v (codes "no") then Ok false
     else Err (BadValue stat))
 
+-- the switch of this name
 unfoldable pub switch_stat : Stat → List ℕ → Result Bool StatFault
 switch_stat stat text = and_then (stat_in stat text) (switch stat)
 
+-- what `stats settings` says
 unfoldable pub settings : List ℕ → Result Settings StatFault
 settings text =
     and_then (number_stat 18446744073709551615 MaxBytes text) (λ max_bytes.
@@ -97,6 +103,7 @@ settings text =
       temporary_ttl = temporary_ttl;
     })))))))))))
 
+-- what `stats` says of the log
 unfoldable pub log_stats : List ℕ → Result LogStats StatFault
 log_stats text =
     and_then (number_stat 18446744073709551615 LogWorkerDropped text) (λ worker_dropped.

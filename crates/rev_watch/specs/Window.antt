@@ -12,6 +12,7 @@ pub record PlainWindow (T : Type 0) : Type 0 where
   pub held : List (ℕ × T)
   pub last : Option ℕ
 
+-- nothing held, nothing given out
 abbrev pub empty_window : {T : Type 0} → PlainWindow T
 empty_window = record { held = []; last = None }
 
@@ -29,6 +30,7 @@ abbrev pub popped : {T : Type 0} → List (ℕ × T) → PlainWindow T → Plain
 popped [] w = (w, None)
 popped (line ∷ rest) w = (record { held = rest; last = Some line.0 }, Some line)
 
+-- the first line that is held is taken
 unfoldable pub pop_of : {T : Type 0} → PlainWindow T → PlainWindow T × Option (ℕ × T)
 pop_of w = popped w.held w
 
