@@ -32,6 +32,7 @@ with_globals g s = record s { globals = g }
 
 -- ---- clock
 
+-- a flush is pending, and its moment is not after n
 abbrev pub is_due : Option ℕ → ℕ → Bool
 is_due None n = false
 is_due (Some m) n = nat_le m n

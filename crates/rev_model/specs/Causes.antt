@@ -72,6 +72,7 @@ room_removals s c = room_removals_by 10 s c
 
 -- ---- lookups
 
+-- of an item that a lookup meets: a dead one
 abbrev pub dead_removals : State → Option PlainItem → List Removal
 dead_removals s None = []
 dead_removals s (Some i) = cond (is_dead s.globals i) (removal (Some i) (Some ReclaimedByHit)) []
@@ -176,6 +177,7 @@ client_removals s (Counts side k d) = count_removals s side k d
 
 -- ---- the actors
 
+-- of an item that the crawler comes to: a dead one
 abbrev pub crawl_item_removals : State → Option PlainItem → List Removal
 crawl_item_removals s None = []
 crawl_item_removals s (Some i) = cond (is_dead s.globals i) (removal (Some i) (Some ReclaimedByCrawler)) []
@@ -215,6 +217,7 @@ pull_step_removals s c q = cond (is_class s c) (pull_removals s c q Plain) []
 
 -- ---- any step
 
+-- of any step
 abbrev pub step_removals : State → Step → List Removal
 step_removals s (Client e) = client_removals s e
 step_removals s (Pull c q) = pull_step_removals s c q

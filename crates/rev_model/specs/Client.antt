@@ -84,6 +84,7 @@ removed (Some (x, i)) s = dropped (owner_of s x.page) (queue_with s (owner_of s 
 
 -- ---- set, add, replace, cas
 
+-- the data; of skipped ones none are known
 abbrev pub bytes_of : Payload → List ℕ
 bytes_of (Bytes bs) = bs
 bytes_of (Skipped n) = []
@@ -139,6 +140,7 @@ store s v k flags e d = stored_class s v k (bytes_of d) flags e (class_for s k f
 
 -- ---- append, prepend, incr, decr
 
+-- the new item takes the place of the old one, where the second lookup still finds that
 abbrev pub rewritten_old : ℕ → ChunkRef → List ℕ → List ℕ → ℕ → ℕ → Outcome → Outcome → State × Option (ChunkRef × PlainItem) → State × Outcome
 rewritten_old c x k value flags m gone done (s, None) = (freed c x s, gone)
 rewritten_old c x k value flags m gone done (s, Some f) = (renewed c x k value flags m (Some f) s, done)
@@ -205,6 +207,7 @@ count s side k d = count_found side d (lookup s k)
 
 -- ---- get, touch, delete, flush_all
 
+-- a hit answers the size of the data and the cas number
 abbrev pub get_found : State × Option (ChunkRef × PlainItem) → State × Outcome
 get_found (s, None) = (s, Miss)
 get_found (s, Some (x, i)) = (hit s x i, Hit (length i.value) i.cas)

@@ -22,6 +22,7 @@ use Rattle.rev_model.specs.declared.EventKind.TheVariants as kind
 
 -- ---- the parts of a step that may take a key out of the index
 
+-- the parts
 pub data Part : Type 0 where
   -- the search for a chunk, which evicts and reclaims
   ByRoom : Part

@@ -81,6 +81,7 @@ reply_text noreply r = or_refused r (cond noreply [] (reply_outcome r))
 
 -- ---- get, gets: a step a key, in order; a refusal ends the line
 
+-- a get that found its item
 abbrev pub is_hit : Outcome → Bool
 is_hit (outcomes.Hit len cas) = true
 is_hit _ = false
@@ -108,6 +109,7 @@ after_gets m (k ∷ ks) = if_played (reply m (get k)) (after_gets (after_step m 
 
 -- ---- a session and the bookmarks beside it, which belong to the run and are not undone
 
+-- a session with its bookmarks
 pub record MarkedSession : Type 0 where
   pub session : SessionState
   pub bookmarks : List (List ℕ × ℕ)
@@ -118,6 +120,7 @@ with_bookmarks m marks = record { session = m; bookmarks = marks }
 
 -- ---- debug commands; they make no node
 
+-- a text that is answered of a class, NOCLASS where there is no such class
 abbrev pub of_class : State → ℕ → List ℕ → List ℕ
 of_class s c text = cond (is_class s c) text (output (codes "NOCLASS"))
 

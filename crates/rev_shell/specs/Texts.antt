@@ -72,6 +72,7 @@ digits_of o = []
 
 -- ---- values
 
+-- the cas number behind a value, for `gets`
 abbrev pub cas_text : Bool → ℕ → List ℕ
 cas_text with_cas cas = cond with_cas (codes " " ++ decimal cas) []
 
@@ -92,6 +93,7 @@ found_value with_cas (Some i) = value_text with_cas i
 
 -- ---- what a store shows
 
+-- the word of a queue
 abbrev pub queue_text : Queue → List ℕ
 queue_text Hot = codes "hot"
 queue_text Warm = codes "warm"

@@ -17,6 +17,7 @@ gone_to m (Some n) = record m { current = n }
 
 -- ---- the child of the current node by its place from 0, by rising number
 
+-- the i-th child of the current node
 abbrev pub child_at : SessionState → ℕ → Option ℕ
 child_at m i = slice_get (children m.rows m.current) i
 
@@ -27,6 +28,7 @@ child_text (Some n) = node_text n
 
 -- ---- a node by its number
 
+-- the answer to `:go`
 abbrev pub trip_text : ℕ → ℕ → List ℕ
 trip_text n turns = output (codes "NODE " ++ decimal n ++ codes " TURNS " ++ decimal turns)
 
@@ -40,6 +42,7 @@ gone m n = cond (is_held m.rows n) (record m { current = n }) m
 
 -- ---- pruning: a node that is not held, the root, and a node on the way to the current one stay
 
+-- one of four: node n is not held, is the root, stands on the way to the current node, or may be pruned
 abbrev pub by_prune : {X : Type 0} → SessionState → ℕ → X → X → X → X → X
 by_prune m n missing root path done = cond (is_held m.rows n) (cond (nat_eq n 0) root (cond (is_below m.rows n m.current) path done)) missing
 

@@ -43,6 +43,7 @@ value_in field ws = and_then (optional_in field ws) (λ v. ok_or v (Missing fiel
 
 -- ---- numbers: decimal digits, for a signed one with a `-` in front or without a sign
 
+-- the number of a field, at most the limit
 unfoldable pub number_in : ℕ → Field → List (List ℕ) → Result ℕ LineFault
 number_in limit field ws = and_then (value_in field ws) (λ v. ok_or (number limit v) (BadValue field))
 

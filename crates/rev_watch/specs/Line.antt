@@ -25,6 +25,7 @@ use Rattle.rev_watch.specs.declared.fault.LineFault.TheVariants.{Missing, BadVal
 
 -- ---- the event of each kind, by its fields
 
+-- a key was looked up
 unfoldable pub look_up : {A : Type 0} → List (List ℕ) → Result (Event A) LineFault
 look_up ws =
     and_then (value_in fields.Status ws) (λ outcome.
