@@ -19,15 +19,10 @@ const BYTES: usize = 131072;
 // The fewest keys that are too many for 16 buckets.
 const CROWD: usize = 33;
 
-// What a growth at 33 keys asks for: 4 bytes a key in whole units of 16, and then 64 buckets of 16 bytes each.
-const LIST: usize = 144;
+// What is taken where 64 buckets of 16 bytes each are in the place of 16, which are kept, and where 256 are.
+const FOUR_TIMES: usize = 1024;
 
-const GROWTH: usize = LIST + 1024;
-
-// What is taken where 64 buckets are in the place of 16, and where 256 are.
-const FOUR_TIMES: usize = 768;
-
-const SIXTEEN_TIMES: usize = 3840;
+const SIXTEEN_TIMES: usize = 4096;
 
 // A store with the keys of the numbers below `keys`.
 #[derive(Drop)]
@@ -153,20 +148,20 @@ fn taken_with<R: Abort>(rt: &R, alloc: Global, left: usize) -> usize {
     taken
 }
 
-// Neither the list nor the buckets, the list alone, all but the last bytes, and all.
+// Nothing, all but the last bytes, and all.
 #[test]
 fn refused_in_turn(rt: HostRuntime) {
-    for left in [0, LIST - 16, LIST, GROWTH - 16] {
+    for left in [0, FOUR_TIMES - 16] {
         assert!(rt; taken_with(&rt, rt.alloc(), left) == 0, "{left} bytes left");
     }
-    assert!(rt; taken_with(&rt, rt.alloc(), GROWTH) == FOUR_TIMES);
+    assert!(rt; taken_with(&rt, rt.alloc(), FOUR_TIMES) == FOUR_TIMES);
 }
 
 // A growth takes what the step behind it wants, which is refused and played once there is memory.
 fn step_behind_growth<R: Abort>(rt: &R, alloc: Global, heap: &LocalHeap) {
     let mut cache = Cache::new(rt, heap);
     let spare = cache.spare();
-    let is_set = cache.is_set_with(rt, alloc, GROWTH);
+    let is_set = cache.is_set_with(rt, alloc, FOUR_TIMES);
     assert!(rt; !is_set && cache.taken_since(spare) == FOUR_TIMES);
     cache.add(rt);
     assert!(rt; cache.taken_since(spare) == FOUR_TIMES);
