@@ -3,7 +3,7 @@
 
 use crate::memory::heap::fill;
 use crate::memory::parts::SMALL;
-use crate::memory::steps::{delete_of, set_of};
+use crate::memory::steps::{delete_of, numbered_key, set_of};
 use crate::owned::is_made;
 use linked_list_allocator::LocalHeap;
 use rev_classes::Config;
@@ -125,6 +125,17 @@ impl<'a> Cache<'a> {
         is_set
     }
 
+    // Whether each key leads to an item.
+    fn holds_all<R: Abort>(&self, rt: &R) -> bool {
+        for number in 0..self.keys {
+            let key = numbered_key(rt, self.heap, number);
+            if self.store.item(&key).is_none() {
+                return false;
+            }
+        }
+        true
+    }
+
     // What the heap has left beside the keys: less by what more buckets took, and else the same.
     fn spare(&self) -> usize {
         let keys = self.keys.wrapping_mul(self.bytes_of_a_key);
@@ -172,6 +183,31 @@ fn step_behind_growth<R: Abort>(rt: &R, alloc: Global, heap: &LocalHeap) {
 fn step_behind_growth_is_refused(rt: HostRuntime) {
     let heap = LocalHeap::new(rt.alloc(), BYTES).expect(&rt, "no memory");
     step_behind_growth(&rt, rt.alloc(), &heap);
+}
+
+// Buckets that grew go back, and come again with an eighth more keys. No key is lost.
+fn narrowed<R: Abort>(rt: &R, heap: &LocalHeap) {
+    let mut cache = Cache::new(rt, heap);
+    let spare = cache.spare();
+    assert!(rt; !cache.store.narrow() && cache.taken_since(spare) == 0, "none have grown");
+    cache.idle(rt);
+    assert!(rt; cache.taken_since(spare) == FOUR_TIMES && cache.holds_all(rt));
+    assert!(rt; cache.store.narrow() && cache.taken_since(spare) == 0 && cache.holds_all(rt));
+    assert!(rt; !cache.store.narrow(), "they went back before");
+    cache.add_up_to(rt, 37);
+    cache.idle(rt);
+    assert!(rt; cache.taken_since(spare) == 0, "asked too soon");
+    cache.add(rt);
+    cache.idle(rt);
+    assert!(rt; cache.taken_since(spare) == FOUR_TIMES && cache.holds_all(rt), "not asked again");
+    assert!(rt; cache.store.narrow() && cache.taken_since(spare) == 0 && cache.holds_all(rt));
+    drop(cache);
+}
+
+#[test]
+fn grown_buckets_go_back(rt: HostRuntime) {
+    let heap = LocalHeap::new(rt.alloc(), BYTES).expect(&rt, "no memory");
+    narrowed(&rt, &heap);
 }
 
 // Keys from 29 to 37 are within an eighth of 33. Each of them comes and goes with memory for more buckets there.

@@ -17,9 +17,6 @@ const FEW: u32 = 4;
 
 const ENOUGH: u32 = 10;
 
-// What the larger table takes more.
-const MORE: usize = 16 * 1024 - 16 * 16;
-
 // A session of no key over so many buckets.
 fn opened<'a, R: Abort>(rt: &R, heap: &'a LocalHeap, hash_power: u32) -> Session<&'a LocalHeap> {
     let config = Config {
@@ -107,24 +104,30 @@ fn growth_refuses_no_play(rt: HostRuntime) {
 }
 
 // More steps than a heap of these tests has memory for.
-const MANY: u32 = 1000000;
+const MANY: u32 = 100000;
 
-// How many steps that take little are played behind so many keys, up to the first that is refused memory.
-fn steps_in<R: Abort>(rt: &R, alloc: Global, bytes: usize, hash_power: u32, keys: usize) -> u32 {
-    let heap = LocalHeap::new(alloc, bytes).expect(rt, "no memory");
+// How many steps that take little are played behind so many keys with so many bytes left, up to the first that is refused.
+fn steps_with<R: Abort>(rt: &R, alloc: Global, hash_power: u32, left: usize) -> u32 {
+    let heap = LocalHeap::new(alloc, BYTES).expect(rt, "no memory");
     let mut session = opened(rt, &heap, hash_power);
-    play_sets(rt, &heap, &mut session, keys);
+    play_sets(rt, &heap, &mut session, CROWD);
+    let ballast = fill(rt, alloc, &heap, left);
     let steps = played(rt, &mut session, MANY);
+    drop(ballast);
     drop(session);
     steps
 }
 
 #[test]
 fn explore(rt: HostRuntime) {
-    for kib in 400..440 {
-        let bytes = 1024 * kib;
-        let grown = steps_in(&rt, rt.alloc(), bytes, FEW, 600);
-        let fixed = steps_in(&rt, rt.alloc(), bytes + MORE, ENOUGH, 600);
-        assert!(&rt; grown == fixed, "{bytes}: {grown} {fixed}");
+    let mut told: Vec<u8> = Vec::new(rt.alloc());
+    for units in 0..100 {
+        let left = 160 * units;
+        let few = steps_with(&rt, rt.alloc(), FEW, left);
+        let enough = steps_with(&rt, rt.alloc(), ENOUGH, left);
+        let line = format!(in rt.alloc(); "{left}: {few} {enough}; ").expect(&rt, "no memory");
+        told.extend_from_slice(line.as_bytes()).expect(&rt, "no memory");
     }
+    let told = std::str::from_utf8(told.as_slice()).unwrap_or("");
+    panic!(&rt; "{told}");
 }
