@@ -189,7 +189,10 @@ fn step_behind_growth_is_refused(rt: HostRuntime) {
 fn narrowed<R: Abort>(rt: &R, heap: &LocalHeap) {
     let mut cache = Cache::new(rt, heap);
     let spare = cache.spare();
-    assert!(rt; !cache.store.narrow() && cache.taken_since(spare) == 0, "none have grown");
+    assert!(rt;
+        !cache.store.narrow() && cache.taken_since(spare) == 0,
+        "none have grown"
+    );
     cache.idle(rt);
     assert!(rt; cache.taken_since(spare) == FOUR_TIMES && cache.holds_all(rt));
     assert!(rt; cache.store.narrow() && cache.taken_since(spare) == 0 && cache.holds_all(rt));
@@ -199,7 +202,10 @@ fn narrowed<R: Abort>(rt: &R, heap: &LocalHeap) {
     assert!(rt; cache.taken_since(spare) == 0, "asked too soon");
     cache.add(rt);
     cache.idle(rt);
-    assert!(rt; cache.taken_since(spare) == FOUR_TIMES && cache.holds_all(rt), "not asked again");
+    assert!(rt;
+        cache.taken_since(spare) == FOUR_TIMES && cache.holds_all(rt),
+        "not asked again"
+    );
     assert!(rt; cache.store.narrow() && cache.taken_since(spare) == 0 && cache.holds_all(rt));
     drop(cache);
 }

@@ -1,6 +1,5 @@
 //! More buckets than a session began with, in a heap that they help to use up: a play ends as it would without them.
 
-use crate::memory::fixed::played;
 use crate::memory::heap::fill;
 use crate::memory::parts::SMALL;
 use crate::memory::steps::set_of;
@@ -99,35 +98,9 @@ fn growth_refuses_no_play(rt: HostRuntime) {
     for units in 0..(wanted + GROWTH) / 16 {
         let left = 16 * units;
         let is_set = is_set_with(&rt, rt.alloc(), FEW, left);
-        assert!(&rt; is_set == (wanted <= left), "{left} bytes left, {wanted} wanted");
+        assert!(&rt;
+            is_set == (wanted <= left),
+            "{left} bytes left, {wanted} wanted"
+        );
     }
-}
-
-// More steps than a heap of these tests has memory for.
-const MANY: u32 = 100000;
-
-// How many steps that take little are played behind so many keys with so many bytes left, up to the first that is refused.
-fn steps_with<R: Abort>(rt: &R, alloc: Global, hash_power: u32, left: usize) -> u32 {
-    let heap = LocalHeap::new(alloc, BYTES).expect(rt, "no memory");
-    let mut session = opened(rt, &heap, hash_power);
-    play_sets(rt, &heap, &mut session, CROWD);
-    let ballast = fill(rt, alloc, &heap, left);
-    let steps = played(rt, &mut session, MANY);
-    drop(ballast);
-    drop(session);
-    steps
-}
-
-#[test]
-fn explore(rt: HostRuntime) {
-    let mut told: Vec<u8> = Vec::new(rt.alloc());
-    for units in 0..100 {
-        let left = 160 * units;
-        let few = steps_with(&rt, rt.alloc(), FEW, left);
-        let enough = steps_with(&rt, rt.alloc(), ENOUGH, left);
-        let line = format!(in rt.alloc(); "{left}: {few} {enough}; ").expect(&rt, "no memory");
-        told.extend_from_slice(line.as_bytes()).expect(&rt, "no memory");
-    }
-    let told = std::str::from_utf8(told.as_slice()).unwrap_or("");
-    panic!(&rt; "{told}");
 }
