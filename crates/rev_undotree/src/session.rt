@@ -1,5 +1,5 @@
 //! A session: a store, and the tree of all that was played on it.
-ghost use Rattle.std.specs.Prelude.{◌≡◌, ◌++◌, ◌∷◌, [], ◌+◌, ◌-◌, ◌≤◌, ℕ, eqb, length, IfOk, IfErr, OnErr, OnOk, IsOk, IsTrue, ◌↔◌, Some, None, Err, true, false, not, ◌<◌, slice_get, IfSome, IfNone, IsNone, IsSome, ◌⊎◌};
+ghost use Rattle.std.specs.Prelude.{◌≡◌, ◌≢◌, ◌++◌, ◌∷◌, [], ◌+◌, ◌-◌, ◌≤◌, ℕ, eqb, length, IfOk, IfErr, OnErr, OnOk, IsOk, IsTrue, ◌↔◌, Some, None, Err, true, false, not, ◌<◌, slice_get, IfSome, IfNone, IsNone, IsSome, ◌⊎◌};
 ghost use Rattle.std.specs.Option.{option_map};
 ghost use Rattle.rev_steps.specs.Plain.{plain_step};
 ghost use Rattle.rev_undotree.specs.Steps.{Sound, outcome_of};
@@ -169,6 +169,9 @@ impl<A: Allocator + Clone> Session<A> {
     // Plays a step for which there was no memory once more, where some can be given back.
     #[cold]
     fn play_narrowed(&mut self, step: Step<A>) -> Result<Played, (PlayFault, Step<A>)>
+        // memory was what it was refused for
+        requires many { length self.old.rows ≢ 1048576 }
+        requires deep { (length self.old.rows < 1048576) × (64 < nesting_below self.old.rows self.old.current) → ⊥ }
         ensures ok { IfOk result (λ p. self.new ≡ record { root = self.old.root; rows = self.old.rows ++ Some (row self.old.current (plain_step step) (not (is_continued self.old.rows self.old.current))) ∷ []; current = p.node.0 }) }
         ensures node { IfOk result (λ p. p.node.0 ≡ length self.old.rows + 1) }
         ensures outcome { IfOk result (λ p. p.outcome ≡ outcome_of (at self.old.root self.old.rows self.old.current) (plain_step step)) }

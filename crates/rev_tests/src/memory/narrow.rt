@@ -81,24 +81,29 @@ fn is_set_with<R: Abort>(rt: &R, alloc: Global, hash_power: u32, left: usize) ->
     is_set
 }
 
-// What a growth at 33 keys takes: 64 buckets of 16 bytes each.
-const GROWTH: usize = 1024;
+// More units of 16 bytes than the play and a growth at 33 keys, of 64 buckets of 16 bytes each, want together.
+const UNITS: usize = 512;
 
-// With each number of bytes left, up to what the play wants beside a growth.
-#[test]
-fn growth_refuses_no_play(rt: HostRuntime) {
-    let mut wanted = 0;
-    for units in 0..4096 {
-        if is_set_with(&rt, rt.alloc(), ENOUGH, 16 * units) {
-            wanted = 16 * units;
-            break;
+// How many bytes the play wants where buckets do not grow.
+fn wanted<R: Abort>(rt: &R, alloc: Global) -> usize {
+    for units in 0..UNITS {
+        let left = 16 * units;
+        if is_set_with(rt, alloc, ENOUGH, left) {
+            return left;
         }
     }
-    assert!(&rt; 0 < wanted);
-    for units in 0..(wanted + GROWTH) / 16 {
+    panic!(rt; "there was never enough memory")
+}
+
+// A growth that is granted takes what the play wants, and gives it back.
+#[test]
+fn growth_refuses_no_play(rt: HostRuntime) {
+    let wanted = wanted(&rt, rt.alloc());
+    assert!(rt; 0 < wanted && wanted < 4096, "{wanted} bytes");
+    for units in 0..UNITS {
         let left = 16 * units;
         let is_set = is_set_with(&rt, rt.alloc(), FEW, left);
-        assert!(&rt;
+        assert!(rt;
             is_set == (wanted <= left),
             "{left} bytes left, {wanted} wanted"
         );
