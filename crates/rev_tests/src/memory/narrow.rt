@@ -1,5 +1,6 @@
 //! More buckets than a session began with, in a heap that they help to use up: a play ends as it would without them.
 
+use crate::memory::fixed::played;
 use crate::memory::heap::fill;
 use crate::memory::parts::SMALL;
 use crate::memory::steps::set_of;
@@ -106,6 +107,34 @@ fn growth_refuses_no_play(rt: HostRuntime) {
         assert!(rt;
             is_set == (wanted <= left),
             "{left} bytes left, {wanted} wanted"
+        );
+    }
+}
+
+// More steps than a heap of these tests has memory for.
+const MANY: u32 = 100000;
+
+// How many steps that take little are played behind the sets with so many bytes left, up to the first that is refused.
+fn steps_with<R: Abort>(rt: &R, alloc: Global, hash_power: u32, left: usize) -> u32 {
+    let heap = LocalHeap::new(alloc, BYTES).expect(rt, "no memory");
+    let mut session = opened(rt, &heap, hash_power);
+    play_sets(rt, &heap, &mut session, CROWD);
+    let ballast = fill(rt, alloc, &heap, left);
+    let steps = played(rt, &mut session, MANY);
+    drop(ballast);
+    drop(session);
+    steps
+}
+
+// A session that fills its heap gets as far with a growth at its first step as without.
+#[test]
+fn growth_costs_no_step(rt: HostRuntime) {
+    for left in [160, 960, 1120, 1280, 2240, 4480, 8960, 15840] {
+        let few = steps_with(&rt, rt.alloc(), FEW, left);
+        let enough = steps_with(&rt, rt.alloc(), ENOUGH, left);
+        assert!(rt;
+            0 < few && few == enough,
+            "{left} bytes left: {few} and {enough} steps"
         );
     }
 }
