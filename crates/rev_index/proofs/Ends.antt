@@ -1,8 +1,9 @@
 -- One end more in a list of ends that lead to themselves.
-use Rattle.std.specs.Prelude.{ℕ, ◌≡◌, ◌+◌, ◌<◌, Some, List, [], ◌∷◌, ◌++◌, length, zero, suc, refl, slice_get}
-use Rattle.std.proofs.Common.{◌∙◌, ap, subst, arith, inl, inr}
-use Rattle.std.proofs.lemmas.Bool.{cases_lt}
-use Rattle.std.proofs.lemmas.List.{length-append}
+use Rattle.std.specs.Prelude.{ℕ, ◌≡◌, ◌+◌, ◌<◌, Some, List, [], ◌∷◌, ◌++◌, length, zero, suc, refl, slice_get, slice_set}
+use Rattle.std.proofs.Common.{◌∙◌, ap, sym, subst, arith, inl, inr}
+use Rattle.std.proofs.lemmas.Bool.{cases_eq, cases_lt}
+use Rattle.std.proofs.lemmas.List.{length-append, length-set}
+use Rattle.rev_links.proofs.Grids.{slice_get-set_same, slice_get-set_other}
 use Rattle.rev_links.specs.declared.places.Place.TheVariants.{End}
 use Rattle.rev_index.specs.Chains.{ChainLink}
 use Rattle.rev_index.specs.Index.{AreEmpty}
@@ -30,3 +31,17 @@ module _ (ends ends' : List ChainLink) (n : ℕ) (e : ends' ≡ ends ++ end_of n
     | inl a ↦ ap (λ xs. slice_get xs k) e ∙ (get_before ends (end_of n) k (omega (arith, a, count)) ∙ h k (omega (arith, a, count)))
     | inr b ↦ subst (λ m. slice_get ends' m ≡ Some (end_of m)) (omega (arith, b, l, count_more)) (ap (λ xs. slice_get xs n) e ∙ get_last ends (end_of n) n count)
   ]
+
+-- the first n ends are those of empty buckets, of as many as there were
+pub record Clears (before now : List ChainLink) (n : ℕ) : Type 0 where
+  pub count : length now ≡ length before
+  pub empty : (b : ℕ) → b < n → slice_get now b ≡ Some (end_of b)
+
+pub clears_more : (before now now' : List ChainLink) (n : ℕ) → n < length before → now' ≡ slice_set now n (end_of n) → Clears before now n → Clears before now' (n + 1)
+clears_more before now now' n l e h = record {
+  count = ap length e ∙ (length-set now n (end_of n) ∙ h.count);
+  empty = λ b m. ap (λ xs. slice_get xs b) e ∙ elim (cases_eq b n) [
+    | inl u ↦ subst (λ k. slice_get (slice_set now n (end_of n)) k ≡ Some (end_of k)) (sym u) (slice_get-set_same now n (end_of n) (omega (arith, l, h.count)))
+    | inr u ↦ slice_get-set_other now n b (end_of n) u ∙ h.empty b (omega (arith, m, u))
+  ];
+}

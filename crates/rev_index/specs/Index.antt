@@ -47,6 +47,10 @@ abbrev pub members_below : (ℕ → List ChunkRef) → ℕ → List ChunkRef
 members_below chain zero = []
 members_below chain (suc n) = chain n ++ members_below chain n
 
+-- the chunks of all buckets
+abbrev pub members : List ChainLink → List (List ChainLink) → List ChunkRef
+members ends links = members_below (chain ends links) (length ends)
+
 -- each of these chunks has an item whose key is neither in the map nor that of a chunk behind it
 abbrev pub AreNew : (ChunkRef → Option PlainItem) → Keys → List ChunkRef → Type 0
 AreNew item m [] = Unit {0}

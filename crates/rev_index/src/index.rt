@@ -8,8 +8,8 @@ ghost use Rattle.rev_model.specs.Move.{put_at, touched, touched_of};
 ghost use Rattle.rev_model.specs.Words.{header_of};
 ghost use Rattle.rev_index.specs.Index.{PlainIndex, bound, unbound, empty_index};
 
-use crate::chains::Chains;
-use crate::growth::{enter, fit_buckets};
+use crate::chains::{ChainLink, Chains};
+use crate::growth::{enter, fit_buckets, restore};
 use crate::item_table::ItemTable;
 use crate::making::empty_chains;
 use crate::parts::Slots;
@@ -26,6 +26,8 @@ use std::marker::Model;
 pub struct Index<A: Allocator> {
     chains: Chains<A>,
     items: ItemTable<A>,
+    // the ends of the buckets that the index began with, while there are more in their place: for `narrow` alone
+    first_ends: Option<Vec<ChainLink, A>>,
     // how many keys are bound, for `widen` alone
     bound: usize,
     // for how many keys the buckets are enough, or all that can be had for now: for `widen` alone, too
@@ -153,6 +155,19 @@ impl<A: Allocator> Index<A> {
         let items = self.items.lift(page);
         Slots { items, links }
     }
+
+    /// Gives the memory of grown buckets back: the index has those that it began with once more, and `widen` gives it
+    /// more only where an eighth of the keys has come or gone. The answer is whether it had grown. It takes no memory,
+    /// and time in the number of keys and buckets. Nothing that is seen of the index depends on its buckets.
+    pub fn narrow(&mut self) -> bool
+        ensures { self.new ≡ self.old }
+    {
+        let Some(ends) = self.first_ends.take() else {
+            return false;
+        };
+        self.enough_for = KeyRange::around(self.bound);
+        restore(&mut self.chains, &self.items, ends)
+    }
 }
 
 impl<A: Allocator + Clone> Index<A> {
@@ -172,20 +187,27 @@ impl<A: Allocator + Clone> Index<A> {
         Ok(Index {
             chains,
             items,
+            first_ends: None,
             bound: 0,
             enough_for,
         })
     }
 
     /// Gives the index four times as many buckets where they hold more than two keys each, on average, and 2^20 are not
-    /// exceeded. Where memory is refused it stays as it is until an eighth of the keys has come or gone; a growth that was
-    /// put off so is made at once, however many times four are wanted by then. Nothing that is seen of the index depends
-    /// on its buckets.
+    /// exceeded. Those that it began with are kept aside. Where memory is refused it stays as it is until an eighth of the
+    /// keys has come or gone; a growth that was put off so is made at once, however many times four are wanted by then.
+    /// Nothing that is seen of the index depends on its buckets.
     pub fn widen(&mut self, alloc: &A)
         ensures { self.new ≡ self.old }
     {
         if !self.enough_for.contains(self.bound) {
-            self.enough_for = fit_buckets(&mut self.chains, &self.items, self.bound, alloc);
+            self.enough_for = fit_buckets(
+                &mut self.chains,
+                &self.items,
+                &mut self.first_ends,
+                self.bound,
+                alloc,
+            );
         }
     }
 }

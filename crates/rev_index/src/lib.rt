@@ -1,5 +1,5 @@
 //! The items of chunks and the chunk of each key: hash chains that run through the slots of pages. After `open` only
-//! `slots` takes memory, and `widen` where the chains are long.
+//! `slots` takes memory, and `widen` where the chains are long, which `narrow` gives back.
 #![tactic(auto)]
 
 mod chains;

@@ -1,6 +1,7 @@
 ghost use Rattle.std.specs.Prelude.{◌≡◌, ◌≤◌, ◌^◌, ℕ, IfOk, length};
 ghost use Rattle.rev_index.specs.Index.{AllNone, AreEmpty};
 ghost use Rattle.rev_links.specs.Grids.{away};
+ghost use Rattle.rev_links.specs.declared.places.Place.TheVariants.{End};
 
 use crate::chains::{Bucket, ChainLink, Chains};
 use crate::item_table::PageItems;
@@ -51,7 +52,18 @@ fn buckets(hash_power: u32) -> u32
     1 << hash_power
 }
 
-/// The ends of so many buckets, each before and behind itself.
+// The end of an empty bucket, before and behind itself.
+fn empty_end(number: u32) -> ChainLink
+    ensures { result ≡ record { previous = End (record { number = number }); next = End (record { number = number }) } }
+{
+    let place = Place::End(Bucket { number });
+    Link {
+        previous: place,
+        next: place,
+    }
+}
+
+/// The ends of so many empty buckets.
 ///
 /// The one error is that there is no memory.
 pub fn empty_ends<A: Allocator>(alloc: A, n: u32) -> Result<Vec<ChainLink, A>, AllocError>
@@ -60,13 +72,20 @@ pub fn empty_ends<A: Allocator>(alloc: A, n: u32) -> Result<Vec<ChainLink, A>, A
 {
     let mut ends = Vec::with_capacity(alloc, n as usize)?;
     for number in 0..n {
-        let place = Place::End(Bucket { number });
-        ends.push(Link {
-            previous: place,
-            next: place,
-        })?;
+        ends.push(empty_end(number))?;
     }
     Ok(ends)
+}
+
+/// Makes each end that of an empty bucket.
+pub fn clear_ends(ends: &mut [ChainLink])
+    requires few { length ends.old ≤ 2 ^ 20 }
+    ensures count { length ends.new ≡ length ends.old }
+    ensures empty { AreEmpty ends.new }
+{
+    for number in 0..ends.len() {
+        ends[number] = empty_end(number as u32);
+    }
 }
 
 /// The chains of 2^hash_power empty buckets, over so many pages that are away.

@@ -8,7 +8,7 @@ use std::collections::VecDeque;
 use std::marker::Model;
 
 /// A store. It takes memory when it is opened, for the slots of a page (`parts`) and for more buckets of its index
-/// (`widen`), and at no other time.
+/// (`widen`, and `narrow` gives it back), and at no other time.
 #[derive(Drop)]
 pub struct Store<A: Allocator> {
     pub(crate) pages: Pages<A>,

@@ -3,6 +3,7 @@
 mod fixed;
 mod growth;
 mod heap;
+mod narrow;
 mod parts;
 mod pictures;
 mod sessions;

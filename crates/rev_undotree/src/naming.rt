@@ -60,7 +60,7 @@ fn stored_hash<A: Allocator>(step: &Step<A>, outcome: Outcome) -> Option<u32>
 
 /// Mentions a hash, if there is one.
 #[inline(always)]
-fn mention_hash<A: Allocator>(
+fn mention_hash<A: Allocator + Clone>(
     mentions: &mut Mentions<A>,
     hash: Option<u32>,
     node: u32,
@@ -86,7 +86,7 @@ fn item_hash<A: Allocator>(item: Option<&Item<A>>) -> Option<u32>
 }
 
 /// Mentions the key of the item that a chunk holds.
-fn mention_chunk<A: Allocator>(
+fn mention_chunk<A: Allocator + Clone>(
     mentions: &mut Mentions<A>,
     store: &Store<A>,
     chunk: ChunkRef,
@@ -100,7 +100,7 @@ fn mention_chunk<A: Allocator>(
 }
 
 /// Mentions the key of an item that a change holds, if there is one, and of what a chunk holds.
-fn mention_both<A: Allocator>(
+fn mention_both<A: Allocator + Clone>(
     mentions: &mut Mentions<A>,
     store: &Store<A>,
     item: Option<&Item<A>>,
@@ -116,7 +116,7 @@ fn mention_both<A: Allocator>(
 }
 
 /// Mentions the keys that a change names.
-fn mention_move<A: Allocator>(
+fn mention_move<A: Allocator + Clone>(
     mentions: &mut Mentions<A>,
     store: &Store<A>,
     undo: &Move<A>,
@@ -150,7 +150,7 @@ fn mention_move<A: Allocator>(
 }
 
 /// Mentions the keys that a record names.
-fn mention_record<A: Allocator>(
+fn mention_record<A: Allocator + Clone>(
     mentions: &mut Mentions<A>,
     store: &Store<A>,
     undo: &Record<A>,
@@ -173,7 +173,7 @@ fn mention_record<A: Allocator>(
 /// its node.
 ///
 /// Err: a growth was refused; some may be mentioned.
-pub fn mention<A: Allocator>(
+pub fn mention<A: Allocator + Clone>(
     mentions: &mut Mentions<A>,
     store: &Store<A>,
     step: &Step<A>,

@@ -1,5 +1,5 @@
 //! A session: a store, and the tree of all that was played on it.
-ghost use Rattle.std.specs.Prelude.{◌≡◌, ◌++◌, ◌∷◌, [], ◌+◌, ◌-◌, ◌≤◌, ℕ, eqb, length, IfOk, IfErr, OnErr, OnOk, IsOk, IsTrue, ◌↔◌, Some, None, Err, true, false, not, ◌<◌, slice_get, IfSome, IfNone, IsNone, IsSome, ◌⊎◌};
+ghost use Rattle.std.specs.Prelude.{◌≡◌, ◌≢◌, ◌++◌, ◌∷◌, [], ◌+◌, ◌-◌, ◌≤◌, ℕ, eqb, length, IfOk, IfErr, OnErr, OnOk, IsOk, IsTrue, ◌↔◌, Some, None, Err, true, false, not, ◌<◌, slice_get, IfSome, IfNone, IsNone, IsSome, ◌⊎◌};
 ghost use Rattle.std.specs.Option.{option_map};
 ghost use Rattle.rev_steps.specs.Plain.{plain_step};
 ghost use Rattle.rev_undotree.specs.Steps.{Sound, outcome_of};
@@ -148,8 +148,48 @@ impl<A: Allocator + Clone> Session<A> {
     }
 
     /// Plays a step below the current node; its node is then the current one. A refused step is handed back, and
-    /// nothing is changed. TooManyNodes goes before TooDeep, and that before Memory.
+    /// nothing is changed. TooManyNodes goes before TooDeep, and that before Memory: which comes only where there is no
+    /// memory for the play with the buckets that the session began with.
     pub fn play(&mut self, step: Step<A>) -> Result<Played, (PlayFault, Step<A>)>
+        ensures ok { IfOk result (λ p. self.new ≡ record { root = self.old.root; rows = self.old.rows ++ Some (row self.old.current (plain_step step) (not (is_continued self.old.rows self.old.current))) ∷ []; current = p.node.0 }) }
+        ensures node { IfOk result (λ p. p.node.0 ≡ length self.old.rows + 1) }
+        ensures outcome { IfOk result (λ p. p.outcome ≡ outcome_of (at self.old.root self.old.rows self.old.current) (plain_step step)) }
+        ensures err { OnErr result (self.new ≡ self.old) }
+        ensures many { IsFault result TooManyNodes ↔ (length self.old.rows ≡ 1048576) }
+        ensures deep { IsFault result TooDeep ↔ ((length self.old.rows < 1048576) × (64 < nesting_below self.old.rows self.old.current)) }
+        ensures returned { IfErr result (λ e. plain_step e.1 ≡ plain_step step) }
+    {
+        match self.play_once(step) {
+            Ok(played) => Ok(played),
+            Err((PlayFault::Memory, step)) => self.play_narrowed(step),
+            Err(refused) => Err(refused),
+        }
+    }
+
+    // Plays a step for which there was no memory once more, where some can be given back.
+    #[cold]
+    fn play_narrowed(&mut self, step: Step<A>) -> Result<Played, (PlayFault, Step<A>)>
+        // memory was what it was refused for
+        requires many { length self.old.rows ≢ 1048576 }
+        requires deep { (length self.old.rows < 1048576) × (64 < nesting_below self.old.rows self.old.current) → ⊥ }
+        ensures ok { IfOk result (λ p. self.new ≡ record { root = self.old.root; rows = self.old.rows ++ Some (row self.old.current (plain_step step) (not (is_continued self.old.rows self.old.current))) ∷ []; current = p.node.0 }) }
+        ensures node { IfOk result (λ p. p.node.0 ≡ length self.old.rows + 1) }
+        ensures outcome { IfOk result (λ p. p.outcome ≡ outcome_of (at self.old.root self.old.rows self.old.current) (plain_step step)) }
+        ensures err { OnErr result (self.new ≡ self.old) }
+        ensures many { IsFault result TooManyNodes ↔ (length self.old.rows ≡ 1048576) }
+        ensures deep { IsFault result TooDeep ↔ ((length self.old.rows < 1048576) × (64 < nesting_below self.old.rows self.old.current)) }
+        ensures returned { IfErr result (λ e. plain_step e.1 ≡ plain_step step) }
+    {
+        if self.narrow() {
+            self.play_once(step)
+        } else {
+            Err((PlayFault::Memory, step))
+        }
+    }
+
+    // Plays a step, as `play` does, with the buckets that there are.
+    #[inline(always)]
+    fn play_once(&mut self, step: Step<A>) -> Result<Played, (PlayFault, Step<A>)>
         ensures ok { IfOk result (λ p. self.new ≡ record { root = self.old.root; rows = self.old.rows ++ Some (row self.old.current (plain_step step) (not (is_continued self.old.rows self.old.current))) ∷ []; current = p.node.0 }) }
         ensures node { IfOk result (λ p. p.node.0 ≡ length self.old.rows + 1) }
         ensures outcome { IfOk result (λ p. p.outcome ≡ outcome_of (at self.old.root self.old.rows self.old.current) (plain_step step)) }
@@ -205,6 +245,17 @@ impl<A: Allocator + Clone> Session<A> {
                 }
             }
         }
+    }
+
+    /// Gives the memory back that was taken for speed alone: that of more buckets, for the index of the store and for the
+    /// log of mentions, than the session began with. More are asked for again once there are an eighth more keys, or
+    /// mentions. The answer is whether there was such memory. It takes none, and time in the number of keys and mentions.
+    pub fn narrow(&mut self) -> bool
+        ensures { self.new ≡ self.old }
+    {
+        let had_keys = self.position.store.narrow();
+        let had_mentions = self.mentions.narrow();
+        had_keys || had_mentions
     }
 
     /// The store at the current node: what the steps from the root to it give from scratch.

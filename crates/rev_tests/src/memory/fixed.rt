@@ -82,8 +82,8 @@ fn refusal<'a>(session: &mut Session<&'a LocalHeap>) -> Option<PlayFault> {
     }
 }
 
-// Plays so many steps, up to the first that is refused memory, and tells how many were played.
-fn played<'a, R: Abort>(rt: &R, session: &mut Session<&'a LocalHeap>, most: u32) -> u32 {
+/// Plays so many steps that take little, up to the first that is refused memory, and tells how many were played.
+pub fn played<'a, R: Abort>(rt: &R, session: &mut Session<&'a LocalHeap>, most: u32) -> u32 {
     for number in 0..most {
         match refusal(session) {
             None => {}

@@ -3,7 +3,7 @@
 
 use crate::memory::heap::fill;
 use crate::memory::parts::SMALL;
-use crate::memory::steps::{delete_of, set_of};
+use crate::memory::steps::{delete_of, numbered_key, set_of};
 use crate::owned::is_made;
 use linked_list_allocator::LocalHeap;
 use rev_classes::Config;
@@ -19,15 +19,10 @@ const BYTES: usize = 131072;
 // The fewest keys that are too many for 16 buckets.
 const CROWD: usize = 33;
 
-// What a growth at 33 keys asks for: 4 bytes a key in whole units of 16, and then 64 buckets of 16 bytes each.
-const LIST: usize = 144;
+// What is taken where 64 buckets of 16 bytes each are in the place of 16, which are kept, and where 256 are.
+const FOUR_TIMES: usize = 1024;
 
-const GROWTH: usize = LIST + 1024;
-
-// What is taken where 64 buckets are in the place of 16, and where 256 are.
-const FOUR_TIMES: usize = 768;
-
-const SIXTEEN_TIMES: usize = 3840;
+const SIXTEEN_TIMES: usize = 4096;
 
 // A store with the keys of the numbers below `keys`.
 #[derive(Drop)]
@@ -130,6 +125,17 @@ impl<'a> Cache<'a> {
         is_set
     }
 
+    // Whether each key leads to an item.
+    fn holds_all<R: Abort>(&self, rt: &R) -> bool {
+        for number in 0..self.keys {
+            let key = numbered_key(rt, self.heap, number);
+            if self.store.item(&key).is_none() {
+                return false;
+            }
+        }
+        true
+    }
+
     // What the heap has left beside the keys: less by what more buckets took, and else the same.
     fn spare(&self) -> usize {
         let keys = self.keys.wrapping_mul(self.bytes_of_a_key);
@@ -153,20 +159,20 @@ fn taken_with<R: Abort>(rt: &R, alloc: Global, left: usize) -> usize {
     taken
 }
 
-// Neither the list nor the buckets, the list alone, all but the last bytes, and all.
+// Nothing, all but the last bytes, and all.
 #[test]
 fn refused_in_turn(rt: HostRuntime) {
-    for left in [0, LIST - 16, LIST, GROWTH - 16] {
+    for left in [0, FOUR_TIMES - 16] {
         assert!(rt; taken_with(&rt, rt.alloc(), left) == 0, "{left} bytes left");
     }
-    assert!(rt; taken_with(&rt, rt.alloc(), GROWTH) == FOUR_TIMES);
+    assert!(rt; taken_with(&rt, rt.alloc(), FOUR_TIMES) == FOUR_TIMES);
 }
 
 // A growth takes what the step behind it wants, which is refused and played once there is memory.
 fn step_behind_growth<R: Abort>(rt: &R, alloc: Global, heap: &LocalHeap) {
     let mut cache = Cache::new(rt, heap);
     let spare = cache.spare();
-    let is_set = cache.is_set_with(rt, alloc, GROWTH);
+    let is_set = cache.is_set_with(rt, alloc, FOUR_TIMES);
     assert!(rt; !is_set && cache.taken_since(spare) == FOUR_TIMES);
     cache.add(rt);
     assert!(rt; cache.taken_since(spare) == FOUR_TIMES);
@@ -177,6 +183,37 @@ fn step_behind_growth<R: Abort>(rt: &R, alloc: Global, heap: &LocalHeap) {
 fn step_behind_growth_is_refused(rt: HostRuntime) {
     let heap = LocalHeap::new(rt.alloc(), BYTES).expect(&rt, "no memory");
     step_behind_growth(&rt, rt.alloc(), &heap);
+}
+
+// Buckets that grew go back, and come again with an eighth more keys. No key is lost.
+fn narrowed<R: Abort>(rt: &R, heap: &LocalHeap) {
+    let mut cache = Cache::new(rt, heap);
+    let spare = cache.spare();
+    assert!(rt;
+        !cache.store.narrow() && cache.taken_since(spare) == 0,
+        "none have grown"
+    );
+    cache.idle(rt);
+    assert!(rt; cache.taken_since(spare) == FOUR_TIMES && cache.holds_all(rt));
+    assert!(rt; cache.store.narrow() && cache.taken_since(spare) == 0 && cache.holds_all(rt));
+    assert!(rt; !cache.store.narrow(), "they went back before");
+    cache.add_up_to(rt, 37);
+    cache.idle(rt);
+    assert!(rt; cache.taken_since(spare) == 0, "asked too soon");
+    cache.add(rt);
+    cache.idle(rt);
+    assert!(rt;
+        cache.taken_since(spare) == FOUR_TIMES && cache.holds_all(rt),
+        "not asked again"
+    );
+    assert!(rt; cache.store.narrow() && cache.taken_since(spare) == 0 && cache.holds_all(rt));
+    drop(cache);
+}
+
+#[test]
+fn grown_buckets_go_back(rt: HostRuntime) {
+    let heap = LocalHeap::new(rt.alloc(), BYTES).expect(&rt, "no memory");
+    narrowed(&rt, &heap);
 }
 
 // Keys from 29 to 37 are within an eighth of 33. Each of them comes and goes with memory for more buckets there.

@@ -69,6 +69,12 @@ pub fn set_of<R: Abort, A: Allocator + Clone>(rt: &R, alloc: A, number: usize) -
     Step::Client(store_of(rt, alloc, StoreVerb::Set, name.as_str(), 1))
 }
 
+/// The key of this number.
+pub fn numbered_key<R: Abort, A: Allocator + Clone>(rt: &R, alloc: A, number: usize) -> Key<A> {
+    let name = numbered_name(rt, alloc.clone().expect(rt, "no memory"), number);
+    key_of(rt, alloc, name.as_str())
+}
+
 /// A delete of the key of this number.
 pub fn delete_of<R: Abort, A: Allocator + Clone>(rt: &R, alloc: A, number: usize) -> Step<A> {
     let name = numbered_name(rt, alloc.clone().expect(rt, "no memory"), number);

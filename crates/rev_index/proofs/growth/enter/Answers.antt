@@ -1,5 +1,7 @@
 use Rattle.std.proofs.Common.{refl}
 use Rattle.rev_index.specs.Index.{index_of}
+use Rattle.rev_links.specs.declared.places.Place.TheVariants.{At}
+use Rattle.rev_index.proofs.Widening.{at_inj}
 use Rattle.rev_index.proofs.Moves.{item_there, bind_there, bind_gap, bind_chained, bind_value}
 use Rattle.rev_index.proofs.growth.enter.Goals as goal
 
@@ -32,3 +34,6 @@ returns-clause-value g c =
     let s = c.args.chains.now in
     let r = c.requires.item in
     bind_value s.ends.items s.links c.args.items.now c.requires.kept (index_of s.ends.items s.links c.args.items.now) refl c.args.chunk r.0 r.1 r.2 c.home-bucket.result c.home-bucket.ensures _ _ c.insert.ensures.shape c.insert.ensures.value
+
+pub returns-clause-others : goal.returns-clause-others
+returns-clause-others g c = λ other apart. c.insert.ensures.value.opened.next_same (At other) (λ e. cc) (λ e. apart (at_inj other c.args.chunk e))

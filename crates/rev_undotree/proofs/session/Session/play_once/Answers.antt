@@ -19,7 +19,7 @@ use Rattle.rev_undotree.proofs.Growth.{kept_sound, length_rows, play_kept, play_
 use Rattle.rev_undotree.proofs.Machine.{kept_tree, kept_path, goes_on_is, deep_is, deep_not}
 use Rattle.rev_undotree.specs.Mentions.{Within}
 use Rattle.rev_undotree.proofs.Walk.{held_number}
-use Rattle.rev_undotree.proofs.session.Session.play.Goals as goal
+use Rattle.rev_undotree.proofs.session.Session.play_once.Goals as goal
 
 -- a session with all its parts as they were
 state_back : (t u : State) (b c : PlainBranch) (w v : List Junction) (k j issued : ℕ) → u ≡ t → c ≡ b → v ≡ w → j ≡ k →
