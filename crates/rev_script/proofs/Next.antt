@@ -20,7 +20,7 @@ use Rattle.rev_script.specs.declared.byte_reader.LineFault.{LineFault}
 use Rattle.rev_script.specs.declared.byte_reader.LineFault.TheVariants as faults
 use Rattle.rev_script.specs.declared.raw_line.RawLine.{RawLine}
 use Rattle.rev_script.specs.declared.command.Command.{Command}
-use Rattle.rev_script.specs.declared.command.Command.TheVariants.{Storage, Retrieval, Update, FlushAll, Actor, Clock, Debug, Query, Bookmark, Bad}
+use Rattle.rev_script.specs.declared.command.Command.TheVariants.{Storage, Retrieval, Update, FlushAll, Actor, Tune, Debug, Query, Bookmark, Bad}
 use Rattle.rev_script.specs.declared.command.BadAnswer.TheVariants.{LineTooLong, BadChunk}
 use Rattle.rev_script.proofs.Known.{Took-then, Took-broke}
 use Rattle.rev_script.proofs.Text.{after_lf-append}
@@ -35,8 +35,8 @@ no_block d (Storage c flags exptime size noreply) e = absurd (cc)
 no_block d (Retrieval with_cas) e = (refl, refl)
 no_block d (Update c noreply) e = (refl, refl)
 no_block d (FlushAll delay noreply) e = (refl, refl)
-no_block d (Actor c) e = (refl, refl)
-no_block d (Clock n) e = (refl, refl)
+no_block d (Actor a) e = (refl, refl)
+no_block d (Tune t) e = (refl, refl)
 no_block d (Debug c) e = (refl, refl)
 no_block d (Query q) e = (refl, refl)
 no_block d (Bookmark c) e = (refl, refl)

@@ -3,10 +3,11 @@ ghost use Rattle.std.specs.Prelude.{◌≡◌, map, ◌<◌};
 ghost use Rattle.rev_script.specs.Commands.{storage_of, storage, storage_command, cas_command, retrieval_command, delete_command, touch_command, increment_command, decrement_command, flush_command};
 ghost use Rattle.rev_script.specs.Keyed.{HasKeys};
 
-use crate::command::{BadAnswer, Command, StorageCommand, UpdateCommand};
+use crate::command::{BadAnswer, Command, StorageCommand};
 use crate::keys::is_key;
 use crate::number::{number, number_u32, signed};
 use crate::words::{are_keys, are_words, is_word, word};
+use rev_requests::{Arithmetic, JoinSide, KeyCommand, StoreVerb};
 
 /// The storage command of this name, but for `cas`.
 #[tactic(auto, unfolding(crate::specs::Commands::storage_of))]
@@ -14,15 +15,15 @@ pub fn storage_of(w: &[u8]) -> Option<StorageCommand>
     ensures { result ≡ storage_of w.now }
 {
     if is_word(w, b"set") {
-        Some(StorageCommand::Set)
+        Some(StorageCommand::Store(StoreVerb::Set))
     } else if is_word(w, b"add") {
-        Some(StorageCommand::Add)
+        Some(StorageCommand::Store(StoreVerb::Add))
     } else if is_word(w, b"replace") {
-        Some(StorageCommand::Replace)
+        Some(StorageCommand::Store(StoreVerb::Replace))
     } else if is_word(w, b"append") {
-        Some(StorageCommand::Append)
+        Some(StorageCommand::Join(JoinSide::Append))
     } else if is_word(w, b"prepend") {
-        Some(StorageCommand::Prepend)
+        Some(StorageCommand::Join(JoinSide::Prepend))
     } else {
         None
     }
@@ -80,7 +81,7 @@ pub fn cas_command(words: &[&[u8]]) -> Command
     let Some(cas) = number(word(words, 5), 18446744073709551615) else {
         return Command::Bad(BadAnswer::BadFormat);
     };
-    storage(StorageCommand::Cas(cas), 6, words)
+    storage(StorageCommand::Store(StoreVerb::Cas(cas)), 6, words)
 }
 
 /// `get` and `gets`.
@@ -120,7 +121,7 @@ pub fn delete_command(words: &[&[u8]]) -> Command
         return Command::Bad(BadAnswer::BadFormat);
     }
     Command::Update {
-        command: UpdateCommand::Delete,
+        command: KeyCommand::Delete,
         noreply: n == 4 || (n == 3 && quiet),
     }
 }
@@ -140,7 +141,7 @@ pub fn touch_command(words: &[&[u8]]) -> Command
         return Command::Bad(BadAnswer::BadExptime);
     };
     Command::Update {
-        command: UpdateCommand::Touch(exptime),
+        command: KeyCommand::Touch(exptime),
         noreply: words.len() == 4,
     }
 }
@@ -160,7 +161,7 @@ pub fn increment_command(words: &[&[u8]]) -> Command
         return Command::Bad(BadAnswer::BadDelta);
     };
     Command::Update {
-        command: UpdateCommand::Increment(delta),
+        command: KeyCommand::Count(Arithmetic::Increment(delta)),
         noreply: words.len() == 4,
     }
 }
@@ -180,7 +181,7 @@ pub fn decrement_command(words: &[&[u8]]) -> Command
         return Command::Bad(BadAnswer::BadDelta);
     };
     Command::Update {
-        command: UpdateCommand::Decrement(delta),
+        command: KeyCommand::Count(Arithmetic::Decrement(delta)),
         noreply: words.len() == 4,
     }
 }

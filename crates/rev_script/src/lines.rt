@@ -19,9 +19,7 @@ ghost use Rattle.rev_script.specs.ByteReader.{Took, Broke, IsEnded, front};
 ghost use Rattle.rev_script.specs.DataBlock.{IsBroken};
 
 use crate::byte_reader::{ByteReader, LineFault};
-use crate::command::{
-    BadAnswer, BookmarkCommand, Command, KeyQuery, StorageCommand, UpdateCommand,
-};
+use crate::command::{BadAnswer, BookmarkCommand, Command, KeyQuery, StorageCommand};
 use crate::data_block::{MOST_DATA, take_block};
 use crate::dialect::Dialect;
 use crate::grammar::{asked, body};
@@ -32,7 +30,7 @@ use crate::source::Source;
 use crate::words::{few_words, few_words_in, word, words};
 use arrayvec::ArrayVec;
 use rev_items::{Filler, Key};
-use rev_requests::Payload;
+use rev_requests::{KeyCommand, Payload};
 use std::alloc::{AllocError, Allocator};
 use std::marker::Model;
 
@@ -73,7 +71,7 @@ fn retrieval_line<A: Allocator + Clone>(
 #[inline(always)]
 fn update_line<A: Allocator>(
     alloc: A,
-    command: UpdateCommand,
+    command: KeyCommand,
     noreply: bool,
     words: &[&[u8]],
 ) -> Result<Line<A>, AllocError>
@@ -133,8 +131,8 @@ fn plain_line<A: Allocator + Clone>(
             delay,
             noreply,
         })),
-        Command::Actor(command) => Ok(Line::Actor(command)),
-        Command::Clock(now) => Ok(Line::Clock(now)),
+        Command::Actor(step) => Ok(Line::Actor(step)),
+        Command::Tune(tune) => Ok(Line::Tune(tune)),
         Command::Debug(command) => Ok(Line::Debug(DebugLine::Plain(command))),
         Command::Query(query) => query_line(alloc, query, words),
         Command::Bookmark(command) => bookmark_line(alloc, command, words),

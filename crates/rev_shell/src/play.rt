@@ -6,12 +6,11 @@ ghost use Rattle.rev_shell.specs.Texts.{item_of, found_value};
 ghost use Rattle.rev_script.specs.Steps.{get};
 ghost use Rattle.rev_shell.specs.Answers.{state_of, reply, after_step, reply_text, value_of, values, after_gets, was_hit};
 
-use crate::asked::get_step;
 use crate::text::{put_outcome, put_output, put_value};
 use rev_inverse::Store;
 use rev_items::Key;
 use rev_model::Outcome;
-use rev_steps::Step;
+use rev_requests::{ClientStep, KeyCommand, Step};
 use rev_undotree::{PlayFault, Played, Session};
 use std::alloc::{AllocError, Allocator};
 
@@ -121,7 +120,11 @@ fn get_one<A: Allocator + Clone>(
 {
     let start = answer.len();
     put_found(session.store(), &key, with_cas, answer)?;
-    let reply = play(session, get_step(key))?;
+    let get = ClientStep::Keyed {
+        command: KeyCommand::Get,
+        key,
+    };
+    let reply = play(session, Step::Client(get))?;
     if !was_hit(reply) {
         answer.truncate(start);
     }
