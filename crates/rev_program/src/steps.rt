@@ -69,14 +69,30 @@ fn add_client(steps: &mut Vec<Step<Global>>, line: ClientLine<Global>) -> Result
     ensures { OnOk result (Adds (map plain_step steps.old.items) (map plain_step steps.new.items) (client_view line)) }
 {
     let step = match line {
-        ClientLine::Storage {
-            command,
+        ClientLine::Store {
+            verb,
             key,
             flags,
             exptime,
             payload,
             ..
-        } => command.step(key, flags, exptime, payload),
+        } => ClientStep::Store {
+            verb,
+            key,
+            flags,
+            exptime,
+            data: payload,
+        },
+        ClientLine::Join {
+            side,
+            key,
+            payload,
+            ..
+        } => ClientStep::Join {
+            side,
+            key,
+            data: payload,
+        },
         ClientLine::Retrieval { keys, .. } => return add_gets(steps, keys),
         ClientLine::Update { command, key, .. } => ClientStep::Keyed { command, key },
         ClientLine::FlushAll { delay, .. } => ClientStep::FlushAll { delay },

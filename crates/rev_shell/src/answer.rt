@@ -29,15 +29,34 @@ fn put_client<A: Allocator + Clone>(
     ensures session { (marks : List (List ℕ × ℕ)) → OnOk result (with_bookmarks session.new marks ≡ after (with_bookmarks session.old marks) (client_view line)) }
 {
     match line {
-        ClientLine::Storage {
-            command,
+        ClientLine::Store {
+            verb,
             key,
             flags,
             exptime,
             payload,
             noreply,
         } => {
-            let step = command.step(key, flags, exptime, payload);
+            let step = ClientStep::Store {
+                verb,
+                key,
+                flags,
+                exptime,
+                data: payload,
+            };
+            play_line(session, Step::Client(step), noreply, out)
+        }
+        ClientLine::Join {
+            side,
+            key,
+            payload,
+            noreply,
+        } => {
+            let step = ClientStep::Join {
+                side,
+                key,
+                data: payload,
+            };
             play_line(session, Step::Client(step), noreply, out)
         }
         ClientLine::Retrieval { keys, with_cas } => put_values(session, keys, with_cas, out),
