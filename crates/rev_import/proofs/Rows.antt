@@ -1,5 +1,5 @@
 -- What each line that is written asks for.
-use Rattle.std.proofs.Common.{◌≡◌, ℕ, ◌+◌, ◌<◌, ◌≤◌, ◌^◌, ◌==◌, ℤ, ◌⊎◌, inl, inr, true, false, List, [], ◌∷◌, ◌++◌, length, take, nat_lt, cond, append_assoc, length-append, append-nil, refl, sym, ◌∙◌, ap, subst, arith, Bool, codes, Option, None, Some, Result, Ok, Err, OnOk}
+use Rattle.std.proofs.Common.{◌≡◌, ℕ, ◌+◌, ◌<◌, ◌≤◌, ◌^◌, ◌==◌, ℤ, ◌⊎◌, inl, inr, true, false, List, [], ◌∷◌, ◌++◌, length, take, nat_lt, cond, append_assoc, length-append, append-nil, refl, sym, ◌∙◌, ap, subst, arith, Bool, codes, Some, Result, Ok, Err, OnOk}
 use Rattle.std.specs.Fmt.{decimal, signed_decimal}
 use Rattle.std.proofs.Math.ListN.{replicate}
 use Rattle.std.proofs.lemmas.List.{length-replicate}
@@ -17,7 +17,7 @@ use Rattle.rev_model.specs.declared.Queue.{Queue}
 use Rattle.rev_model.specs.declared.Queue.TheVariants.{Hot, Warm, Cold, Temp}
 use Rattle.rev_model.specs.declared.ClassSet.TheVariants.{These, All}
 use Rattle.rev_script.specs.Number.{number, number_u32, signed, is_digit, has, ids, id_or_0}
-use Rattle.rev_script.specs.Commands.{command, clock_of, verb_of, side_of, actor_command, other_command, memory_command, retrieval_command, delete_command, store_command, store_of, data_numbers, three_numbers, queue_of, with_queue, crawler_command, slabs_command, reassign_of, lru_command, temp_ttl_of}
+use Rattle.rev_script.specs.Commands.{command, clock_of, storage_of, actor_command, other_command, memory_command, retrieval_command, delete_command, storage_command, storage_line, queue_of, with_queue, crawler_command, slabs_command, reassign_of, lru_command, temp_ttl_of}
 use Rattle.rev_requests.specs.declared.clients.KeyCommand.TheVariants as keyed
 use Rattle.rev_requests.specs.declared.actors.ActorStep.{ActorStep}
 use Rattle.rev_requests.specs.declared.actors.ActorStep.TheVariants as actors
@@ -25,15 +25,15 @@ use Rattle.rev_script.proofs.Places.{split_none}
 use Rattle.rev_script.proofs.Front.{take_front, drop_front}
 use Rattle.rev_script.specs.Commands as commands
 use Rattle.rev_script.specs.declared.dialect.Dialect.TheVariants.{CrLf}
-use Rattle.rev_requests.specs.declared.clients.StoreVerb.{StoreVerb}
+use Rattle.rev_script.specs.declared.command.StorageCommand.{StorageCommand}
 use Rattle.rev_script.specs.declared.command.BadAnswer.TheVariants.{BadFormat, BadChunk}
 use Rattle.rev_model.specs.Client.{Bytes, Skipped}
 use Rattle.rev_import.specs.declared.writing.Storing.{Storing}
 use Rattle.rev_import.specs.declared.writing.Storing.TheVariants.{Set, Add, Replace}
 use Rattle.rev_script.specs.declared.command.Command.{Command}
-use Rattle.rev_script.specs.declared.command.Command.TheVariants.{Retrieval, Update, Actor, Store, Bad}
-use Rattle.rev_script.specs.Script.{ScriptLine, RetrievalLine, UpdateLine, ActorLine, StoreLine, BadLine, BeginsStore, with_data, payload_in, payload_of, block_size, line_of}
-use Rattle.rev_import.specs.Writing.{Adds, IsLine, is_word, spaced, line_text, queue_name, verb, storage_name}
+use Rattle.rev_script.specs.declared.command.Command.TheVariants.{Retrieval, Update, Actor, Storage, Bad}
+use Rattle.rev_script.specs.Script.{ScriptLine, RetrievalLine, UpdateLine, ActorLine, StorageLine, BadLine, storage_line_of, payload_of, block_size, line_of}
+use Rattle.rev_import.specs.Writing.{Adds, IsLine, is_word, spaced, line_text, queue_name, storage, storage_name}
 use Rattle.rev_import.proofs.Words.{both, either}
 use Rattle.rev_import.proofs.Numerals.{script_numerals, digit_from, number-decimal, number_u32-decimal, signed-signed_decimal, is_word-decimal, is_word-signed, is_word-key}
 use Rattle.rev_import.proofs.Lines.{line_whole, adds_line}
@@ -58,7 +58,7 @@ clock_row n w h e =
     subst (λ v. IsLine (line_text (codes "@") (v ∷ [])) (ActorLine (actors.Clock n))) (sym e) row
 
 pub get_row : (key : List ℕ) → is_key key ≡ true → IsLine (line_text (codes "get") (key ∷ [])) (RetrievalLine (key ∷ []) false)
-unfolding command other_command verb_of side_of retrieval_command
+unfolding command other_command storage_of retrieval_command
 get_row key h =
     let w = is_word-key key h in
     plain_row (codes "get") (key ∷ []) (Retrieval false) refl (either _ _ w.0 refl)
@@ -66,7 +66,7 @@ get_row key h =
     (rw h refl) refl
 
 pub delete_row : (key : List ℕ) → is_key key ≡ true → IsLine (line_text (codes "delete") (key ∷ [])) (UpdateLine keyed.Delete key false)
-unfolding command other_command verb_of side_of delete_command
+unfolding command other_command storage_of delete_command
 delete_row key h =
     let w = is_word-key key h in
     plain_row (codes "delete") (key ∷ []) (Update keyed.Delete false) refl (either _ _ w.0 refl)
@@ -149,7 +149,7 @@ one_id n h =
     ∙ or_zero_l (2 ^ n)
 
 pub crawl_start_row : (n : ℕ) (w : List ℕ) → n < 64 → w ≡ decimal n → IsLine (line_text (codes "lru_crawler") (codes "crawl" ∷ w ∷ [])) (ActorLine (actors.StartCrawl (These (2 ^ n))))
-unfolding command other_command verb_of side_of memory_command crawler_command
+unfolding command other_command storage_of memory_command crawler_command
 crawl_start_row n w h e =
     let many = digits_not_all (decimal n) (digits_decimal script_numerals n (omega arith)) in
     let row =
@@ -160,7 +160,7 @@ crawl_start_row n w h e =
     subst (λ x. IsLine (line_text (codes "lru_crawler") (codes "crawl" ∷ x ∷ [])) (ActorLine (actors.StartCrawl (These (2 ^ n))))) (sym e) row
 
 pub reassign_row : (n m : ℕ) (w v : List ℕ) → n < 2 ^ 32 → m < 2 ^ 32 → w ≡ decimal n → v ≡ decimal m → IsLine (line_text (codes "slabs") (codes "reassign" ∷ w ∷ v ∷ [])) (ActorLine (actors.Reassign n m))
-unfolding command other_command verb_of side_of memory_command slabs_command
+unfolding command other_command storage_of memory_command slabs_command
 reassign_row n m w v h k e1 e2 =
     let row =
     plain_row (codes "slabs") (codes "reassign" ∷ decimal n ∷ decimal m ∷ []) (Actor (actors.Reassign n m)) refl
@@ -172,7 +172,7 @@ reassign_row n m w v h k e1 e2 =
 
 pub temp_ttl_row : (z : ℤ) (w : List ℕ) → mag z < 2 ^ 31 → w ≡ signed_decimal z →
     IsLine (line_text (codes "lru") (codes "temp_ttl" ∷ w ∷ [])) (ActorLine (actors.TempTtl z))
-unfolding command other_command verb_of side_of memory_command lru_command
+unfolding command other_command storage_of memory_command lru_command
 temp_ttl_row z w h e =
     let s = is_word-signed z h in
     let row =
@@ -183,21 +183,21 @@ temp_ttl_row z w h e =
 
 -- ---- a store and its data
 
-store_named : (s : Storing) (ws : List (List ℕ)) → command (storage_name s ∷ ws) ≡ store_command (verb s) (storage_name s ∷ ws)
-unfolding command verb_of
+store_named : (s : Storing) (ws : List (List ℕ)) → command (storage_name s ∷ ws) ≡ storage_command (storage s) (storage_name s ∷ ws)
+unfolding command storage_of
 store_named Set ws = refl
 store_named Add ws = refl
 store_named Replace ws = refl
 
-store_command_is : (s : Storing) (key : List ℕ) (flags : ℕ) (z : ℤ) (size : ℕ) → is_key key ≡ true → flags < 2 ^ 32 → mag z < 2 ^ 31 → size ≤ 1048576 →
-    command (storage_name s ∷ key ∷ decimal flags ∷ signed_decimal z ∷ decimal size ∷ []) ≡ Store (verb s) flags z size false
-unfolding store_command data_numbers
-store_command_is s key flags z size k f m l =
+store_command : (s : Storing) (key : List ℕ) (flags : ℕ) (z : ℤ) (size : ℕ) → is_key key ≡ true → flags < 2 ^ 32 → mag z < 2 ^ 31 → size ≤ 1048576 →
+    command (storage_name s ∷ key ∷ decimal flags ∷ signed_decimal z ∷ decimal size ∷ []) ≡ Storage (storage s) flags z size false
+unfolding storage_command commands.storage
+store_command s key flags z size k f m l =
     store_named s (key ∷ decimal flags ∷ signed_decimal z ∷ decimal size ∷ [])
-    ∙ ap (λ b. store_of (verb s) (cond b (three_numbers (number_u32 (decimal flags)) (signed (signed_decimal z)) (number 2147483645 (decimal size))) None) false) k
-    ∙ ap (λ x. store_of (verb s) (three_numbers x (signed (signed_decimal z)) (number 2147483645 (decimal size))) false) (number_u32-decimal flags f)
-    ∙ ap (λ x. store_of (verb s) (three_numbers (Some flags) x (number 2147483645 (decimal size))) false) (signed-signed_decimal z m)
-    ∙ ap (λ x. store_of (verb s) (three_numbers (Some flags) (Some z) x) false) (number-decimal 2147483645 size (omega arith) (omega arith))
+    ∙ ap (λ b. cond b (storage_line (storage s) (number_u32 (decimal flags)) (signed (signed_decimal z)) (number 2147483645 (decimal size)) false) (Bad BadFormat)) k
+    ∙ ap (λ x. storage_line (storage s) x (signed (signed_decimal z)) (number 2147483645 (decimal size)) false) (number_u32-decimal flags f)
+    ∙ ap (λ x. storage_line (storage s) (Some flags) x (number 2147483645 (decimal size)) false) (signed-signed_decimal z m)
+    ∙ ap (λ x. storage_line (storage s) (Some flags) (Some z) x false) (number-decimal 2147483645 size (omega arith) (omega arith))
 
 is_word-storage : (s : Storing) → (is_word (storage_name s) ≡ true) × (length (storage_name s) ≤ 7)
 is_word-storage Set = (refl, omega arith)
@@ -205,34 +205,34 @@ is_word-storage Add = (refl, omega arith)
 is_word-storage Replace = (refl, omega arith)
 
 -- the data are there, with their ending
-stored_line : (v : StoreVerb) (key : List ℕ) (flags : ℕ) (z : ℤ) (size : ℕ) (d : List ℕ) → length d ≡ size → size ≤ 1048576 →
-    with_data (BeginsStore v key flags z false) (payload_in CrLf size (d ++ 13 ∷ 10 ∷ [])) ≡ StoreLine v key flags z (Bytes d) false
-stored_line v key flags z size d e l =
+stored_line : (c : StorageCommand) (key : List ℕ) (flags : ℕ) (z : ℤ) (size : ℕ) (d : List ℕ) → length d ≡ size → size ≤ 1048576 →
+    storage_line_of CrLf c key flags z size false (d ++ 13 ∷ 10 ∷ []) ≡ StorageLine c key flags z (Bytes d) false
+stored_line c key flags z size d e l =
     let block : List ℕ = d ++ 13 ∷ 10 ∷ [] in
     let few : nat_lt 1048576 size ≡ false = le-ltb 1048576 size l in
-    ap (λ t. with_data (BeginsStore v key flags z false) (cond (bytes_eq t (13 ∷ 10 ∷ [])) (Some (payload_of size block)) None)) (drop_front size d (13 ∷ 10 ∷ []) e)
-    ∙ ap (λ b. StoreLine v key flags z (cond b (Skipped size) (Bytes (take size block))) false) few
-    ∙ ap (λ t. StoreLine v key flags z (Bytes t) false) (take_front size d (13 ∷ 10 ∷ []) e)
+    ap (λ t. cond (bytes_eq t (13 ∷ 10 ∷ [])) (StorageLine c key flags z (payload_of size block) false) (BadLine BadChunk)) (drop_front size d (13 ∷ 10 ∷ []) e)
+    ∙ ap (λ b. StorageLine c key flags z (cond b (Skipped size) (Bytes (take size block))) false) few
+    ∙ ap (λ t. StorageLine c key flags z (Bytes t) false) (take_front size d (13 ∷ 10 ∷ []) e)
 
 pub store_row : (s : Storing) (key : List ℕ) (flags : ℕ) (z : ℤ) (size : ℕ) (name k w1 w2 w3 : List ℕ) → is_key key ≡ true → flags < 2 ^ 32 → mag z < 2 ^ 31 → size ≤ 1048576 →
     name ≡ storage_name s → k ≡ key → w1 ≡ decimal flags → w2 ≡ signed_decimal z → w3 ≡ decimal size →
-    IsLine (line_text name (k ∷ w1 ∷ w2 ∷ w3 ∷ []) ++ (replicate size 120 ++ 13 ∷ 10 ∷ [])) (StoreLine (verb s) key flags z (Bytes (replicate size 120)) false)
+    IsLine (line_text name (k ∷ w1 ∷ w2 ∷ w3 ∷ []) ++ (replicate size 120 ++ 13 ∷ 10 ∷ [])) (StorageLine (storage s) key flags z (Bytes (replicate size 120)) false)
 store_row s key flags z size name k w1 w2 w3 h f m l e0 e1 e2 e3 e4 =
     let block : List ℕ = replicate size 120 ++ 13 ∷ 10 ∷ [] in
     let ws : List (List ℕ) = key ∷ decimal flags ∷ signed_decimal z ∷ decimal size ∷ [] in
     let n = is_word-storage s in
     let kw = is_word-key key h in
     let zw = is_word-signed z m in
-    let c = store_command_is s key flags z size h f m l in
+    let c = store_command s key flags z size h f m l in
     let whole : IsLine (line_text (storage_name s) ws ++ block) (line_of CrLf (command (storage_name s ∷ ws)) (storage_name s ∷ ws) block) =
     line_whole (storage_name s) ws block n.0
     (either _ _ kw.0 (either _ _ (is_word-decimal flags (omega arith)) (either _ _ zw.0 (either _ _ (is_word-decimal size (omega arith)) refl))))
     (omega (arith, length-append (storage_name s) (spaced ws), length-append key (spaced (decimal flags ∷ signed_decimal z ∷ decimal size ∷ [])), length-append (decimal flags) (spaced (signed_decimal z ∷ decimal size ∷ [])), length-append (signed_decimal z) (spaced (decimal size ∷ [])), length-append (decimal size) [], length-decimal-le 20 flags, length-decimal-le 20 size, n.1, kw.1, zw.1))
     (length-append (replicate size 120) (13 ∷ 10 ∷ []) ∙ ap (λ x. x + 2) (length-replicate size 120) ∙ sym (ap (λ a. block_size CrLf a block) c)) in
-    let line : line_of CrLf (command (storage_name s ∷ ws)) (storage_name s ∷ ws) block ≡ StoreLine (verb s) key flags z (Bytes (replicate size 120)) false =
-    ap (λ a. line_of CrLf a (storage_name s ∷ ws) block) c ∙ stored_line (verb s) key flags z size (replicate size 120) (length-replicate size 120) l in
+    let line : line_of CrLf (command (storage_name s ∷ ws)) (storage_name s ∷ ws) block ≡ StorageLine (storage s) key flags z (Bytes (replicate size 120)) false =
+    ap (λ a. line_of CrLf a (storage_name s ∷ ws) block) c ∙ stored_line (storage s) key flags z size (replicate size 120) (length-replicate size 120) l in
     let words : line_text (storage_name s) ws ≡ line_text name (k ∷ w1 ∷ w2 ∷ w3 ∷ []) = cc in
-    subst (λ t. IsLine (t ++ block) (StoreLine (verb s) key flags z (Bytes (replicate size 120)) false)) words
+    subst (λ t. IsLine (t ++ block) (StorageLine (storage s) key flags z (Bytes (replicate size 120)) false)) words
     (subst (λ x. IsLine (line_text (storage_name s) ws ++ block) x) line whole)
 
 -- what was written piece by piece

@@ -3,7 +3,8 @@ use Rattle.std.specs.Prelude.{◌≡◌, ℕ, Bool, true, ◌&&◌, nat_lt, List
 use Rattle.std.specs.List.{list_all, concat}
 use Rattle.rev_model.specs.declared.Queue.{Queue}
 use Rattle.rev_model.specs.declared.Queue.TheVariants.{Hot, Warm, Cold, Temp}
-use Rattle.rev_requests.specs.declared.clients.StoreVerb.{StoreVerb}
+use Rattle.rev_script.specs.declared.command.StorageCommand.{StorageCommand}
+use Rattle.rev_script.specs.declared.command.StorageCommand.TheVariants.{Store}
 use Rattle.rev_requests.specs.declared.clients.StoreVerb.TheVariants as verbs
 use Rattle.rev_script.specs.declared.dialect.Dialect.TheVariants.{CrLf}
 use Rattle.rev_script.specs.Script.{ScriptLine, Cut, cuts}
@@ -40,11 +41,11 @@ spaced ws = concat (map (λ w. 32 ∷ w) ws)
 abbrev pub line_text : List ℕ → List (List ℕ) → List ℕ
 line_text first rest = first ++ spaced rest ++ codes "\r\n"
 
--- the verb of a storage command, and its name
-abbrev pub verb : Storing → StoreVerb
-verb Set = verbs.Set
-verb Add = verbs.Add
-verb Replace = verbs.Replace
+-- the storage command, and its name
+abbrev pub storage : Storing → StorageCommand
+storage Set = Store verbs.Set
+storage Add = Store verbs.Add
+storage Replace = Store verbs.Replace
 
 abbrev pub storage_name : Storing → List ℕ
 storage_name Set = codes "set"

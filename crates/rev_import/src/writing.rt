@@ -4,8 +4,8 @@ ghost use Rattle.rev_model.specs.Client.{Bytes};
 ghost use Rattle.rev_model.specs.declared.ClassSet.TheVariants.{These};
 ghost use Rattle.rev_requests.specs.declared.clients.KeyCommand.TheVariants.{Delete};
 ghost use Rattle.rev_requests.specs.declared.actors.ActorStep.TheVariants.{Pull, Bump, Crawl, Advance, StartCrawl, Reassign, Clock, TempTtl};
-ghost use Rattle.rev_script.specs.Script.{RetrievalLine, UpdateLine, StoreLine, ActorLine};
-ghost use Rattle.rev_import.specs.Writing.{Adds, line_text, verb, storage_name, queue_name};
+ghost use Rattle.rev_script.specs.Script.{RetrievalLine, UpdateLine, StorageLine, ActorLine};
+ghost use Rattle.rev_import.specs.Writing.{Adds, line_text, storage, storage_name, queue_name};
 
 use itoa::Buffer;
 use rev_items::Key;
@@ -105,7 +105,7 @@ pub fn put_store<A: Allocator, B: Allocator>(
     size: u32,
 ) -> Result<(), AllocError>
     requires { size ≤ 1048576 }
-    ensures { OnOk result (Adds out.old.items out.new.items (StoreLine (verb command) key.now flags exptime (Bytes (replicate size 120)) false ∷ [])) }
+    ensures { OnOk result (Adds out.old.items out.new.items (StorageLine (storage command) key.now flags exptime (Bytes (replicate size 120)) false ∷ [])) }
 {
     let mut flags_digits = Buffer::new();
     let mut exptime_digits = Buffer::new();

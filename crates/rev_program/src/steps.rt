@@ -69,30 +69,14 @@ fn add_client(steps: &mut Vec<Step<Global>>, line: ClientLine<Global>) -> Result
     ensures { OnOk result (Adds (map plain_step steps.old.items) (map plain_step steps.new.items) (client_view line)) }
 {
     let step = match line {
-        ClientLine::Store {
-            verb,
+        ClientLine::Storage {
+            command,
             key,
             flags,
             exptime,
             payload,
             ..
-        } => ClientStep::Store {
-            verb,
-            key,
-            flags,
-            exptime,
-            data: payload,
-        },
-        ClientLine::Join {
-            side,
-            key,
-            payload,
-            ..
-        } => ClientStep::Join {
-            side,
-            key,
-            data: payload,
-        },
+        } => command.step(key, flags, exptime, payload),
         ClientLine::Retrieval { keys, .. } => return add_gets(steps, keys),
         ClientLine::Update { command, key, .. } => ClientStep::Keyed { command, key },
         ClientLine::FlushAll { delay, .. } => ClientStep::FlushAll { delay },

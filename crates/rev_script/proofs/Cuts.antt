@@ -8,7 +8,7 @@ use Rattle.std.proofs.Common.{take_all}
 use Rattle.std.proofs.lemmas.List.{nil_from_length, drop-append-le}
 use Rattle.std.proofs.lemmas.Bool.{le-leb, lt-leb}
 use Rattle.rev_script.specs.declared.command.Command.{Command}
-use Rattle.rev_script.specs.declared.command.Command.TheVariants.{Store, Join, Retrieval, Update, FlushAll, Actor, Tune, Debug, Query, Bookmark, Bad}
+use Rattle.rev_script.specs.declared.command.Command.TheVariants.{Storage, Retrieval, Update, FlushAll, Actor, Tune, Debug, Query, Bookmark, Bad}
 use Rattle.rev_script.specs.declared.dialect.Dialect.{Dialect}
 use Rattle.rev_script.specs.declared.dialect.Dialect.TheVariants.{CrLf, AnyFeed}
 use Rattle.rev_script.proofs.Front.{take_front, drop_front}
@@ -107,8 +107,7 @@ storage_size-append d size block more e =
     ∙ ap (λ n. size + n) (ending_size-append d (drop size block) more some)
 
 block_size-append : (d : Dialect) (c : Command) (block more : List ℕ) → length block ≡ block_size d c block → block_size d c (block ++ more) ≡ block_size d c block
-block_size-append d (Store verb flags exptime size noreply) block more e = storage_size-append d size block more e
-block_size-append d (Join side size noreply) block more e = storage_size-append d size block more e
+block_size-append d (Storage c flags exptime size noreply) block more e = storage_size-append d size block more e
 block_size-append d (Retrieval with_cas) block more e = refl
 block_size-append d (Update c noreply) block more e = refl
 block_size-append d (FlushAll delay noreply) block more e = refl

@@ -11,15 +11,16 @@ use Rattle.std.proofs.Common.{length-drop, length-take, lit≤, codes}
 use Rattle.std.specs.Io.BufRead.{ends_with_byte}
 use Rattle.rev_script.specs.Commands.{command, asked, longest}
 use Rattle.rev_script.specs.Words.{words, word}
+use Rattle.rev_script.specs.declared.command.StorageCommand.{StorageCommand}
 use Rattle.std.proofs.Common.{ℤ, ◌||◌, Option, None, Result, Ok, Err, IfOk, IfErr}
-use Rattle.rev_script.specs.Script.{BegunLine, BeginsStore, BeginsJoin, with_data, payload_of, payload_in, has_lf, after_lf, ScriptLine, BadLine, line_of, is_ending, ending_size, block_size, is_passed, passes, onwards, cuts, whole_lines, IsWhole, IsLast}
-use Rattle.rev_script.specs.Line.{PlainInput, has_block, begun_command, begun_key, IsNext, IsFault, IsBlockLine}
+use Rattle.rev_script.specs.Script.{StorageLine, payload_of, has_lf, after_lf, ScriptLine, BadLine, line_of, storage_line_of, is_ending, block_size, is_passed, passes, onwards, cuts, whole_lines, IsWhole, IsLast}
+use Rattle.rev_script.specs.Line.{PlainInput, has_block, IsNext, IsFault, IsStorageLine}
 use Rattle.rev_script.specs.declared.dialect.Dialect.{Dialect}
 use Rattle.rev_script.specs.declared.byte_reader.LineFault.{LineFault}
 use Rattle.rev_script.specs.declared.byte_reader.LineFault.TheVariants as faults
 use Rattle.rev_script.specs.declared.raw_line.RawLine.{RawLine}
 use Rattle.rev_script.specs.declared.command.Command.{Command}
-use Rattle.rev_script.specs.declared.command.Command.TheVariants.{Store, Join, Retrieval, Update, FlushAll, Actor, Tune, Debug, Query, Bookmark, Bad}
+use Rattle.rev_script.specs.declared.command.Command.TheVariants.{Storage, Retrieval, Update, FlushAll, Actor, Tune, Debug, Query, Bookmark, Bad}
 use Rattle.rev_script.specs.declared.command.BadAnswer.TheVariants.{LineTooLong, BadChunk}
 use Rattle.rev_script.proofs.Known.{Took-then, Took-broke}
 use Rattle.rev_script.proofs.Text.{after_lf-append}
@@ -30,8 +31,7 @@ less a b h = grind (arith, nat_tests)
 
 -- a line without a data block: none of it is passed over
 no_block : (d : Dialect) (c : Command) → has_block c ≡ false → (block_size d c [] ≡ 0) × (passes d c [] ≡ false)
-no_block d (Store verb flags exptime size noreply) e = absurd (cc)
-no_block d (Join side size noreply) e = absurd (cc)
+no_block d (Storage c flags exptime size noreply) e = absurd (cc)
 no_block d (Retrieval with_cas) e = (refl, refl)
 no_block d (Update c noreply) e = (refl, refl)
 no_block d (FlushAll delay noreply) e = (refl, refl)
@@ -115,62 +115,38 @@ block_or d text block c End n e (inr p) =
       p.1,
     )
 
--- its block, by what the line asks for
-block_size-begun : (d : Dialect) (begun : BegunLine) (size : ℕ) (block : List ℕ) → block_size d (begun_command begun size) block ≡ size + ending_size d (drop size block)
-block_size-begun d (BeginsStore verb key flags exptime noreply) size block = refl
-block_size-begun d (BeginsJoin side key noreply) size block = refl
-
-passes-begun : (d : Dialect) (begun : BegunLine) (size : ℕ) (block : List ℕ) → passes d (begun_command begun size) block ≡ is_passed d (is_ending d (drop size block))
-passes-begun d (BeginsStore verb key flags exptime noreply) size block = refl
-passes-begun d (BeginsJoin side key noreply) size block = refl
-
-line_of-begun : (d : Dialect) (begun : BegunLine) (size : ℕ) (ws : List (List ℕ)) (block : List ℕ) → begun_key begun ≡ word ws 1 → line_of d (begun_command begun size) ws block ≡ with_data begun (payload_in d size block)
-line_of-begun d (BeginsStore verb key flags exptime noreply) size ws block e = ap (λ k. with_data (BeginsStore verb k flags exptime noreply) (payload_in d size block)) (sym e)
-line_of-begun d (BeginsJoin side key noreply) size ws block e = ap (λ k. with_data (BeginsJoin side k noreply) (payload_in d size block)) (sym e)
-
-pub next_block : {old mid : PlainReader} {new : PlainInput} {raw : RawLine} {kept : List ℕ} {line : ScriptLine} (d : Dialect) (begun : BegunLine) (size : ℕ) →
-    (t : IsText old mid raw kept) → raw.feed ≡ true → asked (strip_last 13 t.text) ≡ begun_command begun size → begun_key begun ≡ word (words (strip_last 13 t.text)) 1 →
-    IsBlockLine (here d mid) new begun size line → IsNext (here d old) new (Some line)
-next_block {old} {mid} {new} {raw} {kept} {line} d begun size t feed c k s =
-    let r = s.1 in
-    let ws = words (strip_last 13 t.text) in
+pub next_block : {old mid : PlainReader} {new : PlainInput} {raw : RawLine} {kept key : List ℕ} {storage : StorageCommand} {flags : ℕ} {exptime : ℤ} {size : ℕ} {noreply : Bool} {line : ScriptLine} (d : Dialect) →
+    (t : IsText old mid raw kept) → raw.feed ≡ true → asked (strip_last 13 t.text) ≡ Storage storage flags exptime size noreply → key ≡ word (words (strip_last 13 t.text)) 1 →
+    IsStorageLine (here d mid) new storage key flags exptime size noreply line → IsNext (here d old) new (Some line)
+next_block {old} {mid} {new} {raw} {kept} {key} {storage} {flags} {exptime} {size} {noreply} {line} d t feed c k s =
     let first : Took old mid (t.text ++ 10 ∷ []) = subst (λ f. Took old mid (t.text ++ ending f)) feed t.took in
-    let both : Took old new.bytes (t.text ++ 10 ∷ r.block) = subst (λ l. Took old new.bytes l) (append_assoc t.text (10 ∷ []) r.block) (Took-then first r.took) in
-    let is : line_of d (begun_command begun size) ws r.block ≡ line =
-    line_of-begun d begun size ws r.block k ∙ sym (s.2 ∙ ap (λ p. with_data begun p) r.payload_is) in
-    let fits = subst (λ n. (length r.block ≡ n) ⊎ ((length r.block < n) × AtEnd new.bytes)) (sym (block_size-begun d begun size r.block)) r.size_is in
-    let which = block_or d t.text r.block (begun_command begun size) (AtEnd new.bytes) t.no_lf c fits in (
-      t.text ++ 10 ∷ r.block,
+    let both : Took old new.bytes (t.text ++ 10 ∷ s.block) = subst (λ l. Took old new.bytes l) (append_assoc t.text (10 ∷ []) s.block) (Took-then first s.took) in
+    let is : storage_line_of d storage (word (words (strip_last 13 t.text)) 1) flags exptime size noreply s.block ≡ line =
+    ap (λ w. storage_line_of d storage w flags exptime size noreply s.block) (sym k) ∙ sym s.line_is in
+    let which = block_or d t.text s.block (Storage storage flags exptime size noreply) (AtEnd new.bytes) t.no_lf c s.size_is in (
+      t.text ++ 10 ∷ s.block,
       both,
-      r.dialect_is,
+      s.dialect_is,
       elim which [
-        | inl w ↦ inl (subst (λ p. IsWhole d false p (t.text ++ 10 ∷ r.block) line) (passes-begun d begun size r.block ∙ sym r.passes_is)
-            (subst (λ x. IsWhole d false (passes d (begun_command begun size) r.block) (t.text ++ 10 ∷ r.block) x) is w))
-        | inr l ↦ inr (subst (λ x. IsLast d false (t.text ++ 10 ∷ r.block) x) is l.0, l.1)
+        | inl w ↦ inl (subst (λ p. IsWhole d false p (t.text ++ 10 ∷ s.block) line) (sym s.passes_is)
+            (subst (λ x. IsWhole d false (is_passed d (is_ending d (drop size s.block))) (t.text ++ 10 ∷ s.block) x) is w))
+        | inr l ↦ inr (subst (λ x. IsLast d false (t.text ++ 10 ∷ s.block) x) is l.0, l.1)
       ],
     )
 
--- a line with no byte of its block
-payload_in-nil : (d : Dialect) (size : ℕ) → payload_in d size [] ≡ None
-payload_in-nil d size =
-    ap (λ t. cond (is_ending d t) (Some (payload_of size [])) None) (nil_from_length (drop size []) (omega (arith, length-drop {A = ℕ} size [])))
-    ∙ ap (λ b. cond b (Some (payload_of size [])) None) (no_ending d)
+-- a storage line that the end cuts off before its LF
+pub storage_line_of-nil : (d : Dialect) (storage : StorageCommand) (key : List ℕ) (flags : ℕ) (exptime : ℤ) (size : ℕ) (noreply : Bool) → storage_line_of d storage key flags exptime size noreply [] ≡ BadLine BadChunk
+storage_line_of-nil d storage key flags exptime size noreply =
+    ap (λ t. cond (is_ending d t) (StorageLine storage key flags exptime (payload_of size []) noreply) (BadLine BadChunk)) (nil_from_length (drop size []) (omega (arith, length-drop {A = ℕ} size [])))
+    ∙ ap (λ b. cond b (StorageLine storage key flags exptime (payload_of size []) noreply) (BadLine BadChunk)) (no_ending d)
 
-pub with_data-nil : (d : Dialect) (begun : BegunLine) (size : ℕ) → with_data begun (payload_in d size []) ≡ BadLine BadChunk
-with_data-nil d begun size = ap (λ p. with_data begun p) (payload_in-nil d size)
-
-line_of-cut : (d : Dialect) (begun : BegunLine) (size : ℕ) (ws : List (List ℕ)) → line_of d (begun_command begun size) ws [] ≡ BadLine BadChunk
-line_of-cut d (BeginsStore verb key flags exptime noreply) size ws = with_data-nil d (BeginsStore verb (word ws 1) flags exptime noreply) size
-line_of-cut d (BeginsJoin side key noreply) size ws = with_data-nil d (BeginsJoin side (word ws 1) noreply) size
-
--- a line that the end cuts off before its LF
-pub next_cut_storage : {old new : PlainReader} {raw : RawLine} {kept : List ℕ} (d : Dialect) (begun : BegunLine) (size : ℕ) →
-    (t : IsText old new raw kept) → raw.feed ≡ false → 0 < raw.length → asked (strip_last 13 t.text) ≡ begun_command begun size →
+pub next_cut_storage : {old new : PlainReader} {raw : RawLine} {kept : List ℕ} {storage : StorageCommand} {flags : ℕ} {exptime : ℤ} {size : ℕ} {noreply : Bool} (d : Dialect) →
+    (t : IsText old new raw kept) → raw.feed ≡ false → 0 < raw.length → asked (strip_last 13 t.text) ≡ Storage storage flags exptime size noreply →
     IsNext (here d old) (here d new) (Some (BadLine BadChunk))
-next_cut_storage {old} {new} {raw} {kept} d begun size t feed some c =
+next_cut_storage {old} {new} {raw} {kept} {storage} {flags} {exptime} {size} {noreply} d t feed some c =
     let took : Took old new t.text = subst (λ l. Took old new l) (append-nil t.text) (subst (λ f. Took old new (t.text ++ ending f)) feed t.took) in
     let is : line_of d (asked (strip_last 13 t.text)) (words (strip_last 13 t.text)) [] ≡ BadLine BadChunk =
-    ap (λ a. line_of d a (words (strip_last 13 t.text)) []) c ∙ line_of-cut d begun size (words (strip_last 13 t.text)) in
+    ap (λ a. line_of d a (words (strip_last 13 t.text)) []) c ∙ storage_line_of-nil d storage (word (words (strip_last 13 t.text)) 1) flags exptime size noreply in
     (t.text, took, refl, inr (subst (λ x. IsLast d false t.text x) is (last_text d t.text t.no_lf (omega (arith, t.size, some))), t.at_end feed))
 
 -- a fault in the line's text
@@ -178,14 +154,14 @@ pub fault_text : {old new : PlainReader} {e : LineFault} (d : Dialect) → IsPar
 fault_text d p = (p.text, p.broke, (λ _. none_whole-text d p.text p.no_lf))
 
 -- a fault in its data block
-pub fault_block : {old mid new : PlainReader} {raw : RawLine} {kept : List ℕ} {e : LineFault} (d : Dialect) (begun : BegunLine) (size : ℕ) →
-    (t : IsText old mid raw kept) → raw.feed ≡ true → asked (strip_last 13 t.text) ≡ begun_command begun size →
+pub fault_block : {old mid new : PlainReader} {raw : RawLine} {kept : List ℕ} {storage : StorageCommand} {flags : ℕ} {exptime : ℤ} {size : ℕ} {noreply : Bool} {e : LineFault} (d : Dialect) →
+    (t : IsText old mid raw kept) → raw.feed ≡ true → asked (strip_last 13 t.text) ≡ Storage storage flags exptime size noreply →
     IsBroken d mid new size e → IsFault (here d old) (here d new) e
-fault_block {old} {mid} {new} {raw} {kept} {e} d begun size t feed c s =
+fault_block {old} {mid} {new} {raw} {kept} {storage} {flags} {exptime} {size} {noreply} {e} d t feed c s =
     let first : Took old mid (t.text ++ 10 ∷ []) = subst (λ f. Took old mid (t.text ++ ending f)) feed t.took in
     let both : Broke old new (t.text ++ 10 ∷ s.taken) e = subst (λ l. Broke old new l e) (append_assoc t.text (10 ∷ []) s.taken) (Took-broke first s.broke) in
     let short : e ≢ faults.Memory → length s.taken < block_size d (asked (strip_last 13 t.text)) s.taken =
-    λ other. subst (λ n. length s.taken < n) (sym (ap (λ a. block_size d a s.taken) c ∙ block_size-begun d begun size s.taken)) (s.short other) in
+    λ other. subst (λ a. length s.taken < block_size d a s.taken) (sym c) (s.short other) in
     (t.text ++ 10 ∷ s.taken, both, (λ other. none_whole d (t.text ++ 10 ∷ s.taken) _ (last_block d t.text s.taken t.no_lf (short other))))
 
 -- a fault before any byte of the line

@@ -11,14 +11,13 @@ use Rattle.rev_requests.specs.Limits.{is_tune}
 use Rattle.rev_script.specs.declared.command.BadAnswer.TheVariants.{Error, BadFormat, DeleteUsage, BadExptime, BadDelta, SharesOver80, LineTooLong, BadCommand}
 use Rattle.rev_model.specs.declared.Queue.{Queue}
 use Rattle.rev_model.specs.declared.Queue.TheVariants.{Hot, Warm, Cold, Temp}
-use Rattle.rev_requests.specs.declared.clients.StoreVerb.{StoreVerb}
 use Rattle.rev_requests.specs.declared.clients.StoreVerb.TheVariants as verbs
-use Rattle.rev_requests.specs.declared.clients.JoinSide.{JoinSide}
 use Rattle.rev_requests.specs.declared.clients.JoinSide.TheVariants as sides
 use Rattle.rev_requests.specs.declared.clients.Arithmetic.TheVariants as sums
 use Rattle.rev_requests.specs.declared.clients.KeyCommand.TheVariants as keyed
 use Rattle.rev_requests.specs.declared.actors.ActorStep.TheVariants as actors
-use Rattle.rev_script.specs.declared.client.DataNumbers.{DataNumbers}
+use Rattle.rev_script.specs.declared.command.StorageCommand.{StorageCommand}
+use Rattle.rev_script.specs.declared.command.StorageCommand.TheVariants.{Store, Join}
 use Rattle.rev_script.specs.declared.command.DebugCommand.{DebugCommand}
 use Rattle.rev_script.specs.declared.command.DebugCommand.TheVariants as debugs
 use Rattle.rev_script.specs.declared.command.KeyQuery.{KeyQuery}
@@ -26,65 +25,45 @@ use Rattle.rev_script.specs.declared.command.KeyQuery.TheVariants as queries
 use Rattle.rev_script.specs.declared.command.BookmarkCommand.{BookmarkCommand}
 use Rattle.rev_script.specs.declared.command.BookmarkCommand.TheVariants as bookmarks
 use Rattle.rev_script.specs.declared.command.Command.{Command}
-use Rattle.rev_script.specs.declared.command.Command.TheVariants.{Store, Join, Retrieval, Update, FlushAll, Actor, Tune, Debug, Query, Bookmark, Bad}
+use Rattle.rev_script.specs.declared.command.Command.TheVariants.{Storage, Retrieval, Update, FlushAll, Actor, Tune, Debug, Query, Bookmark, Bad}
 
 -- ---- set, add, replace, append, prepend <key> <flags> <exptime> <bytes> [noreply]
 -- ---- cas <key> <flags> <exptime> <bytes> <cas> [noreply]
 
--- the verb of this name, but for `cas`
-unfoldable pub verb_of : List ℕ → Option StoreVerb
-verb_of w =
-    if bytes_eq w (codes "set") then Some verbs.Set
-    else (if bytes_eq w (codes "add") then Some verbs.Add
-    else (if bytes_eq w (codes "replace") then Some verbs.Replace
-    else None))
-
--- the side to which a command of this name joins data
-unfoldable pub side_of : List ℕ → Option JoinSide
-side_of w =
-    if bytes_eq w (codes "append") then Some sides.Append
-    else (if bytes_eq w (codes "prepend") then Some sides.Prepend
-    else None)
+-- the storage command of this name, but for `cas`
+unfoldable pub storage_of : List ℕ → Option StorageCommand
+storage_of w =
+    if bytes_eq w (codes "set") then Some (Store verbs.Set)
+    else (if bytes_eq w (codes "add") then Some (Store verbs.Add)
+    else (if bytes_eq w (codes "replace") then Some (Store verbs.Replace)
+    else (if bytes_eq w (codes "append") then Some (Join sides.Append)
+    else (if bytes_eq w (codes "prepend") then Some (Join sides.Prepend)
+    else None))))
 
 -- flags, expiry time and bytes, each where its word is such a number
-abbrev pub three_numbers : Option ℕ → Option ℤ → Option ℕ → Option DataNumbers
-three_numbers None exptime size = None
-three_numbers (Some flags) None size = None
-three_numbers (Some flags) (Some exptime) None = None
-three_numbers (Some flags) (Some exptime) (Some size) = Some (record { flags = flags; exptime = exptime; size = size })
-
--- the same behind a key
-unfoldable pub data_numbers : List (List ℕ) → Option DataNumbers
-data_numbers ws =
-    if is_key (word ws 1) then three_numbers (number_u32 (word ws 2)) (signed (word ws 3)) (number 2147483645 (word ws 4))
-    else None
-
-abbrev pub store_of : StoreVerb → Option DataNumbers → Bool → Command
-store_of verb None noreply = Bad BadFormat
-store_of verb (Some n) noreply = Store verb n.flags n.exptime n.size noreply
+abbrev pub storage_line : StorageCommand → Option ℕ → Option ℤ → Option ℕ → Bool → Command
+storage_line c None exptime size noreply = Bad BadFormat
+storage_line c (Some flags) None size noreply = Bad BadFormat
+storage_line c (Some flags) (Some exptime) None noreply = Bad BadFormat
+storage_line c (Some flags) (Some exptime) (Some size) noreply = Storage c flags exptime size noreply
 
 -- the line's first n words, with `noreply` where one more is there
-abbrev pub store : StoreVerb → ℕ → List (List ℕ) → Command
-store verb n ws = store_of verb (data_numbers ws) (length ws == n + 1)
+unfoldable pub storage : StorageCommand → ℕ → List (List ℕ) → Command
+storage c n ws =
+    if is_key (word ws 1) then
+    storage_line c (number_u32 (word ws 2)) (signed (word ws 3)) (number 2147483645 (word ws 4)) (length ws == n + 1)
+    else Bad BadFormat
 
-unfoldable pub store_command : StoreVerb → List (List ℕ) → Command
-store_command verb ws = if are_words 5 ws then store verb 5 ws else Bad Error
+unfoldable pub storage_command : StorageCommand → List (List ℕ) → Command
+storage_command c ws = if are_words 5 ws then storage c 5 ws else Bad Error
 
 -- the unique number of `cas` is looked at first; a bad one is answered as a bad key or any other bad number is
 abbrev pub cas_of : Option ℕ → List (List ℕ) → Command
 cas_of None ws = Bad BadFormat
-cas_of (Some n) ws = store (verbs.Cas n) 6 ws
+cas_of (Some n) ws = storage (Store (verbs.Cas n)) 6 ws
 
 unfoldable pub cas_command : List (List ℕ) → Command
 cas_command ws = if are_words 6 ws then cas_of (number 18446744073709551615 (word ws 5)) ws else Bad Error
-
--- `append` and `prepend` keep the item's flags and moment, whatever their line says
-abbrev pub join_of : JoinSide → Option DataNumbers → Bool → Command
-join_of side None noreply = Bad BadFormat
-join_of side (Some n) noreply = Join side n.size noreply
-
-unfoldable pub join_command : JoinSide → List (List ℕ) → Command
-join_command side ws = if are_words 5 ws then join_of side (data_numbers ws) (length ws == 6) else Bad Error
 
 -- ---- get <key>+; gets <key>+: each word is checked before any step is made
 
@@ -334,19 +313,15 @@ other_command w ws =
     else (if bytes_eq w (codes "decr") then decrement_command ws
     else memory_command w ws))))))
 
-abbrev pub join_or : Option JoinSide → List (List ℕ) → Command
-join_or None ws = other_command (word ws 0) ws
-join_or (Some side) ws = join_command side ws
-
-abbrev pub store_or : Option StoreVerb → List (List ℕ) → Command
-store_or None ws = join_or (side_of (word ws 0)) ws
-store_or (Some verb) ws = store_command verb ws
+abbrev pub storage_or : Option StorageCommand → List (List ℕ) → Command
+storage_or None ws = other_command (word ws 0) ws
+storage_or (Some c) ws = storage_command c ws
 
 unfoldable pub command : List (List ℕ) → Command
 command ws =
     if begins 58 (word ws 0) then debug_command ws
     else (if begins 64 (word ws 0) || begins 126 (word ws 0) then actor_command ws
-    else store_or (verb_of (word ws 0)) ws)
+    else storage_or (storage_of (word ws 0)) ws)
 
 -- how many bytes such a line may have without its ending
 abbrev pub longest : List (List ℕ) → ℕ

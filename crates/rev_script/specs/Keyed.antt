@@ -4,12 +4,11 @@ use Rattle.std.specs.List.{list_all}
 use Rattle.rev_items.specs.Keys.{is_key}
 use Rattle.rev_script.specs.Words.{word, is_name}
 use Rattle.rev_script.specs.declared.command.Command.{Command}
-use Rattle.rev_script.specs.declared.command.Command.TheVariants.{Store, Join, Retrieval, Update, FlushAll, Actor, Tune, Debug, Query, Bookmark, Bad}
+use Rattle.rev_script.specs.declared.command.Command.TheVariants.{Storage, Retrieval, Update, FlushAll, Actor, Tune, Debug, Query, Bookmark, Bad}
 
 -- by the second word, and by all words from there on
 abbrev pub IsKeyed : Command → List ℕ → List (List ℕ) → Type 0
-IsKeyed (Store verb flags exptime size noreply) w ws = is_key w ≡ true
-IsKeyed (Join side size noreply) w ws = is_key w ≡ true
+IsKeyed (Storage c flags exptime size noreply) w ws = is_key w ≡ true
 IsKeyed (Retrieval with_cas) w ws = list_all is_key ws ≡ true
 IsKeyed (Update c noreply) w ws = is_key w ≡ true
 IsKeyed (FlushAll delay noreply) w ws = Unit {0}

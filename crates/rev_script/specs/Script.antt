@@ -1,6 +1,6 @@
 -- The lines of a script, on the whole list of its bytes: each ends at LF or at the end, a storage line with its data block.
 -- A dialect says what has to stand behind the data of a block. All else is the same in each.
-use Rattle.std.specs.Prelude.{◌≡◌, ℕ, ℤ, zero, suc, ◌+◌, ◌==◌, Bool, true, false, ◌&&◌, ◌||◌, not, nat_le, nat_lt, if◌then◌else◌, Option, None, Some, List, [], ◌∷◌, ◌++◌, length, take, drop, map, count_by}
+use Rattle.std.specs.Prelude.{◌≡◌, ℕ, ℤ, zero, suc, ◌+◌, ◌==◌, Bool, true, false, ◌&&◌, ◌||◌, not, nat_le, nat_lt, if◌then◌else◌, List, [], ◌∷◌, ◌++◌, length, take, drop, map, count_by}
 use Rattle.std.specs.Str.{bytes_eq}
 use Rattle.std.specs.Io.BufRead.{strip_last}
 use Rattle.rev_model.specs.Client.{Payload, Bytes, Skipped}
@@ -11,15 +11,14 @@ use Rattle.rev_script.specs.declared.dialect.Dialect.TheVariants.{CrLf, AnyFeed}
 use Rattle.rev_script.specs.declared.command.BadAnswer.{BadAnswer}
 use Rattle.rev_script.specs.declared.command.BadAnswer.TheVariants.{BadChunk}
 use Rattle.rev_requests.specs.Limits.{PlainTune}
-use Rattle.rev_requests.specs.declared.clients.StoreVerb.{StoreVerb}
-use Rattle.rev_requests.specs.declared.clients.JoinSide.{JoinSide}
 use Rattle.rev_requests.specs.declared.clients.KeyCommand.{KeyCommand}
 use Rattle.rev_requests.specs.declared.actors.ActorStep.{ActorStep}
+use Rattle.rev_script.specs.declared.command.StorageCommand.{StorageCommand}
 use Rattle.rev_script.specs.declared.command.DebugCommand.{DebugCommand}
 use Rattle.rev_script.specs.declared.command.KeyQuery.{KeyQuery}
 use Rattle.rev_script.specs.declared.command.BookmarkCommand.{BookmarkCommand}
 use Rattle.rev_script.specs.declared.command.Command.{Command}
-use Rattle.rev_script.specs.declared.command.Command.TheVariants.{Store, Join, Retrieval, Update, FlushAll, Actor, Tune, Debug, Query, Bookmark, Bad}
+use Rattle.rev_script.specs.declared.command.Command.TheVariants.{Storage, Retrieval, Update, FlushAll, Actor, Tune, Debug, Query, Bookmark, Bad}
 
 -- ---- lines of bytes
 
@@ -43,9 +42,7 @@ has_lf (x ∷ xs) = if x == 10 then true else has_lf xs
 -- a line with all that belongs to it
 pub data ScriptLine : Type 0 where
   -- key, flags, expiry time, data, noreply
-  StoreLine : StoreVerb → List ℕ → ℕ → ℤ → Payload → Bool → ScriptLine
-  -- key, data, noreply
-  JoinLine : JoinSide → List ℕ → Payload → Bool → ScriptLine
+  StorageLine : StorageCommand → List ℕ → ℕ → ℤ → Payload → Bool → ScriptLine
   -- keys, and whether their cas numbers are asked for
   RetrievalLine : List (List ℕ) → Bool → ScriptLine
   -- key, noreply
@@ -77,8 +74,7 @@ ending_size AnyFeed (b ∷ bs) = if b == 13 then 2 else 1
 
 -- the bytes of a data block with its ending, where these bytes stand behind its line
 abbrev pub block_size : Dialect → Command → List ℕ → ℕ
-block_size d (Store verb flags exptime size noreply) rest = size + ending_size d (drop size rest)
-block_size d (Join side size noreply) rest = size + ending_size d (drop size rest)
+block_size d (Storage c flags exptime size noreply) rest = size + ending_size d (drop size rest)
 block_size d _ rest = 0
 
 -- whether the line that a bad block ends in is passed over
@@ -88,8 +84,7 @@ is_passed AnyFeed sound = not sound
 
 -- the same, by the block
 abbrev pub passes : Dialect → Command → List ℕ → Bool
-passes d (Store verb flags exptime size noreply) block = is_passed d (is_ending d (drop size block))
-passes d (Join side size noreply) block = is_passed d (is_ending d (drop size block))
+passes d (Storage c flags exptime size noreply) block = is_passed d (is_ending d (drop size block))
 passes d _ block = false
 
 -- where lines go on: here, or behind the rest of a line that is passed over
@@ -100,31 +95,16 @@ onwards pass bytes = if pass then after_lf bytes else bytes
 abbrev pub payload_of : ℕ → List ℕ → Payload
 payload_of size block = if nat_lt 1048576 size then Skipped size else Bytes (take size block)
 
--- the data of a block, or of what there is of it, where it ends as it has to
-abbrev pub payload_in : Dialect → ℕ → List ℕ → Option Payload
-payload_in d size block = if is_ending d (drop size block) then Some (payload_of size block) else None
-
--- a line that wants its data
-pub data BegunLine : Type 0 where
-  -- key, flags, expiry time, noreply
-  BeginsStore : StoreVerb → List ℕ → ℕ → ℤ → Bool → BegunLine
-  -- key, noreply
-  BeginsJoin : JoinSide → List ℕ → Bool → BegunLine
-
-abbrev pub line_with : BegunLine → Payload → ScriptLine
-line_with (BeginsStore verb key flags exptime noreply) payload = StoreLine verb key flags exptime payload noreply
-line_with (BeginsJoin side key noreply) payload = JoinLine side key payload noreply
-
--- the line with its data, where its block ends as it has to
-abbrev pub with_data : BegunLine → Option Payload → ScriptLine
-with_data line None = BadLine BadChunk
-with_data line (Some payload) = line_with line payload
+-- a storage line, with the data block behind it, or what there is of it
+abbrev pub storage_line_of : Dialect → StorageCommand → List ℕ → ℕ → ℤ → ℕ → Bool → List ℕ → ScriptLine
+storage_line_of d c key flags exptime size noreply block =
+    if is_ending d (drop size block) then StorageLine c key flags exptime (payload_of size block) noreply
+    else BadLine BadChunk
 
 -- a line, from its words and the data block behind it
 abbrev pub line_of : Dialect → Command → List (List ℕ) → List ℕ → ScriptLine
-line_of d (Store verb flags exptime size noreply) ws block =
-    with_data (BeginsStore verb (word ws 1) flags exptime noreply) (payload_in d size block)
-line_of d (Join side size noreply) ws block = with_data (BeginsJoin side (word ws 1) noreply) (payload_in d size block)
+line_of d (Storage c flags exptime size noreply) ws block =
+    storage_line_of d c (word ws 1) flags exptime size noreply block
 line_of d (Retrieval with_cas) ws block = RetrievalLine (drop 1 ws) with_cas
 line_of d (Update c noreply) ws block = UpdateLine c (word ws 1) noreply
 line_of d (FlushAll delay noreply) ws block = FlushLine delay noreply

@@ -1,21 +1,23 @@
 -- The step that a line asks for, and the steps of all lines.
 use Rattle.std.specs.Prelude.{◌≡◌, ◌+◌, ℕ, ℤ, List, [], ◌∷◌, ◌++◌, take, map, Option, None, Some, slice_get}
-use Rattle.rev_model.specs.Client.{Payload, Stores, Joins, Gets, Flushes}
+use Rattle.rev_model.specs.Client.{ClientStep, Payload, Stores, Joins, Gets, Flushes}
 use Rattle.rev_model.specs.Actor.{Step, Client, Tune}
 use Rattle.rev_requests.specs.Limits.{PlainTune}
 use Rattle.rev_requests.specs.Plain.{plain_verb, plain_side, plain_keyed, plain_actor}
-use Rattle.rev_script.specs.Script.{ScriptLine, StoreLine, JoinLine, RetrievalLine, UpdateLine, FlushLine, ActorLine, TuneLine, DebugLine, QueryLine, BookmarkLine, BadLine}
-use Rattle.rev_requests.specs.declared.clients.StoreVerb.{StoreVerb}
-use Rattle.rev_requests.specs.declared.clients.JoinSide.{JoinSide}
+use Rattle.rev_script.specs.Script.{ScriptLine, StorageLine, RetrievalLine, UpdateLine, FlushLine, ActorLine, TuneLine, DebugLine, QueryLine, BookmarkLine, BadLine}
 use Rattle.rev_requests.specs.declared.clients.KeyCommand.{KeyCommand}
+use Rattle.rev_script.specs.declared.command.StorageCommand.{StorageCommand}
+use Rattle.rev_script.specs.declared.command.StorageCommand.TheVariants.{Store, Join}
 
 -- ---- the step of a command
 
-abbrev pub store_step : StoreVerb → List ℕ → ℕ → ℤ → Payload → Step
-store_step verb k flags exptime payload = Client (Stores (plain_verb verb) k flags exptime payload)
+-- a join keeps the item's flags and moment, whatever its line says
+abbrev pub plain_storage : StorageCommand → List ℕ → ℕ → ℤ → Payload → ClientStep
+plain_storage (Store verb) k flags exptime payload = Stores (plain_verb verb) k flags exptime payload
+plain_storage (Join side) k flags exptime payload = Joins (plain_side side) k payload
 
-abbrev pub join_step : JoinSide → List ℕ → Payload → Step
-join_step side k payload = Client (Joins (plain_side side) k payload)
+abbrev pub storage_step : StorageCommand → List ℕ → ℕ → ℤ → Payload → Step
+storage_step c k flags exptime payload = Client (plain_storage c k flags exptime payload)
 
 abbrev pub keyed_step : KeyCommand → List ℕ → Step
 keyed_step c k = Client (plain_keyed c k)
@@ -34,8 +36,7 @@ tune_step t = Tune t.hot_share t.warm_share t.hot_factor t.warm_factor
 
 -- the steps of a line, in order: one for each key of a `get`; None for a debug line and for a malformed one
 abbrev pub steps_of : ScriptLine → Option (List Step)
-steps_of (StoreLine verb key flags exptime payload noreply) = Some (store_step verb key flags exptime payload ∷ [])
-steps_of (JoinLine side key payload noreply) = Some (join_step side key payload ∷ [])
+steps_of (StorageLine c key flags exptime payload noreply) = Some (storage_step c key flags exptime payload ∷ [])
 steps_of (RetrievalLine keys with_cas) = Some (map get keys)
 steps_of (UpdateLine c key noreply) = Some (keyed_step c key ∷ [])
 steps_of (FlushLine delay noreply) = Some (flush_step delay ∷ [])

@@ -1,106 +1,70 @@
 //! The commands of clients.
-ghost use Rattle.std.specs.Prelude.{◌≡◌, map, ◌<◌, IfSome, true};
-ghost use Rattle.rev_items.specs.Keys.{is_key};
-ghost use Rattle.rev_script.specs.Words.{word};
-ghost use Rattle.rev_script.specs.Commands.{verb_of, side_of, data_numbers, store, store_command, cas_command, join_command, retrieval_command, delete_command, touch_command, increment_command, decrement_command, flush_command};
+ghost use Rattle.std.specs.Prelude.{◌≡◌, map, ◌<◌};
+ghost use Rattle.rev_script.specs.Commands.{storage_of, storage, storage_command, cas_command, retrieval_command, delete_command, touch_command, increment_command, decrement_command, flush_command};
 ghost use Rattle.rev_script.specs.Keyed.{HasKeys};
 
-use crate::command::{BadAnswer, Command};
+use crate::command::{BadAnswer, Command, StorageCommand};
 use crate::keys::is_key;
 use crate::number::{number, number_u32, signed};
 use crate::words::{are_keys, are_words, is_word, word};
 use rev_requests::{Arithmetic, JoinSide, KeyCommand, StoreVerb};
 
-/// The verb of this name, but for `cas`.
-#[tactic(auto, unfolding(crate::specs::Commands::verb_of))]
-pub fn verb_of(w: &[u8]) -> Option<StoreVerb>
-    ensures { result ≡ verb_of w.now }
+/// The storage command of this name, but for `cas`.
+#[tactic(auto, unfolding(crate::specs::Commands::storage_of))]
+pub fn storage_of(w: &[u8]) -> Option<StorageCommand>
+    ensures { result ≡ storage_of w.now }
 {
     if is_word(w, b"set") {
-        Some(StoreVerb::Set)
+        Some(StorageCommand::Store(StoreVerb::Set))
     } else if is_word(w, b"add") {
-        Some(StoreVerb::Add)
+        Some(StorageCommand::Store(StoreVerb::Add))
     } else if is_word(w, b"replace") {
-        Some(StoreVerb::Replace)
-    } else {
-        None
-    }
-}
-
-/// The side to which a command of this name joins data.
-#[tactic(auto, unfolding(crate::specs::Commands::side_of))]
-pub fn side_of(w: &[u8]) -> Option<JoinSide>
-    ensures { result ≡ side_of w.now }
-{
-    if is_word(w, b"append") {
-        Some(JoinSide::Append)
+        Some(StorageCommand::Store(StoreVerb::Replace))
+    } else if is_word(w, b"append") {
+        Some(StorageCommand::Join(JoinSide::Append))
     } else if is_word(w, b"prepend") {
-        Some(JoinSide::Prepend)
+        Some(StorageCommand::Join(JoinSide::Prepend))
     } else {
         None
     }
 }
 
-/// The numbers of a line that brings data.
-#[derive(Clone, Copy)]
-struct DataNumbers {
-    flags: u32,
-    exptime: i32,
-    size: u32,
-}
-
-// The numbers of a line that brings data, where its key and they are good.
-#[tactic(auto, unfolding(crate::specs::Commands::data_numbers))]
+// A storage line whose number of words is right: `n`, and perhaps `noreply`.
+#[tactic(auto, unfolding(crate::specs::Commands::storage))]
 #[inline(always)]
-fn data_numbers(words: &[&[u8]]) -> Option<DataNumbers>
-    ensures value { result ≡ data_numbers (map (λ x. x.now) words.now) }
-    ensures key { IfSome result (λ _. is_key (word (map (λ x. x.now) words.now) 1) ≡ true) }
+fn storage(command: StorageCommand, n: usize, words: &[&[u8]]) -> Command
+    requires { n < 16 }
+    ensures value { result ≡ storage command n (map (λ x. x.now) words.now) }
+    ensures keyed { HasKeys result (map (λ x. x.now) words.now) }
 {
     if !is_key(word(words, 1)) {
-        return None;
+        return Command::Bad(BadAnswer::BadFormat);
     }
     let Some(flags) = number_u32(word(words, 2)) else {
-        return None;
+        return Command::Bad(BadAnswer::BadFormat);
     };
     let Some(exptime) = signed(word(words, 3)) else {
-        return None;
+        return Command::Bad(BadAnswer::BadFormat);
     };
     let Some(size) = number(word(words, 4), 2147483645) else {
-        return None;
+        return Command::Bad(BadAnswer::BadFormat);
     };
-    Some(DataNumbers {
+    Command::Storage {
+        command,
         flags,
         exptime,
         size: size as u32,
-    })
-}
-
-// A line that stores, whose number of words is right: `n`, and perhaps `noreply`.
-#[inline(always)]
-fn store(verb: StoreVerb, n: usize, words: &[&[u8]]) -> Command
-    requires { n < 16 }
-    ensures value { result ≡ store verb n (map (λ x. x.now) words.now) }
-    ensures keyed { HasKeys result (map (λ x. x.now) words.now) }
-{
-    let Some(numbers) = data_numbers(words) else {
-        return Command::Bad(BadAnswer::BadFormat);
-    };
-    Command::Store {
-        verb,
-        flags: numbers.flags,
-        exptime: numbers.exptime,
-        size: numbers.size,
         noreply: words.len() == n + 1,
     }
 }
 
-#[tactic(auto, unfolding(crate::specs::Commands::store_command))]
-pub fn store_command(verb: StoreVerb, words: &[&[u8]]) -> Command
-    ensures value { result ≡ store_command verb (map (λ x. x.now) words.now) }
+#[tactic(auto, unfolding(crate::specs::Commands::storage_command))]
+pub fn storage_command(command: StorageCommand, words: &[&[u8]]) -> Command
+    ensures value { result ≡ storage_command command (map (λ x. x.now) words.now) }
     ensures keyed { HasKeys result (map (λ x. x.now) words.now) }
 {
     if are_words(5, words) {
-        store(verb, 5, words)
+        storage(command, 5, words)
     } else {
         Command::Bad(BadAnswer::Error)
     }
@@ -117,25 +81,7 @@ pub fn cas_command(words: &[&[u8]]) -> Command
     let Some(cas) = number(word(words, 5), 18446744073709551615) else {
         return Command::Bad(BadAnswer::BadFormat);
     };
-    store(StoreVerb::Cas(cas), 6, words)
-}
-
-#[tactic(auto, unfolding(crate::specs::Commands::join_command))]
-pub fn join_command(side: JoinSide, words: &[&[u8]]) -> Command
-    ensures value { result ≡ join_command side (map (λ x. x.now) words.now) }
-    ensures keyed { HasKeys result (map (λ x. x.now) words.now) }
-{
-    if !are_words(5, words) {
-        return Command::Bad(BadAnswer::Error);
-    }
-    let Some(numbers) = data_numbers(words) else {
-        return Command::Bad(BadAnswer::BadFormat);
-    };
-    Command::Join {
-        side,
-        size: numbers.size,
-        noreply: words.len() == 6,
-    }
+    storage(StorageCommand::Store(StoreVerb::Cas(cas)), 6, words)
 }
 
 /// `get` and `gets`.

@@ -2,8 +2,14 @@
 //!
 //! These types hold no text: a key or a name is always the word behind the command's own word.
 
+ghost use Rattle.std.specs.Prelude.{◌≡◌};
+ghost use Rattle.rev_requests.specs.Plain.{plain_client, plain_payload};
+ghost use Rattle.rev_script.specs.Steps.{plain_storage};
+
+use rev_items::Key;
 use rev_model::Queue;
-use rev_requests::{ActorStep, JoinSide, KeyCommand, StoreVerb, Tune};
+use rev_requests::{ActorStep, ClientStep, JoinSide, KeyCommand, Payload, StoreVerb, Tune};
+use std::alloc::Allocator;
 
 /// How a malformed line is answered. The line makes no step.
 #[derive(Clone, Copy)]
@@ -26,6 +32,43 @@ pub enum BadAnswer {
     BadChunk,
     /// A malformed line that begins with `~`, `@` or `:`.
     BadCommand,
+}
+
+/// A command on one key that brings data (protocol.txt's storage commands).
+#[derive(Clone, Copy)]
+pub enum StorageCommand {
+    /// An item is made of the data.
+    Store(StoreVerb),
+    /// The data are joined to those of the key's item.
+    Join(JoinSide),
+}
+
+impl StorageCommand {
+    /// The command's step on a key and data, with the line's flags and expiry time: a join keeps those of the item.
+    pub fn step<A: Allocator>(
+        self,
+        key: Key<A>,
+        flags: u32,
+        exptime: i32,
+        payload: Payload<A>,
+    ) -> ClientStep<A>
+        ensures { plain_client result ≡ plain_storage self key flags exptime (plain_payload payload) }
+    {
+        match self {
+            StorageCommand::Store(verb) => ClientStep::Store {
+                verb,
+                key,
+                flags,
+                exptime,
+                data: payload,
+            },
+            StorageCommand::Join(side) => ClientStep::Join {
+                side,
+                key,
+                data: payload,
+            },
+        }
+    }
 }
 
 /// A debug command that names no key and no bookmark. Like each debug command it makes no step.
@@ -67,16 +110,10 @@ pub enum BookmarkCommand {
 #[derive(Clone, Copy)]
 pub enum Command {
     /// The second word is the key; a data block of `size` bytes and CR LF follows the line.
-    Store {
-        verb: StoreVerb,
+    Storage {
+        command: StorageCommand,
         flags: u32,
         exptime: i32,
-        size: u32,
-        noreply: bool,
-    },
-    /// The same. The flags and the expiry time of its line are looked at, and of no use.
-    Join {
-        side: JoinSide,
         size: u32,
         noreply: bool,
     },

@@ -1,24 +1,18 @@
 //! A line of a script, with all that belongs to it.
 
-use crate::command::{BadAnswer, BookmarkCommand, DebugCommand, KeyQuery};
+use crate::command::{BadAnswer, BookmarkCommand, DebugCommand, KeyQuery, StorageCommand};
 use rev_items::Key;
-use rev_requests::{ActorStep, JoinSide, KeyCommand, Payload, StoreVerb, Tune};
+use rev_requests::{ActorStep, KeyCommand, Payload, Tune};
 use std::alloc::Allocator;
 
 /// A line of a client.
 #[derive(Drop)]
 pub enum ClientLine<A: Allocator> {
-    Store {
-        verb: StoreVerb,
+    Storage {
+        command: StorageCommand,
         key: Key<A>,
         flags: u32,
         exptime: i32,
-        payload: Payload<A>,
-        noreply: bool,
-    },
-    Join {
-        side: JoinSide,
-        key: Key<A>,
         payload: Payload<A>,
         noreply: bool,
     },
@@ -64,25 +58,15 @@ pub enum Line<A: Allocator> {
     Bad { answer: BadAnswer },
 }
 
-/// A line of a client that wants its data.
-#[derive(Drop)]
-pub enum BegunLine<A: Allocator> {
-    Store {
-        verb: StoreVerb,
+/// A line as far as its own bytes say it: whole, or a storage line that wants its data block.
+pub enum Asked<A: Allocator> {
+    Done(Line<A>),
+    Storage {
+        command: StorageCommand,
         key: Key<A>,
         flags: u32,
         exptime: i32,
+        size: u32,
         noreply: bool,
     },
-    Join {
-        side: JoinSide,
-        key: Key<A>,
-        noreply: bool,
-    },
-}
-
-/// A line as far as its own bytes say it: whole, or one that wants a data block of `size` bytes.
-pub enum Asked<A: Allocator> {
-    Done(Line<A>),
-    Begun { line: BegunLine<A>, size: u32 },
 }

@@ -12,25 +12,25 @@ ghost use Rattle.rev_script.specs.declared.dialect.Dialect.{Dialect};
 ghost use Rattle.rev_script.specs.declared.dialect.Dialect.TheVariants.{CrLf};
 ghost use Rattle.rev_script.specs.Keyed.{HasKeys};
 ghost use Rattle.rev_script.specs.Words.{words, word};
-ghost use Rattle.rev_script.specs.Script.{BeginsStore, BeginsJoin, line_of, has_lf};
-ghost use Rattle.rev_script.specs.Line.{view, begun_view, IsAsked, IsNext, IsFault, IsBlockRead, IsBlockLine};
+ghost use Rattle.rev_script.specs.Script.{line_of, has_lf};
+ghost use Rattle.rev_script.specs.Line.{view, IsAsked, IsNext, IsFault, IsStorageLine};
 ghost use Rattle.rev_script.specs.Input.{input_of};
 ghost use Rattle.rev_script.specs.ByteReader.{Took, Broke, IsEnded, front};
 ghost use Rattle.rev_script.specs.DataBlock.{IsBroken};
 
 use crate::byte_reader::{ByteReader, LineFault};
-use crate::command::{BadAnswer, BookmarkCommand, Command, KeyQuery};
+use crate::command::{BadAnswer, BookmarkCommand, Command, KeyQuery, StorageCommand};
 use crate::data_block::{MOST_DATA, take_block};
 use crate::dialect::Dialect;
 use crate::grammar::{asked, body};
 use crate::input::Input;
-use crate::line::{Asked, BegunLine, ClientLine, DebugLine, Line};
+use crate::line::{Asked, ClientLine, DebugLine, Line};
 use crate::raw_line::{MOST_KEPT, first_feed, pass_line, read_text};
 use crate::source::Source;
 use crate::words::{few_words, few_words_in, word, words};
 use arrayvec::ArrayVec;
 use rev_items::{Filler, Key};
-use rev_requests::{JoinSide, KeyCommand, Payload, StoreVerb};
+use rev_requests::{KeyCommand, Payload};
 use std::alloc::{AllocError, Allocator};
 use std::marker::Model;
 
@@ -122,7 +122,7 @@ fn plain_line<A: Allocator + Clone>(
     ensures { IfOk result (λ line. (d : Dialect) → view line ≡ line_of d command (map (λ x. x.now) words.now) []) }
 {
     match command {
-        Command::Store { .. } | Command::Join { .. } => Ok(Line::Bad {
+        Command::Storage { .. } => Ok(Line::Bad {
             answer: BadAnswer::BadChunk,
         }),
         Command::Retrieval { with_cas } => retrieval_line(alloc, with_cas, words),
@@ -150,31 +150,22 @@ fn asked_by<A: Allocator + Clone>(
     ensures { IfOk result (λ a. IsAsked a command (map (λ x. x.now) words.now)) }
 {
     match command {
-        Command::Store {
-            verb,
+        Command::Storage {
+            command,
             flags,
             exptime,
             size,
             noreply,
         } => {
             let key = Key::of(alloc, word(words, 1))?;
-            let line = BegunLine::Store {
-                verb,
+            Ok(Asked::Storage {
+                command,
                 key,
                 flags,
                 exptime,
+                size,
                 noreply,
-            };
-            Ok(Asked::Begun { line, size })
-        }
-        Command::Join {
-            side,
-            size,
-            noreply,
-        } => {
-            let key = Key::of(alloc, word(words, 1))?;
-            let line = BegunLine::Join { side, key, noreply };
-            Ok(Asked::Begun { line, size })
+            })
         }
         other => Ok(Asked::Done(plain_line(alloc, other, words)?)),
     }
@@ -225,15 +216,19 @@ fn payload_of<A: Allocator + Clone>(
     Ok(Payload::Bytes(filler.data(kept)?))
 }
 
-// Takes a line's data block. None where the block does not end as it has to.
-#[inline(always)]
-fn block_payload<S: Source, A: Allocator + Clone>(
+// Takes a storage line's data block, and makes the line.
+fn storage_line<S: Source, A: Allocator + Clone>(
     input: &mut Input<S, A>,
     alloc: A,
+    command: StorageCommand,
+    key: Key<A>,
+    flags: u32,
+    exptime: i32,
     size: u32,
-) -> Result<Option<Payload<A>>, LineFault>
+    noreply: bool,
+) -> Result<Line<A>, LineFault>
     requires { input.old.passes ≡ false }
-    ensures ok { IfOk result (λ payload. IsBlockRead (input_of input.old) (input_of input.new) size (option_map plain_payload payload)) }
+    ensures ok { IfOk result (λ line. IsStorageLine (input_of input.old) (input_of input.new) command key flags exptime size noreply (view line)) }
     ensures err { IfErr result (λ e. IsBroken input.old.dialect input.old.bytes input.new.bytes size e) }
 {
     let mut kept = Vec::new(alloc);
@@ -243,93 +238,22 @@ fn block_payload<S: Source, A: Allocator + Clone>(
     };
     if !sound {
         input.passes = input.dialect.passes_bad_lines();
-        return Ok(None);
-    }
-    match payload_of(&mut input.filler, size, kept) {
-        Err(_) => Err(LineFault::Memory),
-        Ok(payload) => Ok(Some(payload)),
-    }
-}
-
-// Takes the data block of a line that stores, and makes the line.
-fn store_line<S: Source, A: Allocator + Clone>(
-    input: &mut Input<S, A>,
-    alloc: A,
-    verb: StoreVerb,
-    key: Key<A>,
-    flags: u32,
-    exptime: i32,
-    size: u32,
-    noreply: bool,
-) -> Result<Line<A>, LineFault>
-    requires { input.old.passes ≡ false }
-    ensures ok { IfOk result (λ line. IsBlockLine (input_of input.old) (input_of input.new) (BeginsStore verb key flags exptime noreply) size (view line)) }
-    ensures err { IfErr result (λ e. IsBroken input.old.dialect input.old.bytes input.new.bytes size e) }
-{
-    match block_payload(input, alloc, size) {
-        Err(e) => Err(e),
-        Ok(None) => Ok(Line::Bad {
+        return Ok(Line::Bad {
             answer: BadAnswer::BadChunk,
-        }),
-        Ok(Some(payload)) => Ok(Line::Client(ClientLine::Store {
-            verb,
-            key,
-            flags,
-            exptime,
-            payload,
-            noreply,
-        })),
+        });
     }
-}
-
-// Takes the data block of a line that joins, and makes the line.
-fn join_line<S: Source, A: Allocator + Clone>(
-    input: &mut Input<S, A>,
-    alloc: A,
-    side: JoinSide,
-    key: Key<A>,
-    size: u32,
-    noreply: bool,
-) -> Result<Line<A>, LineFault>
-    requires { input.old.passes ≡ false }
-    ensures ok { IfOk result (λ line. IsBlockLine (input_of input.old) (input_of input.new) (BeginsJoin side key noreply) size (view line)) }
-    ensures err { IfErr result (λ e. IsBroken input.old.dialect input.old.bytes input.new.bytes size e) }
-{
-    match block_payload(input, alloc, size) {
-        Err(e) => Err(e),
-        Ok(None) => Ok(Line::Bad {
-            answer: BadAnswer::BadChunk,
-        }),
-        Ok(Some(payload)) => Ok(Line::Client(ClientLine::Join {
-            side,
-            key,
-            payload,
-            noreply,
-        })),
-    }
-}
-
-// Takes the data block of a line, and makes the line.
-fn begun_line<S: Source, A: Allocator + Clone>(
-    input: &mut Input<S, A>,
-    alloc: A,
-    line: BegunLine<A>,
-    size: u32,
-) -> Result<Line<A>, LineFault>
-    requires { input.old.passes ≡ false }
-    ensures ok { IfOk result (λ made. IsBlockLine (input_of input.old) (input_of input.new) (begun_view line) size (view made)) }
-    ensures err { IfErr result (λ e. IsBroken input.old.dialect input.old.bytes input.new.bytes size e) }
-{
-    match line {
-        BegunLine::Store {
-            verb,
-            key,
-            flags,
-            exptime,
-            noreply,
-        } => store_line(input, alloc, verb, key, flags, exptime, size, noreply),
-        BegunLine::Join { side, key, noreply } => join_line(input, alloc, side, key, size, noreply),
-    }
+    let payload = match payload_of(&mut input.filler, size, kept) {
+        Err(_) => return Err(LineFault::Memory),
+        Ok(payload) => payload,
+    };
+    Ok(Line::Client(ClientLine::Storage {
+        command,
+        key,
+        flags,
+        exptime,
+        payload,
+        noreply,
+    }))
 }
 
 fn two_handles<A: Allocator + Clone>(text: &Vec<u8, A>) -> Result<(A, A), AllocError> {
@@ -368,13 +292,20 @@ fn copied_line<S: Source, A: Allocator + Clone>(
     };
     match asked {
         Asked::Done(line) => Ok(Some(line)),
-        Asked::Begun { line, size } => {
+        Asked::Storage {
+            command,
+            key,
+            flags,
+            exptime,
+            size,
+            noreply,
+        } => {
             if !raw.feed {
                 return Ok(Some(Line::Bad {
                     answer: BadAnswer::BadChunk,
                 }));
             }
-            match begun_line(input, other, line, size) {
+            match storage_line(input, other, command, key, flags, exptime, size, noreply) {
                 Err(e) => Err(e),
                 Ok(line) => Ok(Some(line)),
             }
@@ -406,7 +337,14 @@ fn many_at_hand<S: Source, A: Allocator + Clone>(
     };
     match asked {
         Asked::Done(line) => Ok(Some(line)),
-        Asked::Begun { line, size } => match begun_line(input, other, line, size) {
+        Asked::Storage {
+            command,
+            key,
+            flags,
+            exptime,
+            size,
+            noreply,
+        } => match storage_line(input, other, command, key, flags, exptime, size, noreply) {
             Err(e) => Err(e),
             Ok(line) => Ok(Some(line)),
         },
@@ -438,8 +376,8 @@ fn line_at_hand<S: Source, A: Allocator + Clone>(
         Ok(pair) => pair,
     };
     match asked(body, parts) {
-        Command::Store {
-            verb,
+        Command::Storage {
+            command,
             flags,
             exptime,
             size,
@@ -451,23 +389,7 @@ fn line_at_hand<S: Source, A: Allocator + Clone>(
                 Err(_) => return Err(LineFault::Memory),
                 Ok(key) => key,
             };
-            match store_line(input, other, verb, key, flags, exptime, size, noreply) {
-                Err(e) => Err(e),
-                Ok(line) => Ok(Some(line)),
-            }
-        }
-        Command::Join {
-            side,
-            size,
-            noreply,
-        } => {
-            let key = Key::of(alloc, word(parts, 1));
-            input.bytes.pass(i + 1);
-            let key = match key {
-                Err(_) => return Err(LineFault::Memory),
-                Ok(key) => key,
-            };
-            match join_line(input, other, side, key, size, noreply) {
+            match storage_line(input, other, command, key, flags, exptime, size, noreply) {
                 Err(e) => Err(e),
                 Ok(line) => Ok(Some(line)),
             }

@@ -15,12 +15,12 @@ use Rattle.rev_script.specs.declared.command.KeyQuery.{KeyQuery}
 use Rattle.rev_script.specs.declared.command.KeyQuery.TheVariants as queries
 use Rattle.rev_script.specs.declared.command.BookmarkCommand.{BookmarkCommand}
 use Rattle.rev_script.specs.declared.command.BookmarkCommand.TheVariants as bookmarks
-use Rattle.rev_script.specs.Script.{ScriptLine, StoreLine, JoinLine, RetrievalLine, UpdateLine, FlushLine, ActorLine, TuneLine, DebugLine, QueryLine, BookmarkLine, BadLine}
+use Rattle.rev_script.specs.Script.{ScriptLine, StorageLine, RetrievalLine, UpdateLine, FlushLine, ActorLine, TuneLine, DebugLine, QueryLine, BookmarkLine, BadLine}
 use Rattle.rev_shell.specs.Texts.{output, bad_text, outcome_text, found_value, item_of, found_text, place_text, entries_text, chunks_text, pages_text, counters_text, globals_text, node_text, parent_text}
 use Rattle.rev_shell.specs.Trees.{gone_to, child_at, child_text, go_text, gone, prune_text, after_prune, tree_text}
 use Rattle.rev_shell.specs.Bookmarks.{marked, with_mark, mark_text, marks_text, goto_text, gone_by}
 use Rattle.rev_requests.specs.Plain.{plain_actor}
-use Rattle.rev_script.specs.Steps.{store_step, join_step, keyed_step, flush_step, tune_step, get}
+use Rattle.rev_script.specs.Steps.{storage_step, keyed_step, flush_step, tune_step, get}
 use Rattle.rev_explain.specs.Story.{story, why_of}
 use Rattle.rev_shell.specs.Reasons.{events_text, why_text}
 use Rattle.rev_shell.specs.declared.play.Reply.{Reply}
@@ -160,8 +160,7 @@ after_bookmark d bookmarks.Goto name = with_bookmarks (gone_by d.session (marked
 
 -- what a line answers
 abbrev pub answer : MarkedSession → ScriptLine → List ℕ
-answer d (StoreLine verb k flags exptime payload noreply) = reply_text noreply (reply d.session (store_step verb k flags exptime payload))
-answer d (JoinLine side k payload noreply) = reply_text noreply (reply d.session (join_step side k payload))
+answer d (StorageLine c k flags exptime payload noreply) = reply_text noreply (reply d.session (storage_step c k flags exptime payload))
 answer d (RetrievalLine ks with_cas) = values with_cas d.session ks
 answer d (UpdateLine c k noreply) = reply_text noreply (reply d.session (keyed_step c k))
 answer d (FlushLine delay noreply) = reply_text noreply (reply d.session (flush_step delay))
@@ -174,8 +173,7 @@ answer d (BadLine a) = output (bad_text a)
 
 -- the session and the bookmarks after it
 abbrev pub after : MarkedSession → ScriptLine → MarkedSession
-after d (StoreLine verb k flags exptime payload noreply) = with_bookmarks (after_step d.session (store_step verb k flags exptime payload)) d.bookmarks
-after d (JoinLine side k payload noreply) = with_bookmarks (after_step d.session (join_step side k payload)) d.bookmarks
+after d (StorageLine c k flags exptime payload noreply) = with_bookmarks (after_step d.session (storage_step c k flags exptime payload)) d.bookmarks
 after d (RetrievalLine ks with_cas) = with_bookmarks (after_gets d.session ks) d.bookmarks
 after d (UpdateLine c k noreply) = with_bookmarks (after_step d.session (keyed_step c k)) d.bookmarks
 after d (FlushLine delay noreply) = with_bookmarks (after_step d.session (flush_step delay)) d.bookmarks

@@ -29,34 +29,15 @@ fn put_client<A: Allocator + Clone>(
     ensures session { (marks : List (List ℕ × ℕ)) → OnOk result (with_bookmarks session.new marks ≡ after (with_bookmarks session.old marks) (client_view line)) }
 {
     match line {
-        ClientLine::Store {
-            verb,
+        ClientLine::Storage {
+            command,
             key,
             flags,
             exptime,
             payload,
             noreply,
         } => {
-            let step = ClientStep::Store {
-                verb,
-                key,
-                flags,
-                exptime,
-                data: payload,
-            };
-            play_line(session, Step::Client(step), noreply, out)
-        }
-        ClientLine::Join {
-            side,
-            key,
-            payload,
-            noreply,
-        } => {
-            let step = ClientStep::Join {
-                side,
-                key,
-                data: payload,
-            };
+            let step = command.step(key, flags, exptime, payload);
             play_line(session, Step::Client(step), noreply, out)
         }
         ClientLine::Retrieval { keys, with_cas } => put_values(session, keys, with_cas, out),

@@ -1,9 +1,11 @@
+use Rattle.std.proofs.Common.{rules, w32, SFits}
+use Rattle.std.proofs.lemmas.Int.{to_z-of_z}
 use Rattle.std.proofs.Common.{◌≡◌, refl, not, Bool, [], true, false, arith, sym, ◌∙◌, ap}
 use Rattle.std.specs.Io.BufRead.{strip_last}
 use Rattle.rev_script.specs.Words.{words, word}
 use Rattle.rev_script.specs.Commands.{asked}
 use Rattle.rev_script.specs.Script.{line_of}
-use Rattle.rev_script.specs.Line.{begun_view, has_block}
+use Rattle.rev_script.specs.Line.{has_block}
 use Rattle.rev_script.proofs.Next.{next_plain, next_done, next_block, next_cut_storage, fault_text, fault_block, no_text, no_line, asked-long, kept_text}
 use Rattle.rev_script.proofs.lines.copied_line.Goals as goal
 use Rattle.rev_script.proofs.lines.copied_line.Goals.{else-not-raw-via-then-not-raw+else-raw-eq0, else-not-raw-via-else-not-raw}
@@ -40,8 +42,8 @@ pub returns-then-not-raw-2-clause-ok : goal.returns-then-not-raw-2-clause-ok
 returns-then-not-raw-2-clause-ok g c =
     let t = c.in-Ok.ensures.ok in
     let is : c.body.result.now ≡ strip_last 13 t.text = c.body.ensures ∙ ap (λ x. strip_last 13 x) (c.as_slice.ensures.value ∙ kept_text t c.if-raw-gt-MOST_KEPT.false) in
-    let a = rw c.in-Begun.is at c.in-Ok-asked_line.ensures in
-    rw c.requires (next_cut_storage c.args.input.now.dialect (begun_view c.in-Begun.line) c.in-Begun.size t (is_false _ c.if-not-raw-2.true) (elim c.else-not-raw.branch [
+    let a = rw c.in-Storage.is at c.in-Ok-asked_line.ensures in
+    rw c.requires (next_cut_storage c.args.input.now.dialect t (is_false _ c.if-not-raw-2.true) (elim c.else-not-raw.branch [
       | else-not-raw-via-then-not-raw+else-raw-eq0 w ↦ omega (arith, w.if-raw-eq0.false)
       | else-not-raw-via-else-not-raw w ↦ absurd (opposite _ (is_false _ c.if-not-raw-2.true) w.if-not-raw.false)
     ]) (ap asked (sym is) ∙ a.0))
@@ -56,17 +58,19 @@ returns-in-Done-clause-ok g c =
       | else-not-raw-via-else-not-raw w ↦ absurd (opposite _ f w.if-not-raw.false)
     ]) a.0 (a.1 c.args.input.now.dialect))
 
-pub returns-in-Err-begun_line-clause-err : goal.returns-in-Err-begun_line-clause-err
-returns-in-Err-begun_line-clause-err g c =
+pub returns-in-Err-storage_line-clause-err : goal.returns-in-Err-storage_line-clause-err
+returns-in-Err-storage_line-clause-err g c =
     let t = c.in-Ok.ensures.ok in
     let is : c.body.result.now ≡ strip_last 13 t.text = c.body.ensures ∙ ap (λ x. strip_last 13 x) (c.as_slice.ensures.value ∙ kept_text t c.if-raw-gt-MOST_KEPT.false) in
-    let a = rw c.in-Begun.is at c.in-Ok-asked_line.ensures in
-    rw c.requires (fault_block c.args.input.now.dialect (begun_view c.in-Begun.line) c.in-Begun.size t (is_true _ c.if-not-raw-2.false) (ap asked (sym is) ∙ a.0) c.in-Err-begun_line.ensures.err)
+    let a = rw c.in-Storage.is at c.in-Ok-asked_line.ensures in
+    rw c.requires (fault_block c.args.input.now.dialect t (is_true _ c.if-not-raw-2.false) (ap asked (sym is) ∙ a.0) c.in-Err-storage_line.ensures.err)
 
-pub returns-in-Ok-begun_line-clause-ok : goal.returns-in-Ok-begun_line-clause-ok
-returns-in-Ok-begun_line-clause-ok g c =
+pub returns-in-Ok-storage_line-clause-ok : goal.returns-in-Ok-storage_line-clause-ok
+returns-in-Ok-storage_line-clause-ok g c =
     let t = c.in-Ok.ensures.ok in
     let is : c.body.result.now ≡ strip_last 13 t.text = c.body.ensures ∙ ap (λ x. strip_last 13 x) (c.as_slice.ensures.value ∙ kept_text t c.if-raw-gt-MOST_KEPT.false) in
-    let a = rw c.in-Begun.is at c.in-Ok-asked_line.ensures in
-    let s = rw c.requires at c.in-Ok-begun_line.ensures.ok in
-    rw c.requires (next_block c.args.input.now.dialect (begun_view c.in-Begun.line) c.in-Begun.size t (is_true _ c.if-not-raw-2.false) (ap asked (sym is) ∙ a.0) (a.1 ∙ ap (λ x. word (words x) 1) is) s)
+    let a = rw c.in-Storage.is at c.in-Ok-asked_line.ensures in
+    let fits : SFits w32 c.in-Storage.exptime = search rules in
+    let e = to_z-of_z w32 c.in-Storage.exptime fits in
+    let s = rw (e, c.requires) at c.in-Ok-storage_line.ensures.ok in
+    rw c.requires (next_block c.args.input.now.dialect t (is_true _ c.if-not-raw-2.false) (ap asked (sym is) ∙ a.0) (a.1 ∙ ap (λ x. word (words x) 1) is) s)

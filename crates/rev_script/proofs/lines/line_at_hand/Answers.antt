@@ -3,7 +3,7 @@ use Rattle.std.proofs.lemmas.Int.{to_z-of_z}
 use Rattle.std.specs.Io.BufRead.{strip_last}
 use Rattle.rev_script.specs.Words.{words, word}
 use Rattle.rev_script.specs.Commands.{asked}
-use Rattle.rev_script.specs.Script.{line_of, BeginsStore, BeginsJoin}
+use Rattle.rev_script.specs.Script.{line_of}
 use Rattle.rev_script.specs.Line.{has_block}
 use Rattle.rev_script.specs.declared.command.Command.TheVariants.{Retrieval, Update}
 use Rattle.rev_script.proofs.Pieces.{text_at_hand}
@@ -15,40 +15,22 @@ few_words_in-requires-clause-begins g c =
     let P : List ℕ → Type 0 = λ b. b ≡ take (length b) c.front-front.result.now in
     subst P (sym c.body-body.ensures) (front_body c.args.i c.front-front.result.now)
 
-pub returns-in-Err-store_line-clause-err : goal.returns-in-Err-store_line-clause-err
-returns-in-Err-store_line-clause-err g c =
+pub returns-in-Err-storage_line-clause-err : goal.returns-in-Err-storage_line-clause-err
+returns-in-Err-storage_line-clause-err g c =
     let t = text_at_hand c.args.i c.requires.feed c.pass.ensures.taken in
     let is : c.body-body.result.now ≡ strip_last 13 t.text = c.body-body.ensures ∙ ap (λ x. strip_last 13 (take c.args.i x)) c.front-front.ensures in
-    let begun = BeginsStore c.in-Store.verb [] c.in-Store.flags c.in-Store.exptime c.in-Store.noreply in
-    rw c.requires.here (fault_block c.args.input.now.dialect begun c.in-Store.size t refl (ap asked (sym is) ∙ sym c.in-Store.ensures.value) c.in-Err-store_line.ensures.err)
+    rw c.requires.here (fault_block c.args.input.now.dialect t refl (ap asked (sym is) ∙ sym c.in-Storage.ensures.value) c.in-Err-storage_line.ensures.err)
 
-pub returns-in-Store-clause-ok : goal.returns-in-Store-clause-ok
-returns-in-Store-clause-ok g c =
+pub returns-in-Storage-clause-ok : goal.returns-in-Storage-clause-ok
+returns-in-Storage-clause-ok g c =
     let t = text_at_hand c.args.i c.requires.feed c.pass.ensures.taken in
     let is : c.body-body.result.now ≡ strip_last 13 t.text = c.body-body.ensures ∙ ap (λ x. strip_last 13 (take c.args.i x)) c.front-front.ensures in
     let ws : map (λ x. x.now) c.as_slice-parts.result.now ≡ words c.body-body.result.now = search rules in
-    let fits : SFits w32 c.in-Store.exptime = search rules in
-    let e = to_z-of_z w32 c.in-Store.exptime fits in
-    let s = rw (e, c.requires.here) at c.in-Ok-store_line.ensures.ok in
-    let begun = BeginsStore c.in-Store.verb c.in-Ok-key.key c.in-Store.flags c.in-Store.exptime c.in-Store.noreply in
-    rw c.requires.here (next_block c.args.input.now.dialect begun c.in-Store.size t refl (ap asked (sym is) ∙ sym c.in-Store.ensures.value)
+    let fits : SFits w32 c.in-Storage.exptime = search rules in
+    let e = to_z-of_z w32 c.in-Storage.exptime fits in
+    let s = rw (e, c.requires.here) at c.in-Ok-storage_line.ensures.ok in
+    rw c.requires.here (next_block c.args.input.now.dialect t refl (ap asked (sym is) ∙ sym c.in-Storage.ensures.value)
     (c.in-Ok-key.ensures.ok ∙ c.word.ensures ∙ ap (λ l. word l 1) (ws ∙ ap words is)) s)
-
-pub returns-in-Err-join_line-clause-err : goal.returns-in-Err-join_line-clause-err
-returns-in-Err-join_line-clause-err g c =
-    let t = text_at_hand c.args.i c.requires.feed c.pass-in-Join.ensures.taken in
-    let is : c.body-body.result.now ≡ strip_last 13 t.text = c.body-body.ensures ∙ ap (λ x. strip_last 13 (take c.args.i x)) c.front-front.ensures in
-    rw c.requires.here (fault_block c.args.input.now.dialect (BeginsJoin c.in-Join.side [] c.in-Join.noreply) c.in-Join.size t refl (ap asked (sym is) ∙ sym c.in-Join.ensures.value) c.in-Err-join_line.ensures.err)
-
-pub returns-in-Join-clause-ok : goal.returns-in-Join-clause-ok
-returns-in-Join-clause-ok g c =
-    let t = text_at_hand c.args.i c.requires.feed c.pass-in-Join.ensures.taken in
-    let is : c.body-body.result.now ≡ strip_last 13 t.text = c.body-body.ensures ∙ ap (λ x. strip_last 13 (take c.args.i x)) c.front-front.ensures in
-    let ws : map (λ x. x.now) c.as_slice-parts.result.now ≡ words c.body-body.result.now = search rules in
-    let s = rw c.requires.here at c.in-Ok-join_line.ensures.ok in
-    let begun = BeginsJoin c.in-Join.side c.in-Ok-key-2.key c.in-Join.noreply in
-    rw c.requires.here (next_block c.args.input.now.dialect begun c.in-Join.size t refl (ap asked (sym is) ∙ sym c.in-Join.ensures.value)
-    (c.in-Ok-key-2.ensures.ok ∙ c.word-in-Join.ensures ∙ ap (λ l. word l 1) (ws ∙ ap words is)) s)
 
 pub returns-clause-ok : goal.returns-clause-ok
 returns-clause-ok g c =

@@ -1,8 +1,8 @@
-use Rattle.std.proofs.Common.{◌≡◌, refl, take, sym, ◌∙◌, ap}
+use Rattle.std.proofs.Common.{rules, w32, SFits, ◌≡◌, refl, take, sym, ◌∙◌, ap}
+use Rattle.std.proofs.lemmas.Int.{to_z-of_z}
 use Rattle.std.specs.Io.BufRead.{strip_last}
 use Rattle.rev_script.specs.Words.{words, word}
 use Rattle.rev_script.specs.Commands.{asked}
-use Rattle.rev_script.specs.Line.{begun_view}
 use Rattle.rev_script.proofs.Pieces.{text_at_hand}
 use Rattle.rev_script.proofs.Next.{next_done, next_block, fault_block}
 use Rattle.rev_script.proofs.lines.many_at_hand.Goals as goal
@@ -14,17 +14,19 @@ returns-in-Done-clause-ok g c =
     let a = rw c.in-Done.is at c.in-Ok-asked.ensures in
     rw c.requires.here (next_done c.args.input.now.dialect t c.body.result.now is _ (λ f. absurd (cc)) a.0 (a.1 c.args.input.now.dialect))
 
-pub returns-in-Err-begun_line-clause-err : goal.returns-in-Err-begun_line-clause-err
-returns-in-Err-begun_line-clause-err g c =
+pub returns-in-Err-storage_line-clause-err : goal.returns-in-Err-storage_line-clause-err
+returns-in-Err-storage_line-clause-err g c =
     let t = text_at_hand c.args.i c.requires.feed c.pass.ensures.taken in
     let is : c.body.result.now ≡ strip_last 13 t.text = c.body.ensures ∙ ap (λ x. strip_last 13 (take c.args.i x)) c.front.ensures in
-    let a = rw c.in-Begun.is at c.in-Ok-asked.ensures in
-    rw c.requires.here (fault_block c.args.input.now.dialect (begun_view c.in-Begun.line) c.in-Begun.size t refl (ap asked (sym is) ∙ a.0) c.in-Err-begun_line.ensures.err)
+    let a = rw c.in-Storage.is at c.in-Ok-asked.ensures in
+    rw c.requires.here (fault_block c.args.input.now.dialect t refl (ap asked (sym is) ∙ a.0) c.in-Err-storage_line.ensures.err)
 
-pub returns-in-Ok-begun_line-clause-ok : goal.returns-in-Ok-begun_line-clause-ok
-returns-in-Ok-begun_line-clause-ok g c =
+pub returns-in-Ok-storage_line-clause-ok : goal.returns-in-Ok-storage_line-clause-ok
+returns-in-Ok-storage_line-clause-ok g c =
     let t = text_at_hand c.args.i c.requires.feed c.pass.ensures.taken in
     let is : c.body.result.now ≡ strip_last 13 t.text = c.body.ensures ∙ ap (λ x. strip_last 13 (take c.args.i x)) c.front.ensures in
-    let a = rw c.in-Begun.is at c.in-Ok-asked.ensures in
-    let s = rw c.requires.here at c.in-Ok-begun_line.ensures.ok in
-    rw c.requires.here (next_block c.args.input.now.dialect (begun_view c.in-Begun.line) c.in-Begun.size t refl (ap asked (sym is) ∙ a.0) (a.1 ∙ ap (λ x. word (words x) 1) is) s)
+    let a = rw c.in-Storage.is at c.in-Ok-asked.ensures in
+    let fits : SFits w32 c.in-Storage.exptime = search rules in
+    let e = to_z-of_z w32 c.in-Storage.exptime fits in
+    let s = rw (e, c.requires.here) at c.in-Ok-storage_line.ensures.ok in
+    rw c.requires.here (next_block c.args.input.now.dialect t refl (ap asked (sym is) ∙ a.0) (a.1 ∙ ap (λ x. word (words x) 1) is) s)
