@@ -7,12 +7,13 @@ ghost use Rattle.rev_script.specs.Steps.{get, steps_of};
 ghost use Rattle.rev_program.specs.Steps.{Adds, IsRead, IsRefused, script_fault};
 
 use rev_items::Key;
-use rev_requests::{ClientStep, KeyCommand, Step};
+use rev_requests::Step;
 use rev_script::byte_reader::LineFault;
 use rev_script::dialect::Dialect;
 use rev_script::line::{ClientLine, Line};
 use rev_script::lines::Lines;
 use rev_script::source::Source;
+use rev_script::steps::{flush_step, get_step, keyed_step, storage_step};
 use std::alloc::{AllocError, Global};
 use thiserror::Error;
 
@@ -55,11 +56,7 @@ fn add_gets(steps: &mut Vec<Step<Global>>, keys: Vec<Key<Global>>) -> Result<(),
     ensures { OnOk result (map plain_step steps.new.items ≡ map plain_step steps.old.items ++ map get keys.items) }
 {
     for key in keys {
-        let get = ClientStep::Keyed {
-            command: KeyCommand::Get,
-            key,
-        };
-        add(steps, Step::Client(get))?;
+        add(steps, get_step(key))?;
     }
     Ok(())
 }
@@ -68,7 +65,7 @@ fn add_gets(steps: &mut Vec<Step<Global>>, keys: Vec<Key<Global>>) -> Result<(),
 fn add_client(steps: &mut Vec<Step<Global>>, line: ClientLine<Global>) -> Result<(), AllocError>
     ensures { OnOk result (Adds (map plain_step steps.old.items) (map plain_step steps.new.items) (client_view line)) }
 {
-    let step = match line {
+    match line {
         ClientLine::Storage {
             command,
             key,
@@ -76,12 +73,11 @@ fn add_client(steps: &mut Vec<Step<Global>>, line: ClientLine<Global>) -> Result
             exptime,
             payload,
             ..
-        } => command.step(key, flags, exptime, payload),
-        ClientLine::Retrieval { keys, .. } => return add_gets(steps, keys),
-        ClientLine::Update { command, key, .. } => ClientStep::Keyed { command, key },
-        ClientLine::FlushAll { delay, .. } => ClientStep::FlushAll { delay },
-    };
-    add(steps, Step::Client(step))
+        } => add(steps, storage_step(command, key, flags, exptime, payload)),
+        ClientLine::Retrieval { keys, .. } => add_gets(steps, keys),
+        ClientLine::Update { command, key, .. } => add(steps, keyed_step(command, key)),
+        ClientLine::FlushAll { delay, .. } => add(steps, flush_step(delay)),
+    }
 }
 
 // Adds the steps of a line. The answer is whether it makes any: a debug line and a malformed one do not.

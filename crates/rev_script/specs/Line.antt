@@ -78,3 +78,8 @@ pub record IsStorageLine (old new : PlainInput)
   pub size_is : (length block ≡ size + ending_size old.dialect (drop size block)) ⊎ ((length block < size + ending_size old.dialect (drop size block)) × AtEnd new.bytes)
   pub line_is : line ≡ storage_line_of old.dialect command key flags exptime size noreply block
   pub passes_is : new.passes ≡ is_passed old.dialect (is_ending old.dialect (drop size block))
+
+-- the same, as the answer of a reader of lines: there is a line
+abbrev pub IsStorageNext : PlainInput → PlainInput → StorageCommand → List ℕ → ℕ → ℤ → ℕ → Bool → Option ScriptLine → Type 0
+IsStorageNext old new command key flags exptime size noreply None = ⊥
+IsStorageNext old new command key flags exptime size noreply (Some line) = IsStorageLine old new command key flags exptime size noreply line

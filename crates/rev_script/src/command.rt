@@ -2,14 +2,8 @@
 //!
 //! These types hold no text: a key or a name is always the word behind the command's own word.
 
-ghost use Rattle.std.specs.Prelude.{◌≡◌};
-ghost use Rattle.rev_requests.specs.Plain.{plain_client, plain_payload};
-ghost use Rattle.rev_script.specs.Steps.{plain_storage};
-
-use rev_items::Key;
 use rev_model::Queue;
-use rev_requests::{ActorStep, ClientStep, JoinSide, KeyCommand, Payload, StoreVerb, Tune};
-use std::alloc::Allocator;
+use rev_requests::{ActorStep, JoinSide, KeyCommand, StoreVerb, Tune};
 
 /// How a malformed line is answered. The line makes no step.
 #[derive(Clone, Copy)]
@@ -41,34 +35,6 @@ pub enum StorageCommand {
     Store(StoreVerb),
     /// The data are joined to those of the key's item.
     Join(JoinSide),
-}
-
-impl StorageCommand {
-    /// The command's step on a key and data, with the line's flags and expiry time: a join keeps those of the item.
-    pub fn step<A: Allocator>(
-        self,
-        key: Key<A>,
-        flags: u32,
-        exptime: i32,
-        payload: Payload<A>,
-    ) -> ClientStep<A>
-        ensures { plain_client result ≡ plain_storage self key flags exptime (plain_payload payload) }
-    {
-        match self {
-            StorageCommand::Store(verb) => ClientStep::Store {
-                verb,
-                key,
-                flags,
-                exptime,
-                data: payload,
-            },
-            StorageCommand::Join(side) => ClientStep::Join {
-                side,
-                key,
-                data: payload,
-            },
-        }
-    }
 }
 
 /// A debug command that names no key and no bookmark. Like each debug command it makes no step.

@@ -13,7 +13,7 @@ ghost use Rattle.rev_script.specs.declared.dialect.Dialect.TheVariants.{CrLf};
 ghost use Rattle.rev_script.specs.Keyed.{HasKeys};
 ghost use Rattle.rev_script.specs.Words.{words, word};
 ghost use Rattle.rev_script.specs.Script.{line_of, has_lf};
-ghost use Rattle.rev_script.specs.Line.{view, IsAsked, IsNext, IsFault, IsStorageLine};
+ghost use Rattle.rev_script.specs.Line.{view, IsAsked, IsNext, IsFault, IsStorageNext};
 ghost use Rattle.rev_script.specs.Input.{input_of};
 ghost use Rattle.rev_script.specs.ByteReader.{Took, Broke, IsEnded, front};
 ghost use Rattle.rev_script.specs.DataBlock.{IsBroken};
@@ -226,9 +226,9 @@ fn storage_line<S: Source, A: Allocator + Clone>(
     exptime: i32,
     size: u32,
     noreply: bool,
-) -> Result<Line<A>, LineFault>
+) -> Result<Option<Line<A>>, LineFault>
     requires { input.old.passes ≡ false }
-    ensures ok { IfOk result (λ line. IsStorageLine (input_of input.old) (input_of input.new) command key flags exptime size noreply (view line)) }
+    ensures ok { IfOk result (λ line. IsStorageNext (input_of input.old) (input_of input.new) command key flags exptime size noreply (option_map view line)) }
     ensures err { IfErr result (λ e. IsBroken input.old.dialect input.old.bytes input.new.bytes size e) }
 {
     let mut kept = Vec::new(alloc);
@@ -238,22 +238,22 @@ fn storage_line<S: Source, A: Allocator + Clone>(
     };
     if !sound {
         input.passes = input.dialect.passes_bad_lines();
-        return Ok(Line::Bad {
+        return Ok(Some(Line::Bad {
             answer: BadAnswer::BadChunk,
-        });
+        }));
     }
     let payload = match payload_of(&mut input.filler, size, kept) {
         Err(_) => return Err(LineFault::Memory),
         Ok(payload) => payload,
     };
-    Ok(Line::Client(ClientLine::Storage {
+    Ok(Some(Line::Client(ClientLine::Storage {
         command,
         key,
         flags,
         exptime,
         payload,
         noreply,
-    }))
+    })))
 }
 
 fn two_handles<A: Allocator + Clone>(text: &Vec<u8, A>) -> Result<(A, A), AllocError> {
@@ -305,10 +305,7 @@ fn copied_line<S: Source, A: Allocator + Clone>(
                     answer: BadAnswer::BadChunk,
                 }));
             }
-            match storage_line(input, other, command, key, flags, exptime, size, noreply) {
-                Err(e) => Err(e),
-                Ok(line) => Ok(Some(line)),
-            }
+            storage_line(input, other, command, key, flags, exptime, size, noreply)
         }
     }
 }
@@ -344,10 +341,7 @@ fn many_at_hand<S: Source, A: Allocator + Clone>(
             exptime,
             size,
             noreply,
-        } => match storage_line(input, other, command, key, flags, exptime, size, noreply) {
-            Err(e) => Err(e),
-            Ok(line) => Ok(Some(line)),
-        },
+        } => storage_line(input, other, command, key, flags, exptime, size, noreply),
     }
 }
 
@@ -389,10 +383,7 @@ fn line_at_hand<S: Source, A: Allocator + Clone>(
                 Err(_) => return Err(LineFault::Memory),
                 Ok(key) => key,
             };
-            match storage_line(input, other, command, key, flags, exptime, size, noreply) {
-                Err(e) => Err(e),
-                Ok(line) => Ok(Some(line)),
-            }
+            storage_line(input, other, command, key, flags, exptime, size, noreply)
         }
         // (the two kinds that most lines are have ways out of their own, where nothing of another kind is cleared or copied)
         Command::Retrieval { with_cas } => {

@@ -13,9 +13,10 @@ use crate::show::{
 use crate::text::{bad_text, put_node, put_output};
 use crate::tree::{put_back, put_forward, put_go, put_prune, put_tree};
 use rev_items::Key;
-use rev_requests::{ClientStep, Step};
+use rev_requests::Step;
 use rev_script::command::{BookmarkCommand, DebugCommand, KeyQuery};
 use rev_script::line::{ClientLine, DebugLine, Line};
+use rev_script::steps::{flush_step, keyed_step, storage_step};
 use rev_undotree::{NodeId, Session};
 use std::alloc::{AllocError, Allocator};
 
@@ -37,21 +38,21 @@ fn put_client<A: Allocator + Clone>(
             payload,
             noreply,
         } => {
-            let step = command.step(key, flags, exptime, payload);
-            play_line(session, Step::Client(step), noreply, out)
+            play_line(
+                session,
+                storage_step(command, key, flags, exptime, payload),
+                noreply,
+                out,
+            )
         }
         ClientLine::Retrieval { keys, with_cas } => put_values(session, keys, with_cas, out),
         ClientLine::Update {
             command,
             key,
             noreply,
-        } => {
-            let step = ClientStep::Keyed { command, key };
-            play_line(session, Step::Client(step), noreply, out)
-        }
+        } => play_line(session, keyed_step(command, key), noreply, out),
         ClientLine::FlushAll { delay, noreply } => {
-            let step = ClientStep::FlushAll { delay };
-            play_line(session, Step::Client(step), noreply, out)
+            play_line(session, flush_step(delay), noreply, out)
         }
     }
 }

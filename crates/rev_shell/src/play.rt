@@ -10,7 +10,8 @@ use crate::text::{put_outcome, put_output, put_value};
 use rev_inverse::Store;
 use rev_items::Key;
 use rev_model::Outcome;
-use rev_requests::{ClientStep, KeyCommand, Step};
+use rev_script::steps::get_step;
+use rev_steps::Step;
 use rev_undotree::{PlayFault, Played, Session};
 use std::alloc::{AllocError, Allocator};
 
@@ -120,11 +121,7 @@ fn get_one<A: Allocator + Clone>(
 {
     let start = answer.len();
     put_found(session.store(), &key, with_cas, answer)?;
-    let get = ClientStep::Keyed {
-        command: KeyCommand::Get,
-        key,
-    };
-    let reply = play(session, Step::Client(get))?;
+    let reply = play(session, get_step(key))?;
     if !was_hit(reply) {
         answer.truncate(start);
     }
