@@ -17,7 +17,7 @@ use Rattle.rev_model.specs.declared.Queue.{Queue}
 use Rattle.rev_model.specs.declared.Queue.TheVariants.{Hot, Warm, Cold, Temp}
 use Rattle.rev_model.specs.declared.ClassSet.TheVariants.{These, All}
 use Rattle.rev_script.specs.Number.{number, number_u32, signed, is_digit, has, ids, id_or_0}
-use Rattle.rev_script.specs.Commands.{command, clock_of, storage_of, actor_command, other_command, memory_command, retrieval_command, delete_command, storage_command, storage_line, queue_of, with_queue, crawler_command, slabs_command, reassign_of, lru_command, temp_ttl_of}
+use Rattle.rev_script.specs.Commands.{command, clock_of, verb_of, side_of, actor_command, other_command, memory_command, retrieval_command, delete_command, storage_command, storage_line, queue_of, with_queue, crawler_command, slabs_command, reassign_of, lru_command, temp_ttl_of}
 use Rattle.rev_requests.specs.declared.clients.KeyCommand.TheVariants as keyed
 use Rattle.rev_requests.specs.declared.actors.ActorStep.{ActorStep}
 use Rattle.rev_requests.specs.declared.actors.ActorStep.TheVariants as actors
@@ -58,7 +58,7 @@ clock_row n w h e =
     subst (λ v. IsLine (line_text (codes "@") (v ∷ [])) (ActorLine (actors.Clock n))) (sym e) row
 
 pub get_row : (key : List ℕ) → is_key key ≡ true → IsLine (line_text (codes "get") (key ∷ [])) (RetrievalLine (key ∷ []) false)
-unfolding command other_command storage_of retrieval_command
+unfolding command other_command verb_of side_of retrieval_command
 get_row key h =
     let w = is_word-key key h in
     plain_row (codes "get") (key ∷ []) (Retrieval false) refl (either _ _ w.0 refl)
@@ -66,7 +66,7 @@ get_row key h =
     (rw h refl) refl
 
 pub delete_row : (key : List ℕ) → is_key key ≡ true → IsLine (line_text (codes "delete") (key ∷ [])) (UpdateLine keyed.Delete key false)
-unfolding command other_command storage_of delete_command
+unfolding command other_command verb_of side_of delete_command
 delete_row key h =
     let w = is_word-key key h in
     plain_row (codes "delete") (key ∷ []) (Update keyed.Delete false) refl (either _ _ w.0 refl)
@@ -149,7 +149,7 @@ one_id n h =
     ∙ or_zero_l (2 ^ n)
 
 pub crawl_start_row : (n : ℕ) (w : List ℕ) → n < 64 → w ≡ decimal n → IsLine (line_text (codes "lru_crawler") (codes "crawl" ∷ w ∷ [])) (ActorLine (actors.StartCrawl (These (2 ^ n))))
-unfolding command other_command storage_of memory_command crawler_command
+unfolding command other_command verb_of side_of memory_command crawler_command
 crawl_start_row n w h e =
     let many = digits_not_all (decimal n) (digits_decimal script_numerals n (omega arith)) in
     let row =
@@ -160,7 +160,7 @@ crawl_start_row n w h e =
     subst (λ x. IsLine (line_text (codes "lru_crawler") (codes "crawl" ∷ x ∷ [])) (ActorLine (actors.StartCrawl (These (2 ^ n))))) (sym e) row
 
 pub reassign_row : (n m : ℕ) (w v : List ℕ) → n < 2 ^ 32 → m < 2 ^ 32 → w ≡ decimal n → v ≡ decimal m → IsLine (line_text (codes "slabs") (codes "reassign" ∷ w ∷ v ∷ [])) (ActorLine (actors.Reassign n m))
-unfolding command other_command storage_of memory_command slabs_command
+unfolding command other_command verb_of side_of memory_command slabs_command
 reassign_row n m w v h k e1 e2 =
     let row =
     plain_row (codes "slabs") (codes "reassign" ∷ decimal n ∷ decimal m ∷ []) (Actor (actors.Reassign n m)) refl
@@ -172,7 +172,7 @@ reassign_row n m w v h k e1 e2 =
 
 pub temp_ttl_row : (z : ℤ) (w : List ℕ) → mag z < 2 ^ 31 → w ≡ signed_decimal z →
     IsLine (line_text (codes "lru") (codes "temp_ttl" ∷ w ∷ [])) (ActorLine (actors.TempTtl z))
-unfolding command other_command storage_of memory_command lru_command
+unfolding command other_command verb_of side_of memory_command lru_command
 temp_ttl_row z w h e =
     let s = is_word-signed z h in
     let row =
@@ -184,7 +184,7 @@ temp_ttl_row z w h e =
 -- ---- a store and its data
 
 store_named : (s : Storing) (ws : List (List ℕ)) → command (storage_name s ∷ ws) ≡ storage_command (storage s) (storage_name s ∷ ws)
-unfolding command storage_of
+unfolding command verb_of
 store_named Set ws = refl
 store_named Add ws = refl
 store_named Replace ws = refl

@@ -11,7 +11,9 @@ use Rattle.rev_requests.specs.Limits.{is_tune}
 use Rattle.rev_script.specs.declared.command.BadAnswer.TheVariants.{Error, BadFormat, DeleteUsage, BadExptime, BadDelta, SharesOver80, LineTooLong, BadCommand}
 use Rattle.rev_model.specs.declared.Queue.{Queue}
 use Rattle.rev_model.specs.declared.Queue.TheVariants.{Hot, Warm, Cold, Temp}
+use Rattle.rev_requests.specs.declared.clients.StoreVerb.{StoreVerb}
 use Rattle.rev_requests.specs.declared.clients.StoreVerb.TheVariants as verbs
+use Rattle.rev_requests.specs.declared.clients.JoinSide.{JoinSide}
 use Rattle.rev_requests.specs.declared.clients.JoinSide.TheVariants as sides
 use Rattle.rev_requests.specs.declared.clients.Arithmetic.TheVariants as sums
 use Rattle.rev_requests.specs.declared.clients.KeyCommand.TheVariants as keyed
@@ -30,15 +32,20 @@ use Rattle.rev_script.specs.declared.command.Command.TheVariants.{Storage, Retri
 -- ---- set, add, replace, append, prepend <key> <flags> <exptime> <bytes> [noreply]
 -- ---- cas <key> <flags> <exptime> <bytes> <cas> [noreply]
 
--- the storage command of this name, but for `cas`
-unfoldable pub storage_of : List ℕ → Option StorageCommand
-storage_of w =
-    if bytes_eq w (codes "set") then Some (Store verbs.Set)
-    else (if bytes_eq w (codes "add") then Some (Store verbs.Add)
-    else (if bytes_eq w (codes "replace") then Some (Store verbs.Replace)
-    else (if bytes_eq w (codes "append") then Some (Join sides.Append)
-    else (if bytes_eq w (codes "prepend") then Some (Join sides.Prepend)
-    else None))))
+-- the verb of this name, but for `cas`
+unfoldable pub verb_of : List ℕ → Option StoreVerb
+verb_of w =
+    if bytes_eq w (codes "set") then Some verbs.Set
+    else (if bytes_eq w (codes "add") then Some verbs.Add
+    else (if bytes_eq w (codes "replace") then Some verbs.Replace
+    else None))
+
+-- the side to which a command of this name joins data
+unfoldable pub side_of : List ℕ → Option JoinSide
+side_of w =
+    if bytes_eq w (codes "append") then Some sides.Append
+    else (if bytes_eq w (codes "prepend") then Some sides.Prepend
+    else None)
 
 -- flags, expiry time and bytes, each where its word is such a number
 abbrev pub storage_line : StorageCommand → Option ℕ → Option ℤ → Option ℕ → Bool → Command
@@ -313,15 +320,19 @@ other_command w ws =
     else (if bytes_eq w (codes "decr") then decrement_command ws
     else memory_command w ws))))))
 
-abbrev pub storage_or : Option StorageCommand → List (List ℕ) → Command
-storage_or None ws = other_command (word ws 0) ws
-storage_or (Some c) ws = storage_command c ws
+abbrev pub join_or : Option JoinSide → List (List ℕ) → Command
+join_or None ws = other_command (word ws 0) ws
+join_or (Some side) ws = storage_command (Join side) ws
+
+abbrev pub store_or : Option StoreVerb → List (List ℕ) → Command
+store_or None ws = join_or (side_of (word ws 0)) ws
+store_or (Some verb) ws = storage_command (Store verb) ws
 
 unfoldable pub command : List (List ℕ) → Command
 command ws =
     if begins 58 (word ws 0) then debug_command ws
     else (if begins 64 (word ws 0) || begins 126 (word ws 0) then actor_command ws
-    else storage_or (storage_of (word ws 0)) ws)
+    else store_or (verb_of (word ws 0)) ws)
 
 -- how many bytes such a line may have without its ending
 abbrev pub longest : List (List ℕ) → ℕ

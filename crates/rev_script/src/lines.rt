@@ -53,6 +53,18 @@ fn behind_first<'a, 'b>(words: &'b [&'a [u8]]) -> &'b [&'a [u8]]
     if words.is_empty() { words } else { &words[1..] }
 }
 
+// The keys of a retrieval line.
+#[inline(always)]
+fn retrieval_keys<A: Allocator + Clone>(
+    alloc: A,
+    words: &[&[u8]],
+) -> Result<Vec<Key<A>, A>, AllocError>
+    requires { list_all is_key (drop 1 (map (λ x. x.now) words.now)) ≡ true }
+    ensures { IfOk result (λ keys. keys.items ≡ drop 1 (map (λ x. x.now) words.now)) }
+{
+    keys_of(alloc, behind_first(words))
+}
+
 // A retrieval line. (Like the other kinds of lines with parts of their own it is made in a function of its own: a line is large,
 // and where all kinds were made in one place, each cleared what only the others have.)
 #[inline(always)]
@@ -64,7 +76,7 @@ fn retrieval_line<A: Allocator + Clone>(
     requires { list_all is_key (drop 1 (map (λ x. x.now) words.now)) ≡ true }
     ensures { IfOk result (λ line. (d : Dialect) → view line ≡ line_of d (Retrieval with_cas) (map (λ x. x.now) words.now) []) }
 {
-    let keys = keys_of(alloc, behind_first(words))?;
+    let keys = retrieval_keys(alloc, words)?;
     Ok(Line::Client(ClientLine::Retrieval { keys, with_cas }))
 }
 
@@ -387,11 +399,11 @@ fn line_at_hand<S: Source, A: Allocator + Clone>(
         }
         // (the two kinds that most lines are have ways out of their own, where nothing of another kind is cleared or copied)
         Command::Retrieval { with_cas } => {
-            let line = retrieval_line(alloc, with_cas, parts);
+            let keys = retrieval_keys(alloc, parts);
             input.bytes.pass(i + 1);
-            match line {
+            match keys {
                 Err(_) => Err(LineFault::Memory),
-                Ok(line) => Ok(Some(line)),
+                Ok(keys) => Ok(Some(Line::Client(ClientLine::Retrieval { keys, with_cas }))),
             }
         }
         Command::Update { command, noreply } => {

@@ -3,7 +3,7 @@ use Rattle.std.proofs.lemmas.Int.{to_z-of_z}
 use Rattle.std.specs.Io.BufRead.{strip_last}
 use Rattle.rev_script.specs.Words.{words, word}
 use Rattle.rev_script.specs.Commands.{asked}
-use Rattle.rev_script.specs.Script.{line_of}
+use Rattle.rev_script.specs.Script.{line_of, RetrievalLine}
 use Rattle.rev_script.specs.Line.{view, has_block}
 use Rattle.std.specs.Option.{option_map}
 use Rattle.rev_script.specs.declared.command.Command.TheVariants.{Retrieval, Update}
@@ -41,7 +41,7 @@ returns-clause-ok g c =
     let n : has_block c.asked.result ≡ false = search rules in
     let v : c.asked.result ≡ asked c.body-body.result.now = c.asked.ensures.value in
     rw c.requires.here (next_done c.args.input.now.dialect t c.body-body.result.now is _ (λ f. absurd (cc)) (ap has_block (sym v) ∙ n)
-    (c.in-Ok-line-3.ensures c.args.input.now.dialect ∙ ap (λ l. line_of c.args.input.now.dialect c.asked.result l []) ws ∙ ap (λ a. line_of c.args.input.now.dialect a (words c.body-body.result.now) []) v))
+    (c.in-Ok-line-2.ensures c.args.input.now.dialect ∙ ap (λ l. line_of c.args.input.now.dialect c.asked.result l []) ws ∙ ap (λ a. line_of c.args.input.now.dialect a (words c.body-body.result.now) []) v))
 
 pub returns-in-Retrieval-clause-ok : goal.returns-in-Retrieval-clause-ok
 returns-in-Retrieval-clause-ok g c =
@@ -50,7 +50,7 @@ returns-in-Retrieval-clause-ok g c =
     let ws : map (λ x. x.now) c.as_slice-parts.result.now ≡ words c.body-body.result.now = search rules in
     let v : Retrieval c.in-Retrieval.with_cas ≡ asked c.body-body.result.now = c.in-Retrieval.ensures.value in
     rw c.requires.here (next_done c.args.input.now.dialect t c.body-body.result.now is _ (λ f. absurd (cc)) (ap has_block (sym v))
-    (c.in-Ok-line.ensures c.args.input.now.dialect ∙ ap (λ l. line_of c.args.input.now.dialect (Retrieval c.in-Retrieval.with_cas) l []) ws ∙ ap (λ a. line_of c.args.input.now.dialect a (words c.body-body.result.now) []) v))
+    (ap (λ l. RetrievalLine l c.in-Retrieval.with_cas) c.in-Ok-keys.ensures ∙ ap (λ l. line_of c.args.input.now.dialect (Retrieval c.in-Retrieval.with_cas) l []) ws ∙ ap (λ a. line_of c.args.input.now.dialect a (words c.body-body.result.now) []) v))
 
 pub returns-in-Update-clause-ok : goal.returns-in-Update-clause-ok
 returns-in-Update-clause-ok g c =
@@ -59,4 +59,4 @@ returns-in-Update-clause-ok g c =
     let ws : map (λ x. x.now) c.as_slice-parts.result.now ≡ words c.body-body.result.now = search rules in
     let v : Update c.in-Update.command c.in-Update.noreply ≡ asked c.body-body.result.now = c.in-Update.ensures.value in
     rw c.requires.here (next_done c.args.input.now.dialect t c.body-body.result.now is _ (λ f. absurd (cc)) (ap has_block (sym v))
-    (c.in-Ok-line-2.ensures c.args.input.now.dialect ∙ ap (λ l. line_of c.args.input.now.dialect (Update c.in-Update.command c.in-Update.noreply) l []) ws ∙ ap (λ a. line_of c.args.input.now.dialect a (words c.body-body.result.now) []) v))
+    (c.in-Ok-line.ensures c.args.input.now.dialect ∙ ap (λ l. line_of c.args.input.now.dialect (Update c.in-Update.command c.in-Update.noreply) l []) ws ∙ ap (λ a. line_of c.args.input.now.dialect a (words c.body-body.result.now) []) v))
