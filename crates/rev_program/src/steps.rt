@@ -13,7 +13,7 @@ use rev_script::dialect::Dialect;
 use rev_script::line::{ClientLine, Line};
 use rev_script::lines::Lines;
 use rev_script::source::Source;
-use rev_script::steps::{flush_step, get_step, keyed_step, storage_step};
+use rev_script::steps::{actor_step, flush_step, get_step, keyed_step, storage_step, tune_step};
 use std::alloc::{AllocError, Global};
 use thiserror::Error;
 
@@ -86,8 +86,8 @@ fn add_steps(steps: &mut Vec<Step<Global>>, line: Line<Global>) -> Result<bool, 
 {
     match line {
         Line::Client(line) => add_client(steps, line)?,
-        Line::Actor(step) => add(steps, Step::Actor(step))?,
-        Line::Tune(tune) => add(steps, Step::Tune(tune))?,
+        Line::Actor(step) => add(steps, actor_step(step))?,
+        Line::Tune(tune) => add(steps, tune_step(tune))?,
         Line::Debug(_) | Line::Bad { .. } => return Ok(false),
     }
     Ok(true)

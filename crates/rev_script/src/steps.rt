@@ -1,12 +1,12 @@
-//! The step of a client's command, once its key and its data are there. (Each kind is made in a function of its own: a step is
+//! The step of a line's command, once its key and its data are there. (Each kind is made in a function of its own: a step is
 //! large, and where all kinds were made in one place, each cleared what only the others have.)
 ghost use Rattle.std.specs.Prelude.{◌≡◌};
-ghost use Rattle.rev_requests.specs.Plain.{plain_payload, plain_step};
-ghost use Rattle.rev_script.specs.Steps.{storage_step, keyed_step, get, flush_step};
+ghost use Rattle.rev_requests.specs.Plain.{plain_actor, plain_payload, plain_step};
+ghost use Rattle.rev_script.specs.Steps.{storage_step, keyed_step, get, flush_step, tune_step};
 
 use crate::command::StorageCommand;
 use rev_items::Key;
-use rev_requests::{ClientStep, KeyCommand, Payload, Step};
+use rev_requests::{ActorStep, ClientStep, KeyCommand, Payload, Step, Tune};
 use std::alloc::Allocator;
 
 /// The step of a command that brings data. A join keeps the flags and the moment of the key's item.
@@ -54,4 +54,18 @@ pub fn flush_step<A: Allocator>(delay: i32) -> Step<A>
     ensures { plain_step result ≡ flush_step delay }
 {
     Step::Client(ClientStep::FlushAll { delay })
+}
+
+/// The step of an actor or of the clock.
+pub fn actor_step<A: Allocator>(step: ActorStep) -> Step<A>
+    ensures { plain_step result ≡ plain_actor step }
+{
+    Step::Actor(step)
+}
+
+/// The step that gives the settings.
+pub fn tune_step<A: Allocator>(tune: Tune) -> Step<A>
+    ensures { plain_step result ≡ tune_step tune }
+{
+    Step::Tune(tune)
 }

@@ -13,10 +13,9 @@ use crate::show::{
 use crate::text::{bad_text, put_node, put_output};
 use crate::tree::{put_back, put_forward, put_go, put_prune, put_tree};
 use rev_items::Key;
-use rev_requests::Step;
 use rev_script::command::{BookmarkCommand, DebugCommand, KeyQuery};
 use rev_script::line::{ClientLine, DebugLine, Line};
-use rev_script::steps::{flush_step, keyed_step, storage_step};
+use rev_script::steps::{actor_step, flush_step, keyed_step, storage_step, tune_step};
 use rev_undotree::{NodeId, Session};
 use std::alloc::{AllocError, Allocator};
 
@@ -179,8 +178,8 @@ pub fn put_answer<A: Allocator + Clone>(
 {
     match line {
         Line::Client(line) => put_client(session, line, out),
-        Line::Actor(step) => play_line(session, Step::Actor(step), false, out),
-        Line::Tune(tune) => play_line(session, Step::Tune(tune), false, out),
+        Line::Actor(step) => play_line(session, actor_step(step), false, out),
+        Line::Tune(tune) => play_line(session, tune_step(tune), false, out),
         Line::Debug(line) => put_debug_line(session, bookmarks, line, out),
         Line::Bad { answer: text } => put_output(out, bad_text(text)),
     }
