@@ -8,7 +8,7 @@ use Rattle.std.specs.Io.BufRead.{strip_last, ends_with_byte}
 use Rattle.std.specs.List.{list_all}
 use Rattle.rev_script.specs.declared.dialect.Dialect.TheVariants.{CrLf}
 use Rattle.rev_script.specs.declared.command.Command.{Command}
-use Rattle.rev_script.specs.declared.command.Command.TheVariants.{Storage, Retrieval, Update, FlushAll, Actor, Clock, Debug, Query, Bookmark, Bad}
+use Rattle.rev_script.specs.declared.command.Command.TheVariants.{Storage, Retrieval, Update, FlushAll, Actor, Tune, Debug, Query, Bookmark, Bad}
 use Rattle.rev_script.specs.Words.{words, word}
 use Rattle.rev_script.specs.Commands.{asked, command, longest}
 use Rattle.rev_script.specs.Script.{ScriptLine, block_size, passes, onwards, line_of, cuts}
@@ -47,8 +47,8 @@ never_passes (Storage c flags exptime size noreply) block = refl
 never_passes (Retrieval with_cas) block = refl
 never_passes (Update c noreply) block = refl
 never_passes (FlushAll delay noreply) block = refl
-never_passes (Actor c) block = refl
-never_passes (Clock n) block = refl
+never_passes (Actor a) block = refl
+never_passes (Tune t) block = refl
 never_passes (Debug c) block = refl
 never_passes (Query q) block = refl
 never_passes (Bookmark c) block = refl

@@ -17,10 +17,10 @@ use Rattle.rev_model.specs.declared.Queue.{Queue}
 use Rattle.rev_model.specs.declared.Queue.TheVariants.{Hot, Warm, Cold, Temp}
 use Rattle.rev_model.specs.declared.ClassSet.TheVariants.{These, All}
 use Rattle.rev_script.specs.Number.{number, number_u32, signed, is_digit, has, ids, id_or_0}
-use Rattle.rev_script.specs.Commands.{command, clock_of, storage_of, actor_command, other_command, memory_command, retrieval_command, delete_command, storage_command, storage_line, queue_of, with_queue, crawler_command, slabs_command, reassign_of, lru_command, temp_ttl_of}
-use Rattle.rev_script.specs.declared.command.UpdateCommand.TheVariants as updates
-use Rattle.rev_script.specs.declared.command.ActorCommand.{ActorCommand}
-use Rattle.rev_script.specs.declared.command.ActorCommand.TheVariants as actors
+use Rattle.rev_script.specs.Commands.{command, clock_of, verb_of, side_of, actor_command, other_command, memory_command, retrieval_command, delete_command, storage_command, storage_line, queue_of, with_queue, crawler_command, slabs_command, reassign_of, lru_command, temp_ttl_of}
+use Rattle.rev_requests.specs.declared.clients.KeyCommand.TheVariants as keyed
+use Rattle.rev_requests.specs.declared.actors.ActorStep.{ActorStep}
+use Rattle.rev_requests.specs.declared.actors.ActorStep.TheVariants as actors
 use Rattle.rev_script.proofs.Places.{split_none}
 use Rattle.rev_script.proofs.Front.{take_front, drop_front}
 use Rattle.rev_script.specs.Commands as commands
@@ -31,8 +31,8 @@ use Rattle.rev_model.specs.Client.{Bytes, Skipped}
 use Rattle.rev_import.specs.declared.writing.Storing.{Storing}
 use Rattle.rev_import.specs.declared.writing.Storing.TheVariants.{Set, Add, Replace}
 use Rattle.rev_script.specs.declared.command.Command.{Command}
-use Rattle.rev_script.specs.declared.command.Command.TheVariants.{Clock, Retrieval, Update, Actor, Storage, Bad}
-use Rattle.rev_script.specs.Script.{ScriptLine, ClockLine, RetrievalLine, UpdateLine, ActorLine, StorageLine, BadLine, storage_line_of, payload_of, block_size, line_of}
+use Rattle.rev_script.specs.declared.command.Command.TheVariants.{Retrieval, Update, Actor, Storage, Bad}
+use Rattle.rev_script.specs.Script.{ScriptLine, RetrievalLine, UpdateLine, ActorLine, StorageLine, BadLine, storage_line_of, payload_of, block_size, line_of}
 use Rattle.rev_import.specs.Writing.{Adds, IsLine, is_word, spaced, line_text, queue_name, storage, storage_name}
 use Rattle.rev_import.proofs.Words.{both, either}
 use Rattle.rev_import.proofs.Numerals.{script_numerals, digit_from, number-decimal, number_u32-decimal, signed-signed_decimal, is_word-decimal, is_word-signed, is_word-key}
@@ -48,35 +48,35 @@ plain_row first rest c p q short is none =
 
 -- ---- the clock and the lines of clients
 
-pub clock_row : (n : ℕ) (w : List ℕ) → n < 2 ^ 32 → w ≡ decimal n → IsLine (line_text (codes "@") (w ∷ [])) (ClockLine n)
+pub clock_row : (n : ℕ) (w : List ℕ) → n < 2 ^ 32 → w ≡ decimal n → IsLine (line_text (codes "@") (w ∷ [])) (ActorLine (actors.Clock n))
 unfolding command actor_command
 clock_row n w h e =
     let row =
-    plain_row (codes "@") (decimal n ∷ []) (Clock n) refl (either _ _ (is_word-decimal n (omega arith)) refl)
+    plain_row (codes "@") (decimal n ∷ []) (Actor (actors.Clock n)) refl (either _ _ (is_word-decimal n (omega arith)) refl)
     (omega (arith, length-append (decimal n) [], length-decimal-le 20 n))
     (ap clock_of (number_u32-decimal n h)) refl in
-    subst (λ v. IsLine (line_text (codes "@") (v ∷ [])) (ClockLine n)) (sym e) row
+    subst (λ v. IsLine (line_text (codes "@") (v ∷ [])) (ActorLine (actors.Clock n))) (sym e) row
 
 pub get_row : (key : List ℕ) → is_key key ≡ true → IsLine (line_text (codes "get") (key ∷ [])) (RetrievalLine (key ∷ []) false)
-unfolding command other_command storage_of retrieval_command
+unfolding command other_command verb_of side_of retrieval_command
 get_row key h =
     let w = is_word-key key h in
     plain_row (codes "get") (key ∷ []) (Retrieval false) refl (either _ _ w.0 refl)
     (omega (arith, length-append key [], w.1))
     (rw h refl) refl
 
-pub delete_row : (key : List ℕ) → is_key key ≡ true → IsLine (line_text (codes "delete") (key ∷ [])) (UpdateLine updates.Delete key false)
-unfolding command other_command storage_of delete_command
+pub delete_row : (key : List ℕ) → is_key key ≡ true → IsLine (line_text (codes "delete") (key ∷ [])) (UpdateLine keyed.Delete key false)
+unfolding command other_command verb_of side_of delete_command
 delete_row key h =
     let w = is_word-key key h in
-    plain_row (codes "delete") (key ∷ []) (Update updates.Delete false) refl (either _ _ w.0 refl)
+    plain_row (codes "delete") (key ∷ []) (Update keyed.Delete false) refl (either _ _ w.0 refl)
     (omega (arith, length-append key [], w.1))
     (rw h refl) refl
 
 -- ---- the lines of actors
 
 -- a line without a number
-pub bare_row : (first : List ℕ) (a : ActorCommand) → is_word first ≡ true → length first ≤ 2048 → command (first ∷ []) ≡ Actor a → IsLine (line_text first []) (ActorLine a)
+pub bare_row : (first : List ℕ) (a : ActorStep) → is_word first ≡ true → length first ≤ 2048 → command (first ∷ []) ≡ Actor a → IsLine (line_text first []) (ActorLine a)
 bare_row first a p short is = plain_row first [] (Actor a) p refl (omega (arith, length-append first [])) is refl
 
 pub bump_row : IsLine (line_text (codes "~bump") []) (ActorLine actors.Bump)
@@ -101,7 +101,7 @@ is_word-queue Cold = (refl, inl refl)
 is_word-queue Temp = (refl, inl refl)
 
 -- a command with a class and a queue
-class_row : (first : List ℕ) (f : ℕ → Queue → ActorCommand) (n : ℕ) (q : Queue) (w v : List ℕ) → is_word first ≡ true → length first ≤ 16 → n < 2 ^ 32 →
+class_row : (first : List ℕ) (f : ℕ → Queue → ActorStep) (n : ℕ) (q : Queue) (w v : List ℕ) → is_word first ≡ true → length first ≤ 16 → n < 2 ^ 32 →
     w ≡ decimal n → v ≡ queue_name q →
     command (first ∷ decimal n ∷ queue_name q ∷ []) ≡ with_queue (λ m r. Actor (f m r)) (number_u32 (decimal n)) (queue_of (queue_name q)) →
     IsLine (line_text first (w ∷ v ∷ [])) (ActorLine (f n q))
@@ -149,7 +149,7 @@ one_id n h =
     ∙ or_zero_l (2 ^ n)
 
 pub crawl_start_row : (n : ℕ) (w : List ℕ) → n < 64 → w ≡ decimal n → IsLine (line_text (codes "lru_crawler") (codes "crawl" ∷ w ∷ [])) (ActorLine (actors.StartCrawl (These (2 ^ n))))
-unfolding command other_command storage_of memory_command crawler_command
+unfolding command other_command verb_of side_of memory_command crawler_command
 crawl_start_row n w h e =
     let many = digits_not_all (decimal n) (digits_decimal script_numerals n (omega arith)) in
     let row =
@@ -160,7 +160,7 @@ crawl_start_row n w h e =
     subst (λ x. IsLine (line_text (codes "lru_crawler") (codes "crawl" ∷ x ∷ [])) (ActorLine (actors.StartCrawl (These (2 ^ n))))) (sym e) row
 
 pub reassign_row : (n m : ℕ) (w v : List ℕ) → n < 2 ^ 32 → m < 2 ^ 32 → w ≡ decimal n → v ≡ decimal m → IsLine (line_text (codes "slabs") (codes "reassign" ∷ w ∷ v ∷ [])) (ActorLine (actors.Reassign n m))
-unfolding command other_command storage_of memory_command slabs_command
+unfolding command other_command verb_of side_of memory_command slabs_command
 reassign_row n m w v h k e1 e2 =
     let row =
     plain_row (codes "slabs") (codes "reassign" ∷ decimal n ∷ decimal m ∷ []) (Actor (actors.Reassign n m)) refl
@@ -172,7 +172,7 @@ reassign_row n m w v h k e1 e2 =
 
 pub temp_ttl_row : (z : ℤ) (w : List ℕ) → mag z < 2 ^ 31 → w ≡ signed_decimal z →
     IsLine (line_text (codes "lru") (codes "temp_ttl" ∷ w ∷ [])) (ActorLine (actors.TempTtl z))
-unfolding command other_command storage_of memory_command lru_command
+unfolding command other_command verb_of side_of memory_command lru_command
 temp_ttl_row z w h e =
     let s = is_word-signed z h in
     let row =
@@ -184,7 +184,7 @@ temp_ttl_row z w h e =
 -- ---- a store and its data
 
 store_named : (s : Storing) (ws : List (List ℕ)) → command (storage_name s ∷ ws) ≡ storage_command (storage s) (storage_name s ∷ ws)
-unfolding command storage_of
+unfolding command verb_of
 store_named Set ws = refl
 store_named Add ws = refl
 store_named Replace ws = refl

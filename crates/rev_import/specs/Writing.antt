@@ -5,7 +5,8 @@ use Rattle.std.specs.List.{list_all, concat}
 use Rattle.rev_model.specs.declared.Queue.{Queue}
 use Rattle.rev_model.specs.declared.Queue.TheVariants.{Hot, Warm, Cold, Temp}
 use Rattle.rev_script.specs.declared.command.StorageCommand.{StorageCommand}
-use Rattle.rev_script.specs.declared.command.StorageCommand.TheVariants as storages
+use Rattle.rev_script.specs.declared.command.StorageCommand.TheVariants.{Store}
+use Rattle.rev_requests.specs.declared.clients.StoreVerb.TheVariants as verbs
 use Rattle.rev_script.specs.declared.dialect.Dialect.TheVariants.{CrLf}
 use Rattle.rev_script.specs.Script.{ScriptLine, Cut, cuts}
 use Rattle.rev_import.specs.declared.writing.Storing.{Storing}
@@ -43,9 +44,9 @@ line_text first rest = first ++ spaced rest ++ codes "\r\n"
 
 -- the storage command, and its name
 abbrev pub storage : Storing → StorageCommand
-storage Set = storages.Set
-storage Add = storages.Add
-storage Replace = storages.Replace
+storage Set = Store verbs.Set
+storage Add = Store verbs.Add
+storage Replace = Store verbs.Replace
 
 abbrev pub storage_name : Storing → List ℕ
 storage_name Set = codes "set"

@@ -2,9 +2,9 @@
 ghost use Rattle.std.specs.Prelude.{◌≡◌, ◌++◌, ◌∷◌, [], ◌≤◌, ◌<◌, ◌^◌, length, map, codes, replicate, true, false, OnOk};
 ghost use Rattle.rev_model.specs.Client.{Bytes};
 ghost use Rattle.rev_model.specs.declared.ClassSet.TheVariants.{These};
-ghost use Rattle.rev_script.specs.declared.command.UpdateCommand.TheVariants.{Delete};
-ghost use Rattle.rev_script.specs.declared.command.ActorCommand.TheVariants.{Pull, Bump, Crawl, Advance, StartCrawl, Reassign, TempTtl};
-ghost use Rattle.rev_script.specs.Script.{ClockLine, RetrievalLine, UpdateLine, StorageLine, ActorLine};
+ghost use Rattle.rev_requests.specs.declared.clients.KeyCommand.TheVariants.{Delete};
+ghost use Rattle.rev_requests.specs.declared.actors.ActorStep.TheVariants.{Pull, Bump, Crawl, Advance, StartCrawl, Reassign, Clock, TempTtl};
+ghost use Rattle.rev_script.specs.Script.{RetrievalLine, UpdateLine, StorageLine, ActorLine};
 ghost use Rattle.rev_import.specs.Writing.{Adds, line_text, storage, storage_name, queue_name};
 
 use itoa::Buffer;
@@ -58,7 +58,7 @@ fn put_filler<A: Allocator>(out: &mut Vec<u8, A>, size: u32) -> Result<(), Alloc
 
 /// Sets the clock: `@ NOW`.
 pub fn put_clock<A: Allocator>(out: &mut Vec<u8, A>, now: u32) -> Result<(), AllocError>
-    ensures { OnOk result (Adds out.old.items out.new.items (ClockLine now ∷ [])) }
+    ensures { OnOk result (Adds out.old.items out.new.items (ActorLine (Clock now) ∷ [])) }
 {
     let mut digits = Buffer::new();
     put_words(out, b"@", &[digits.format(now).as_bytes()])

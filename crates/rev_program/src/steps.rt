@@ -13,7 +13,7 @@ use rev_script::dialect::Dialect;
 use rev_script::line::{ClientLine, Line};
 use rev_script::lines::Lines;
 use rev_script::source::Source;
-use rev_shell::asked::{actor_step, clock_step, flush_step, get_step, storage_step, update_step};
+use rev_script::steps::{actor_step, flush_step, get_step, keyed_step, storage_step, tune_step};
 use std::alloc::{AllocError, Global};
 use thiserror::Error;
 
@@ -75,7 +75,7 @@ fn add_client(steps: &mut Vec<Step<Global>>, line: ClientLine<Global>) -> Result
             ..
         } => add(steps, storage_step(command, key, flags, exptime, payload)),
         ClientLine::Retrieval { keys, .. } => add_gets(steps, keys),
-        ClientLine::Update { command, key, .. } => add(steps, update_step(command, key)),
+        ClientLine::Update { command, key, .. } => add(steps, keyed_step(command, key)),
         ClientLine::FlushAll { delay, .. } => add(steps, flush_step(delay)),
     }
 }
@@ -86,8 +86,8 @@ fn add_steps(steps: &mut Vec<Step<Global>>, line: Line<Global>) -> Result<bool, 
 {
     match line {
         Line::Client(line) => add_client(steps, line)?,
-        Line::Actor(command) => add(steps, actor_step(command))?,
-        Line::Clock(now) => add(steps, clock_step(now))?,
+        Line::Actor(step) => add(steps, actor_step(step))?,
+        Line::Tune(tune) => add(steps, tune_step(tune))?,
         Line::Debug(_) | Line::Bad { .. } => return Ok(false),
     }
     Ok(true)

@@ -8,7 +8,7 @@ use Rattle.std.proofs.Common.{take_all}
 use Rattle.std.proofs.lemmas.List.{nil_from_length, drop-append-le}
 use Rattle.std.proofs.lemmas.Bool.{le-leb, lt-leb}
 use Rattle.rev_script.specs.declared.command.Command.{Command}
-use Rattle.rev_script.specs.declared.command.Command.TheVariants.{Storage, Retrieval, Update, FlushAll, Actor, Clock, Debug, Query, Bookmark, Bad}
+use Rattle.rev_script.specs.declared.command.Command.TheVariants.{Storage, Retrieval, Update, FlushAll, Actor, Tune, Debug, Query, Bookmark, Bad}
 use Rattle.rev_script.specs.declared.dialect.Dialect.{Dialect}
 use Rattle.rev_script.specs.declared.dialect.Dialect.TheVariants.{CrLf, AnyFeed}
 use Rattle.rev_script.proofs.Front.{take_front, drop_front}
@@ -111,8 +111,8 @@ block_size-append d (Storage c flags exptime size noreply) block more e = storag
 block_size-append d (Retrieval with_cas) block more e = refl
 block_size-append d (Update c noreply) block more e = refl
 block_size-append d (FlushAll delay noreply) block more e = refl
-block_size-append d (Actor c) block more e = refl
-block_size-append d (Clock n) block more e = refl
+block_size-append d (Actor a) block more e = refl
+block_size-append d (Tune t) block more e = refl
 block_size-append d (Debug c) block more e = refl
 block_size-append d (Query q) block more e = refl
 block_size-append d (Bookmark c) block more e = refl

@@ -14,13 +14,13 @@ use Rattle.rev_script.specs.Words.{words, word}
 use Rattle.rev_script.specs.declared.command.StorageCommand.{StorageCommand}
 use Rattle.std.proofs.Common.{ℤ, ◌||◌, Option, None, Result, Ok, Err, IfOk, IfErr}
 use Rattle.rev_script.specs.Script.{StorageLine, payload_of, has_lf, after_lf, ScriptLine, BadLine, line_of, storage_line_of, is_ending, block_size, is_passed, passes, onwards, cuts, whole_lines, IsWhole, IsLast}
-use Rattle.rev_script.specs.Line.{PlainInput, has_block, IsNext, IsFault, IsStorageLine}
+use Rattle.rev_script.specs.Line.{PlainInput, has_block, IsNext, IsFault, IsStorageLine, IsStorageNext}
 use Rattle.rev_script.specs.declared.dialect.Dialect.{Dialect}
 use Rattle.rev_script.specs.declared.byte_reader.LineFault.{LineFault}
 use Rattle.rev_script.specs.declared.byte_reader.LineFault.TheVariants as faults
 use Rattle.rev_script.specs.declared.raw_line.RawLine.{RawLine}
 use Rattle.rev_script.specs.declared.command.Command.{Command}
-use Rattle.rev_script.specs.declared.command.Command.TheVariants.{Storage, Retrieval, Update, FlushAll, Actor, Clock, Debug, Query, Bookmark, Bad}
+use Rattle.rev_script.specs.declared.command.Command.TheVariants.{Storage, Retrieval, Update, FlushAll, Actor, Tune, Debug, Query, Bookmark, Bad}
 use Rattle.rev_script.specs.declared.command.BadAnswer.TheVariants.{LineTooLong, BadChunk}
 use Rattle.rev_script.proofs.Known.{Took-then, Took-broke}
 use Rattle.rev_script.proofs.Text.{after_lf-append}
@@ -35,8 +35,8 @@ no_block d (Storage c flags exptime size noreply) e = absurd (cc)
 no_block d (Retrieval with_cas) e = (refl, refl)
 no_block d (Update c noreply) e = (refl, refl)
 no_block d (FlushAll delay noreply) e = (refl, refl)
-no_block d (Actor c) e = (refl, refl)
-no_block d (Clock n) e = (refl, refl)
+no_block d (Actor a) e = (refl, refl)
+no_block d (Tune t) e = (refl, refl)
 no_block d (Debug c) e = (refl, refl)
 no_block d (Query q) e = (refl, refl)
 no_block d (Bookmark c) e = (refl, refl)
@@ -134,6 +134,19 @@ next_block {old} {mid} {new} {raw} {kept} {key} {storage} {flags} {exptime} {siz
       ],
     )
 
+-- the same, of the answer of the function that takes the block
+next_stored : {old mid : PlainReader} {raw : RawLine} {kept key : List ℕ} {storage : StorageCommand} {flags : ℕ} {exptime : ℤ} {size : ℕ} {noreply : Bool} (new : PlainInput) (d : Dialect) (line : Option ScriptLine) →
+    (t : IsText old mid raw kept) → raw.feed ≡ true → asked (strip_last 13 t.text) ≡ Storage storage flags exptime size noreply → key ≡ word (words (strip_last 13 t.text)) 1 →
+    IsStorageNext (here d mid) new storage key flags exptime size noreply line → IsNext (here d old) new line
+next_stored new d None t feed c k s = absurd s
+next_stored new d (Some line) t feed c k s = next_block d t feed c k s
+
+pub stored_ok : {A : Type 0} {old mid : PlainReader} {raw : RawLine} {kept key : List ℕ} {storage : StorageCommand} {flags : ℕ} {exptime : ℤ} {size : ℕ} {noreply : Bool} (new : PlainInput) (f : A → Option ScriptLine) (d : Dialect) (r : Result A LineFault) →
+    (t : IsText old mid raw kept) → raw.feed ≡ true → asked (strip_last 13 t.text) ≡ Storage storage flags exptime size noreply → key ≡ word (words (strip_last 13 t.text)) 1 →
+    IfOk r (λ a. IsStorageNext (here d mid) new storage key flags exptime size noreply (f a)) → IfOk r (λ a. IsNext (here d old) new (f a))
+stored_ok new f d (Ok a) t feed c k s = next_stored new d (f a) t feed c k s
+stored_ok new f d (Err e) t feed c k s = tt
+
 -- a storage line that the end cuts off before its LF
 pub storage_line_of-nil : (d : Dialect) (storage : StorageCommand) (key : List ℕ) (flags : ℕ) (exptime : ℤ) (size : ℕ) (noreply : Bool) → storage_line_of d storage key flags exptime size noreply [] ≡ BadLine BadChunk
 storage_line_of-nil d storage key flags exptime size noreply =
@@ -163,6 +176,12 @@ fault_block {old} {mid} {new} {raw} {kept} {storage} {flags} {exptime} {size} {n
     let short : e ≢ faults.Memory → length s.taken < block_size d (asked (strip_last 13 t.text)) s.taken =
     λ other. subst (λ a. length s.taken < block_size d a s.taken) (sym c) (s.short other) in
     (t.text ++ 10 ∷ s.taken, both, (λ other. none_whole d (t.text ++ 10 ∷ s.taken) _ (last_block d t.text s.taken t.no_lf (short other))))
+
+pub stored_err : {A : Type 0} {old mid : PlainReader} {raw : RawLine} {kept : List ℕ} {storage : StorageCommand} {flags : ℕ} {exptime : ℤ} {size : ℕ} {noreply : Bool} (new : PlainReader) (d : Dialect) (r : Result A LineFault) →
+    (t : IsText old mid raw kept) → raw.feed ≡ true → asked (strip_last 13 t.text) ≡ Storage storage flags exptime size noreply →
+    IfErr r (λ e. IsBroken d mid new size e) → IfErr r (λ e. IsFault (here d old) (here d new) e)
+stored_err new d (Ok a) t feed c s = tt
+stored_err new d (Err e) t feed c s = fault_block d t feed c s
 
 -- a fault before any byte of the line
 pub fault_none : {old new : PlainReader} {e : LineFault} (d : Dialect) → Broke old new [] e → IsFault (here d old) (here d new) e

@@ -14,10 +14,15 @@ use Rattle.rev_requests.specs.Limits.{is_tune}
 use Rattle.rev_script.specs.declared.command.BadAnswer.TheVariants.{Error, BadFormat, DeleteUsage, BadExptime, BadDelta, SharesOver80, LineTooLong, BadCommand}
 use Rattle.rev_model.specs.declared.Queue.{Queue}
 use Rattle.rev_model.specs.declared.Queue.TheVariants.{Hot, Warm, Cold, Temp}
+use Rattle.rev_requests.specs.declared.clients.StoreVerb.{StoreVerb}
+use Rattle.rev_requests.specs.declared.clients.StoreVerb.TheVariants as verbs
+use Rattle.rev_requests.specs.declared.clients.JoinSide.{JoinSide}
+use Rattle.rev_requests.specs.declared.clients.JoinSide.TheVariants as sides
+use Rattle.rev_requests.specs.declared.clients.Arithmetic.TheVariants as sums
+use Rattle.rev_requests.specs.declared.clients.KeyCommand.TheVariants as keyed
+use Rattle.rev_requests.specs.declared.actors.ActorStep.TheVariants as actors
 use Rattle.rev_script.specs.declared.command.StorageCommand.{StorageCommand}
-use Rattle.rev_script.specs.declared.command.StorageCommand.TheVariants as storages
-use Rattle.rev_script.specs.declared.command.UpdateCommand.TheVariants as updates
-use Rattle.rev_script.specs.declared.command.ActorCommand.TheVariants as actors
+use Rattle.rev_script.specs.declared.command.StorageCommand.TheVariants.{Store, Join}
 use Rattle.rev_script.specs.declared.command.DebugCommand.{DebugCommand}
 use Rattle.rev_script.specs.declared.command.DebugCommand.TheVariants as debugs
 use Rattle.rev_script.specs.declared.command.KeyQuery.{KeyQuery}
@@ -25,20 +30,25 @@ use Rattle.rev_script.specs.declared.command.KeyQuery.TheVariants as queries
 use Rattle.rev_script.specs.declared.command.BookmarkCommand.{BookmarkCommand}
 use Rattle.rev_script.specs.declared.command.BookmarkCommand.TheVariants as bookmarks
 use Rattle.rev_script.specs.declared.command.Command.{Command}
-use Rattle.rev_script.specs.declared.command.Command.TheVariants.{Storage, Retrieval, Update, FlushAll, Actor, Clock, Debug, Query, Bookmark, Bad}
+use Rattle.rev_script.specs.declared.command.Command.TheVariants.{Storage, Retrieval, Update, FlushAll, Actor, Tune, Debug, Query, Bookmark, Bad}
 
 -- ---- set, add, replace, append, prepend <key> <flags> <exptime> <bytes> [noreply]
 -- ---- cas <key> <flags> <exptime> <bytes> <cas> [noreply]
 
--- the storage command of this name, but for `cas`
-unfoldable pub storage_of : List ℕ → Option StorageCommand
-storage_of w =
-    if bytes_eq w (codes "set") then Some storages.Set
-    else (if bytes_eq w (codes "add") then Some storages.Add
-    else (if bytes_eq w (codes "replace") then Some storages.Replace
-    else (if bytes_eq w (codes "append") then Some storages.Append
-    else (if bytes_eq w (codes "prepend") then Some storages.Prepend
-    else None))))
+-- the verb of this name, but for `cas`
+unfoldable pub verb_of : List ℕ → Option StoreVerb
+verb_of w =
+    if bytes_eq w (codes "set") then Some verbs.Set
+    else (if bytes_eq w (codes "add") then Some verbs.Add
+    else (if bytes_eq w (codes "replace") then Some verbs.Replace
+    else None))
+
+-- the side to which a command of this name joins data
+unfoldable pub side_of : List ℕ → Option JoinSide
+side_of w =
+    if bytes_eq w (codes "append") then Some sides.Append
+    else (if bytes_eq w (codes "prepend") then Some sides.Prepend
+    else None)
 
 -- flags, expiry time and bytes, each where its word is such a number
 abbrev pub storage_line : StorageCommand → Option ℕ → Option ℤ → Option ℕ → Bool → Command
@@ -60,7 +70,7 @@ storage_command c ws = if are_words 5 ws then storage c 5 ws else Bad Error
 -- the unique number of `cas` is looked at first; a bad one is answered as a bad key or any other bad number is
 abbrev pub cas_of : Option ℕ → List (List ℕ) → Command
 cas_of None ws = Bad BadFormat
-cas_of (Some n) ws = storage (storages.Cas n) 6 ws
+cas_of (Some n) ws = storage (Store (verbs.Cas n)) 6 ws
 
 unfoldable pub cas_command : List (List ℕ) → Command
 cas_command ws = if are_words 6 ws then cas_of (number 18446744073709551615 (word ws 5)) ws else Bad Error
@@ -87,7 +97,7 @@ delete_command ws =
     if nat_lt (length ws) 2 || nat_lt 4 (length ws) then Bad Error
     else (if is_delete_tail ws then
     (if is_key (word ws 1) then
-    Update updates.Delete ((length ws == 4) || ((length ws == 3) && bytes_eq (word ws 2) (codes "noreply")))
+    Update keyed.Delete ((length ws == 4) || ((length ws == 3) && bytes_eq (word ws 2) (codes "noreply")))
     else Bad BadFormat)
     else Bad DeleteUsage)
 
@@ -95,7 +105,7 @@ delete_command ws =
 
 abbrev pub touch_of : Option ℤ → Bool → Command
 touch_of None noreply = Bad BadExptime
-touch_of (Some n) noreply = Update (updates.Touch n) noreply
+touch_of (Some n) noreply = Update (keyed.Touch n) noreply
 
 unfoldable pub touch_command : List (List ℕ) → Command
 touch_command ws =
@@ -104,7 +114,7 @@ touch_command ws =
 
 abbrev pub increment_of : Option ℕ → Bool → Command
 increment_of None noreply = Bad BadDelta
-increment_of (Some n) noreply = Update (updates.Increment n) noreply
+increment_of (Some n) noreply = Update (keyed.Count (sums.Increment n)) noreply
 
 unfoldable pub increment_command : List (List ℕ) → Command
 increment_command ws =
@@ -114,7 +124,7 @@ increment_command ws =
 
 abbrev pub decrement_of : Option ℕ → Bool → Command
 decrement_of None noreply = Bad BadDelta
-decrement_of (Some n) noreply = Update (updates.Decrement n) noreply
+decrement_of (Some n) noreply = Update (keyed.Count (sums.Decrement n)) noreply
 
 unfoldable pub decrement_command : List (List ℕ) → Command
 decrement_command ws =
@@ -166,7 +176,7 @@ tune_of hot warm None warm_factor = Bad BadFormat
 tune_of hot warm (Some hot_factor) None = Bad BadFormat
 tune_of hot warm (Some hot_factor) (Some warm_factor) =
     if is_tune hot warm hot_factor warm_factor then
-    Actor (actors.Tune record { hot_share = hot; warm_share = warm; hot_factor = hot_factor; warm_factor = warm_factor })
+    Tune record { hot_share = hot; warm_share = warm; hot_factor = hot_factor; warm_factor = warm_factor }
     else Bad BadFormat
 
 -- two percentages beside two words that have a factor's form; their sum is looked at before the factors' range
@@ -205,7 +215,7 @@ with_queue f (Some n) (Some queue) = f n queue
 
 abbrev pub clock_of : Option ℕ → Command
 clock_of None = Bad BadCommand
-clock_of (Some n) = Clock n
+clock_of (Some n) = Actor (actors.Clock n)
 
 unfoldable pub actor_command : List (List ℕ) → Command
 actor_command ws =
@@ -313,15 +323,19 @@ other_command w ws =
     else (if bytes_eq w (codes "decr") then decrement_command ws
     else memory_command w ws))))))
 
-abbrev pub storage_or : Option StorageCommand → List (List ℕ) → Command
-storage_or None ws = other_command (word ws 0) ws
-storage_or (Some c) ws = storage_command c ws
+abbrev pub join_or : Option JoinSide → List (List ℕ) → Command
+join_or None ws = other_command (word ws 0) ws
+join_or (Some side) ws = storage_command (Join side) ws
+
+abbrev pub store_or : Option StoreVerb → List (List ℕ) → Command
+store_or None ws = join_or (side_of (word ws 0)) ws
+store_or (Some verb) ws = storage_command (Store verb) ws
 
 unfoldable pub command : List (List ℕ) → Command
 command ws =
     if begins 58 (word ws 0) then debug_command ws
     else (if begins 64 (word ws 0) || begins 126 (word ws 0) then actor_command ws
-    else storage_or (storage_of (word ws 0)) ws)
+    else store_or (verb_of (word ws 0)) ws)
 
 -- how many bytes such a line may have without its ending
 abbrev pub longest : List (List ℕ) → ℕ

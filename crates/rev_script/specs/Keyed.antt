@@ -5,7 +5,7 @@ use Rattle.std.specs.List.{list_all}
 use Rattle.rev_items.specs.Keys.{is_key}
 use Rattle.rev_script.specs.Words.{word, is_name}
 use Rattle.rev_script.specs.declared.command.Command.{Command}
-use Rattle.rev_script.specs.declared.command.Command.TheVariants.{Storage, Retrieval, Update, FlushAll, Actor, Clock, Debug, Query, Bookmark, Bad}
+use Rattle.rev_script.specs.declared.command.Command.TheVariants.{Storage, Retrieval, Update, FlushAll, Actor, Tune, Debug, Query, Bookmark, Bad}
 
 -- by the second word, and by all words from there on
 abbrev pub IsKeyed : Command → List ℕ → List (List ℕ) → Type 0
@@ -13,8 +13,8 @@ IsKeyed (Storage c flags exptime size noreply) w ws = is_key w ≡ true
 IsKeyed (Retrieval with_cas) w ws = list_all is_key ws ≡ true
 IsKeyed (Update c noreply) w ws = is_key w ≡ true
 IsKeyed (FlushAll delay noreply) w ws = Unit {0}
-IsKeyed (Actor c) w ws = Unit {0}
-IsKeyed (Clock n) w ws = Unit {0}
+IsKeyed (Actor a) w ws = Unit {0}
+IsKeyed (Tune t) w ws = Unit {0}
 IsKeyed (Debug c) w ws = Unit {0}
 IsKeyed (Query q) w ws = is_key w ≡ true
 IsKeyed (Bookmark c) w ws = is_name w ≡ true

@@ -7,7 +7,7 @@ use Rattle.rev_script.specs.declared.command.StorageCommand.{StorageCommand}
 use Rattle.rev_script.specs.declared.command.Command.{Command}
 use Rattle.rev_script.specs.declared.command.Command.TheVariants as commands
 use Rattle.rev_script.specs.ByteReader.{PlainReader, Took, Broke, AtEnd}
-use Rattle.rev_script.specs.Script.{ScriptLine, StorageLine, RetrievalLine, UpdateLine, FlushLine, ActorLine, ClockLine, DebugLine, QueryLine, BookmarkLine, BadLine, line_of, storage_line_of, ending_size, is_ending, is_passed, onwards, cuts, whole_lines, IsWhole, IsLast}
+use Rattle.rev_script.specs.Script.{ScriptLine, StorageLine, RetrievalLine, UpdateLine, FlushLine, ActorLine, TuneLine, DebugLine, QueryLine, BookmarkLine, BadLine, line_of, storage_line_of, ending_size, is_ending, is_passed, onwards, cuts, whole_lines, IsWhole, IsLast}
 use Rattle.rev_script.specs.declared.dialect.Dialect.{Dialect}
 use Rattle.rev_script.specs.declared.byte_reader.LineFault.{LineFault}
 use Rattle.rev_script.specs.declared.byte_reader.LineFault.TheVariants as faults
@@ -35,8 +35,8 @@ debug_view (debugs.Bookmark c name) = BookmarkLine c name.items
 -- the line as the definitions of a script have it
 abbrev pub view : {A : Type 0} → Line A → ScriptLine
 view (lines.Client line) = client_view line
-view (lines.Actor c) = ActorLine c
-view (lines.Clock n) = ClockLine n
+view (lines.Actor a) = ActorLine a
+view (lines.Tune t) = TuneLine t
 view (lines.Debug line) = debug_view line
 view (lines.Bad answer) = BadLine answer
 
@@ -79,3 +79,8 @@ pub record IsStorageLine (old new : PlainInput)
   pub size_is : (length block ≡ size + ending_size old.dialect (drop size block)) ⊎ ((length block < size + ending_size old.dialect (drop size block)) × AtEnd new.bytes)
   pub line_is : line ≡ storage_line_of old.dialect command key flags exptime size noreply block
   pub passes_is : new.passes ≡ is_passed old.dialect (is_ending old.dialect (drop size block))
+
+-- the same, as the answer of a reader of lines: there is a line
+abbrev pub IsStorageNext : PlainInput → PlainInput → StorageCommand → List ℕ → ℕ → ℤ → ℕ → Bool → Option ScriptLine → Type 0
+IsStorageNext old new command key flags exptime size noreply None = ⊥
+IsStorageNext old new command key flags exptime size noreply (Some line) = IsStorageLine old new command key flags exptime size noreply line

@@ -13,14 +13,15 @@ use Rattle.rev_script.specs.declared.dialect.Dialect.{Dialect}
 use Rattle.rev_script.specs.declared.dialect.Dialect.TheVariants.{CrLf, AnyFeed}
 use Rattle.rev_script.specs.declared.command.BadAnswer.{BadAnswer}
 use Rattle.rev_script.specs.declared.command.BadAnswer.TheVariants.{BadChunk}
+use Rattle.rev_requests.specs.Limits.{PlainTune}
+use Rattle.rev_requests.specs.declared.clients.KeyCommand.{KeyCommand}
+use Rattle.rev_requests.specs.declared.actors.ActorStep.{ActorStep}
 use Rattle.rev_script.specs.declared.command.StorageCommand.{StorageCommand}
-use Rattle.rev_script.specs.declared.command.UpdateCommand.{UpdateCommand}
-use Rattle.rev_script.specs.declared.command.ActorCommand.{ActorCommand}
 use Rattle.rev_script.specs.declared.command.DebugCommand.{DebugCommand}
 use Rattle.rev_script.specs.declared.command.KeyQuery.{KeyQuery}
 use Rattle.rev_script.specs.declared.command.BookmarkCommand.{BookmarkCommand}
 use Rattle.rev_script.specs.declared.command.Command.{Command}
-use Rattle.rev_script.specs.declared.command.Command.TheVariants.{Storage, Retrieval, Update, FlushAll, Actor, Clock, Debug, Query, Bookmark, Bad}
+use Rattle.rev_script.specs.declared.command.Command.TheVariants.{Storage, Retrieval, Update, FlushAll, Actor, Tune, Debug, Query, Bookmark, Bad}
 
 -- ---- lines of bytes
 
@@ -48,11 +49,11 @@ pub data ScriptLine : Type 0 where
   -- keys, and whether their cas numbers are asked for
   RetrievalLine : List (List ℕ) → Bool → ScriptLine
   -- key, noreply
-  UpdateLine : UpdateCommand → List ℕ → Bool → ScriptLine
+  UpdateLine : KeyCommand → List ℕ → Bool → ScriptLine
   -- delay, noreply
   FlushLine : ℤ → Bool → ScriptLine
-  ActorLine : ActorCommand → ScriptLine
-  ClockLine : ℕ → ScriptLine
+  ActorLine : ActorStep → ScriptLine
+  TuneLine : PlainTune → ScriptLine
   DebugLine : DebugCommand → ScriptLine
   -- key
   QueryLine : KeyQuery → List ℕ → ScriptLine
@@ -110,8 +111,8 @@ line_of d (Storage c flags exptime size noreply) ws block =
 line_of d (Retrieval with_cas) ws block = RetrievalLine (drop 1 ws) with_cas
 line_of d (Update c noreply) ws block = UpdateLine c (word ws 1) noreply
 line_of d (FlushAll delay noreply) ws block = FlushLine delay noreply
-line_of d (Actor c) ws block = ActorLine c
-line_of d (Clock n) ws block = ClockLine n
+line_of d (Actor a) ws block = ActorLine a
+line_of d (Tune t) ws block = TuneLine t
 line_of d (Debug c) ws block = DebugLine c
 line_of d (Query q) ws block = QueryLine q (word ws 1)
 line_of d (Bookmark c) ws block = BookmarkLine c (word ws 1)

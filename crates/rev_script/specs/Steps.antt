@@ -2,38 +2,27 @@
 -- Rule of this project: a `get` is a step for each key, and append and prepend use no flags or expiry time of their
 -- line.
 use Rattle.std.specs.Prelude.{◌≡◌, ◌+◌, ℕ, ℤ, List, [], ◌∷◌, ◌++◌, take, map, Option, None, Some, slice_get}
-use Rattle.rev_model.specs.Client.{ClientStep, Payload, Stores, Joins, Deletes, Touches, Gets, Flushes, Counts, Sets, Adds, Replaces, Cases, Appends, Prepends, Increases, Decreases}
-use Rattle.rev_model.specs.Actor.{Step, Client, Clock, Pull, Bump, CrawlStart, Crawl, Schedule, Advance, Tune, TempTtl}
-use Rattle.rev_script.specs.Script.{ScriptLine, StorageLine, RetrievalLine, UpdateLine, FlushLine, ActorLine, ClockLine, DebugLine, QueryLine, BookmarkLine, BadLine}
+use Rattle.rev_model.specs.Client.{ClientStep, Payload, Stores, Joins, Gets, Flushes}
+use Rattle.rev_model.specs.Actor.{Step, Client, Tune}
+use Rattle.rev_requests.specs.Limits.{PlainTune}
+use Rattle.rev_requests.specs.Plain.{plain_verb, plain_side, plain_keyed, plain_actor}
+use Rattle.rev_script.specs.Script.{ScriptLine, StorageLine, RetrievalLine, UpdateLine, FlushLine, ActorLine, TuneLine, DebugLine, QueryLine, BookmarkLine, BadLine}
+use Rattle.rev_requests.specs.declared.clients.KeyCommand.{KeyCommand}
 use Rattle.rev_script.specs.declared.command.StorageCommand.{StorageCommand}
-use Rattle.rev_script.specs.declared.command.StorageCommand.TheVariants as storages
-use Rattle.rev_script.specs.declared.command.UpdateCommand.{UpdateCommand}
-use Rattle.rev_script.specs.declared.command.UpdateCommand.TheVariants as updates
-use Rattle.rev_script.specs.declared.command.ActorCommand.{ActorCommand}
-use Rattle.rev_script.specs.declared.command.ActorCommand.TheVariants as actors
+use Rattle.rev_script.specs.declared.command.StorageCommand.TheVariants.{Store, Join}
 
 -- ---- the step of a command
 
--- `append` and `prepend` keep the item's flags and moment, whatever their line says
-abbrev pub stored : StorageCommand → List ℕ → ℕ → ℤ → Payload → ClientStep
-stored storages.Set k flags exptime payload = Stores Sets k flags exptime payload
-stored storages.Add k flags exptime payload = Stores Adds k flags exptime payload
-stored storages.Replace k flags exptime payload = Stores Replaces k flags exptime payload
-stored storages.Append k flags exptime payload = Joins Appends k payload
-stored storages.Prepend k flags exptime payload = Joins Prepends k payload
-stored (storages.Cas n) k flags exptime payload = Stores (Cases n) k flags exptime payload
+-- a join keeps the item's flags and moment, whatever its line says
+abbrev pub plain_storage : StorageCommand → List ℕ → ℕ → ℤ → Payload → ClientStep
+plain_storage (Store verb) k flags exptime payload = Stores (plain_verb verb) k flags exptime payload
+plain_storage (Join side) k flags exptime payload = Joins (plain_side side) k payload
 
 abbrev pub storage_step : StorageCommand → List ℕ → ℕ → ℤ → Payload → Step
-storage_step c k flags exptime payload = Client (stored c k flags exptime payload)
+storage_step c k flags exptime payload = Client (plain_storage c k flags exptime payload)
 
-abbrev pub updated : UpdateCommand → List ℕ → ClientStep
-updated updates.Delete k = Deletes k
-updated (updates.Touch exptime) k = Touches k exptime
-updated (updates.Increment n) k = Counts Increases k n
-updated (updates.Decrement n) k = Counts Decreases k n
-
-abbrev pub update_step : UpdateCommand → List ℕ → Step
-update_step c k = Client (updated c k)
+abbrev pub keyed_step : KeyCommand → List ℕ → Step
+keyed_step c k = Client (plain_keyed c k)
 
 abbrev pub get : List ℕ → Step
 get k = Client (Gets k)
@@ -42,15 +31,8 @@ get k = Client (Gets k)
 abbrev pub flush_step : ℤ → Step
 flush_step delay = Client (Flushes (Some delay))
 
-abbrev pub actor_step : ActorCommand → Step
-actor_step (actors.Pull c q) = Pull c q
-actor_step actors.Bump = Bump
-actor_step (actors.Crawl c q) = Crawl c q
-actor_step actors.Advance = Advance
-actor_step (actors.StartCrawl set) = CrawlStart set
-actor_step (actors.Reassign source target) = Schedule source target
-actor_step (actors.Tune t) = Tune t.hot_share t.warm_share t.hot_factor t.warm_factor
-actor_step (actors.TempTtl n) = TempTtl n
+abbrev pub tune_step : PlainTune → Step
+tune_step t = Tune t.hot_share t.warm_share t.hot_factor t.warm_factor
 
 -- ---- the steps of lines
 
@@ -58,10 +40,10 @@ actor_step (actors.TempTtl n) = TempTtl n
 abbrev pub steps_of : ScriptLine → Option (List Step)
 steps_of (StorageLine c key flags exptime payload noreply) = Some (storage_step c key flags exptime payload ∷ [])
 steps_of (RetrievalLine keys with_cas) = Some (map get keys)
-steps_of (UpdateLine c key noreply) = Some (update_step c key ∷ [])
+steps_of (UpdateLine c key noreply) = Some (keyed_step c key ∷ [])
 steps_of (FlushLine delay noreply) = Some (flush_step delay ∷ [])
-steps_of (ActorLine c) = Some (actor_step c ∷ [])
-steps_of (ClockLine n) = Some (Clock n ∷ [])
+steps_of (ActorLine a) = Some (plain_actor a ∷ [])
+steps_of (TuneLine t) = Some (tune_step t ∷ [])
 steps_of (DebugLine c) = None
 steps_of (QueryLine q key) = None
 steps_of (BookmarkLine c name) = None

@@ -3,11 +3,11 @@ ghost use Rattle.std.specs.Prelude.{◌≡◌, map};
 ghost use Rattle.rev_script.specs.Commands.{crawler_command, slabs_command, tune_command, lru_command, queue_of, actor_command};
 ghost use Rattle.rev_script.specs.Keyed.{HasKeys};
 
-use crate::command::{ActorCommand, BadAnswer, Command};
+use crate::command::{BadAnswer, Command};
 use crate::number::{factor, ids, is_factor, number_u32, signed};
 use crate::words::{is_word, word};
 use rev_model::{ClassSet, Queue};
-use rev_requests::Tune;
+use rev_requests::{ActorStep, Tune};
 
 #[tactic(auto, unfolding(crate::specs::Commands::crawler_command))]
 pub fn crawler_command(words: &[&[u8]]) -> Command
@@ -16,9 +16,9 @@ pub fn crawler_command(words: &[&[u8]]) -> Command
 {
     if words.len() == 3 && is_word(word(words, 1), b"crawl") {
         if is_word(word(words, 2), b"all") {
-            Command::Actor(ActorCommand::StartCrawl(ClassSet::All))
+            Command::Actor(ActorStep::StartCrawl(ClassSet::All))
         } else {
-            Command::Actor(ActorCommand::StartCrawl(ClassSet::These(ids(word(words, 2)))))
+            Command::Actor(ActorStep::StartCrawl(ClassSet::These(ids(word(words, 2)))))
         }
     } else {
         Command::Bad(BadAnswer::Error)
@@ -37,7 +37,7 @@ pub fn slabs_command(words: &[&[u8]]) -> Command
         let Some(target) = number_u32(word(words, 3)) else {
             return Command::Bad(BadAnswer::BadFormat);
         };
-        Command::Actor(ActorCommand::Reassign { source, target })
+        Command::Actor(ActorStep::Reassign { source, target })
     } else {
         Command::Bad(BadAnswer::Error)
     }
@@ -67,7 +67,7 @@ fn tune_command(words: &[&[u8]]) -> Command
         return Command::Bad(BadAnswer::BadFormat);
     };
     match Tune::new(hot_share, warm_share, hot_factor, warm_factor) {
-        Ok(tune) => Command::Actor(ActorCommand::Tune(tune)),
+        Ok(tune) => Command::Tune(tune),
         Err(_) => Command::Bad(BadAnswer::BadFormat),
     }
 }
@@ -82,7 +82,7 @@ pub fn lru_command(words: &[&[u8]]) -> Command
         let Some(ttl) = signed(word(words, 2)) else {
             return Command::Bad(BadAnswer::BadFormat);
         };
-        return Command::Actor(ActorCommand::TempTtl(ttl));
+        return Command::Actor(ActorStep::TempTtl(ttl));
     }
     if words.len() == 6 && is_word(word(words, 1), b"tune") {
         tune_command(words)
@@ -117,10 +117,10 @@ pub fn actor_command(words: &[&[u8]]) -> Command
 {
     let name = word(words, 0);
     if words.len() == 1 && is_word(name, b"~bump") {
-        return Command::Actor(ActorCommand::Bump);
+        return Command::Actor(ActorStep::Bump);
     }
     if words.len() == 1 && is_word(name, b"~move") {
-        return Command::Actor(ActorCommand::Advance);
+        return Command::Actor(ActorStep::Advance);
     }
     if words.len() == 3 && is_word(name, b"~pull") {
         let Some(class) = number_u32(word(words, 1)) else {
@@ -129,7 +129,7 @@ pub fn actor_command(words: &[&[u8]]) -> Command
         let Some(queue) = queue_of(word(words, 2)) else {
             return Command::Bad(BadAnswer::BadCommand);
         };
-        return Command::Actor(ActorCommand::Pull { class, queue });
+        return Command::Actor(ActorStep::Pull { class, queue });
     }
     if words.len() == 3 && is_word(name, b"~crawl") {
         let Some(class) = number_u32(word(words, 1)) else {
@@ -138,13 +138,13 @@ pub fn actor_command(words: &[&[u8]]) -> Command
         let Some(queue) = queue_of(word(words, 2)) else {
             return Command::Bad(BadAnswer::BadCommand);
         };
-        return Command::Actor(ActorCommand::Crawl { class, queue });
+        return Command::Actor(ActorStep::Crawl { class, queue });
     }
     if words.len() == 2 && is_word(name, b"@") {
         let Some(now) = number_u32(word(words, 1)) else {
             return Command::Bad(BadAnswer::BadCommand);
         };
-        return Command::Clock(now);
+        return Command::Actor(ActorStep::Clock(now));
     }
     Command::Bad(BadAnswer::BadCommand)
 }

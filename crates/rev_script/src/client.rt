@@ -1,28 +1,40 @@
 //! The commands of clients.
 ghost use Rattle.std.specs.Prelude.{◌≡◌, map, ◌<◌};
-ghost use Rattle.rev_script.specs.Commands.{storage_of, storage, storage_command, cas_command, retrieval_command, delete_command, touch_command, increment_command, decrement_command, flush_command};
+ghost use Rattle.rev_script.specs.Commands.{verb_of, side_of, storage, storage_command, cas_command, retrieval_command, delete_command, touch_command, increment_command, decrement_command, flush_command};
 ghost use Rattle.rev_script.specs.Keyed.{HasKeys};
+ghost use Rattle.rev_script.specs.declared.command.StorageCommand.TheVariants.{Store, Join};
 
-use crate::command::{BadAnswer, Command, StorageCommand, UpdateCommand};
+use crate::command::{BadAnswer, Command, StorageCommand};
 use crate::keys::is_key;
 use crate::number::{number, number_u32, signed};
 use crate::words::{are_keys, are_words, is_word, word};
+use rev_requests::{Arithmetic, JoinSide, KeyCommand, StoreVerb};
 
-/// The storage command of this name, but for `cas`.
-#[tactic(auto, unfolding(crate::specs::Commands::storage_of))]
-pub fn storage_of(w: &[u8]) -> Option<StorageCommand>
-    ensures { result ≡ storage_of w.now }
+/// The verb of this name, but for `cas`.
+#[tactic(auto, unfolding(crate::specs::Commands::verb_of))]
+pub fn verb_of(w: &[u8]) -> Option<StoreVerb>
+    ensures { result ≡ verb_of w.now }
 {
     if is_word(w, b"set") {
-        Some(StorageCommand::Set)
+        Some(StoreVerb::Set)
     } else if is_word(w, b"add") {
-        Some(StorageCommand::Add)
+        Some(StoreVerb::Add)
     } else if is_word(w, b"replace") {
-        Some(StorageCommand::Replace)
-    } else if is_word(w, b"append") {
-        Some(StorageCommand::Append)
+        Some(StoreVerb::Replace)
+    } else {
+        None
+    }
+}
+
+/// The side to which a command of this name joins data.
+#[tactic(auto, unfolding(crate::specs::Commands::side_of))]
+pub fn side_of(w: &[u8]) -> Option<JoinSide>
+    ensures { result ≡ side_of w.now }
+{
+    if is_word(w, b"append") {
+        Some(JoinSide::Append)
     } else if is_word(w, b"prepend") {
-        Some(StorageCommand::Prepend)
+        Some(JoinSide::Prepend)
     } else {
         None
     }
@@ -57,13 +69,27 @@ fn storage(command: StorageCommand, n: usize, words: &[&[u8]]) -> Command
     }
 }
 
+/// `set`, `add` and `replace`.
 #[tactic(auto, unfolding(crate::specs::Commands::storage_command))]
-pub fn storage_command(command: StorageCommand, words: &[&[u8]]) -> Command
-    ensures value { result ≡ storage_command command (map (λ x. x.now) words.now) }
+pub fn store_command(verb: StoreVerb, words: &[&[u8]]) -> Command
+    ensures value { result ≡ storage_command (Store verb) (map (λ x. x.now) words.now) }
     ensures keyed { HasKeys result (map (λ x. x.now) words.now) }
 {
     if are_words(5, words) {
-        storage(command, 5, words)
+        storage(StorageCommand::Store(verb), 5, words)
+    } else {
+        Command::Bad(BadAnswer::Error)
+    }
+}
+
+/// `append` and `prepend`.
+#[tactic(auto, unfolding(crate::specs::Commands::storage_command))]
+pub fn join_command(side: JoinSide, words: &[&[u8]]) -> Command
+    ensures value { result ≡ storage_command (Join side) (map (λ x. x.now) words.now) }
+    ensures keyed { HasKeys result (map (λ x. x.now) words.now) }
+{
+    if are_words(5, words) {
+        storage(StorageCommand::Join(side), 5, words)
     } else {
         Command::Bad(BadAnswer::Error)
     }
@@ -80,7 +106,7 @@ pub fn cas_command(words: &[&[u8]]) -> Command
     let Some(cas) = number(word(words, 5), 18446744073709551615) else {
         return Command::Bad(BadAnswer::BadFormat);
     };
-    storage(StorageCommand::Cas(cas), 6, words)
+    storage(StorageCommand::Store(StoreVerb::Cas(cas)), 6, words)
 }
 
 /// `get` and `gets`.
@@ -120,7 +146,7 @@ pub fn delete_command(words: &[&[u8]]) -> Command
         return Command::Bad(BadAnswer::BadFormat);
     }
     Command::Update {
-        command: UpdateCommand::Delete,
+        command: KeyCommand::Delete,
         noreply: n == 4 || (n == 3 && quiet),
     }
 }
@@ -140,7 +166,7 @@ pub fn touch_command(words: &[&[u8]]) -> Command
         return Command::Bad(BadAnswer::BadExptime);
     };
     Command::Update {
-        command: UpdateCommand::Touch(exptime),
+        command: KeyCommand::Touch(exptime),
         noreply: words.len() == 4,
     }
 }
@@ -160,7 +186,7 @@ pub fn increment_command(words: &[&[u8]]) -> Command
         return Command::Bad(BadAnswer::BadDelta);
     };
     Command::Update {
-        command: UpdateCommand::Increment(delta),
+        command: KeyCommand::Count(Arithmetic::Increment(delta)),
         noreply: words.len() == 4,
     }
 }
@@ -180,7 +206,7 @@ pub fn decrement_command(words: &[&[u8]]) -> Command
         return Command::Bad(BadAnswer::BadDelta);
     };
     Command::Update {
-        command: UpdateCommand::Decrement(delta),
+        command: KeyCommand::Count(Arithmetic::Decrement(delta)),
         noreply: words.len() == 4,
     }
 }

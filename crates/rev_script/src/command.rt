@@ -2,8 +2,8 @@
 //!
 //! These types hold no text: a key or a name is always the word behind the command's own word.
 
-use rev_model::{ClassSet, Queue};
-use rev_requests::Tune;
+use rev_model::Queue;
+use rev_requests::{ActorStep, JoinSide, KeyCommand, StoreVerb, Tune};
 
 /// How a malformed line is answered. The line makes no step.
 #[derive(Clone, Copy)]
@@ -28,42 +28,13 @@ pub enum BadAnswer {
     BadCommand,
 }
 
-/// A storage command of protocol.txt; `cas` with its unique number.
+/// A command on one key that brings data (protocol.txt's storage commands).
 #[derive(Clone, Copy)]
 pub enum StorageCommand {
-    Set,
-    Add,
-    Replace,
-    Append,
-    Prepend,
-    Cas(u64),
-}
-
-/// A client's command that changes one stored item and has no data block.
-#[derive(Clone, Copy)]
-pub enum UpdateCommand {
-    Delete,
-    /// With the expiry time.
-    Touch(i32),
-    /// With what is added.
-    Increment(u64),
-    /// With what is taken off.
-    Decrement(u64),
-}
-
-/// A command to the background actors: the maintainer, the crawler and the page mover.
-#[derive(Clone, Copy)]
-pub enum ActorCommand {
-    Pull { class: u32, queue: Queue },
-    Bump,
-    Crawl { class: u32, queue: Queue },
-    Advance,
-    StartCrawl(ClassSet),
-    Reassign { source: u32, target: u32 },
-    /// With the shares of HOT and WARM and their age factors.
-    Tune(Tune),
-    /// In seconds; negative disables TEMP.
-    TempTtl(i32),
+    /// An item is made of the data.
+    Store(StoreVerb),
+    /// The data are joined to those of the key's item.
+    Join(JoinSide),
 }
 
 /// A debug command that names no key and no bookmark. Like each debug command it makes no step.
@@ -116,9 +87,9 @@ pub enum Command {
     Retrieval {
         with_cas: bool,
     },
-    /// The second word is the key.
+    /// The second word is the key. (`get` is a kind of its own, as it may have several.)
     Update {
-        command: UpdateCommand,
+        command: KeyCommand,
         noreply: bool,
     },
     /// With the delay in seconds; 0 where the line has none.
@@ -126,9 +97,8 @@ pub enum Command {
         delay: i32,
         noreply: bool,
     },
-    Actor(ActorCommand),
-    /// With the time that the clock is set to.
-    Clock(u32),
+    Actor(ActorStep),
+    Tune(Tune),
     Debug(DebugCommand),
     /// The second word is the key.
     Query(KeyQuery),

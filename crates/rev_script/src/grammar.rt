@@ -7,8 +7,8 @@ ghost use Rattle.rev_script.specs.Keyed.{HasKeys};
 
 use crate::actor::{actor_command, crawler_command, lru_command, slabs_command};
 use crate::client::{
-    cas_command, decrement_command, delete_command, flush_command, increment_command,
-    retrieval_command, storage_command, storage_of, touch_command,
+    cas_command, decrement_command, delete_command, flush_command, increment_command, join_command,
+    retrieval_command, side_of, store_command, touch_command, verb_of,
 };
 use crate::command::{BadAnswer, Command};
 use crate::debug::debug_command;
@@ -104,8 +104,11 @@ fn any_command(words: &[&[u8]]) -> Command
     if begins(b'@', name) || begins(b'~', name) {
         return actor_command(words);
     }
-    match storage_of(name) {
-        Some(command) => storage_command(command, words),
+    if let Some(verb) = verb_of(name) {
+        return store_command(verb, words);
+    }
+    match side_of(name) {
+        Some(side) => join_command(side, words),
         None => other_command(name, words),
     }
 }

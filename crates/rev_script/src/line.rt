@@ -1,10 +1,8 @@
 //! A line of a script, with all that belongs to it.
 
-use crate::command::{
-    ActorCommand, BadAnswer, BookmarkCommand, DebugCommand, KeyQuery, StorageCommand, UpdateCommand,
-};
+use crate::command::{BadAnswer, BookmarkCommand, DebugCommand, KeyQuery, StorageCommand};
 use rev_items::Key;
-use rev_requests::Payload;
+use rev_requests::{ActorStep, KeyCommand, Payload, Tune};
 use std::alloc::Allocator;
 
 /// A line of a client.
@@ -24,7 +22,7 @@ pub enum ClientLine<A: Allocator> {
         with_cas: bool,
     },
     Update {
-        command: UpdateCommand,
+        command: KeyCommand,
         key: Key<A>,
         noreply: bool,
     },
@@ -53,9 +51,8 @@ pub enum DebugLine<A: Allocator> {
 #[derive(Drop)]
 pub enum Line<A: Allocator> {
     Client(ClientLine<A>),
-    Actor(ActorCommand),
-    /// With the time that the clock is set to.
-    Clock(u32),
+    Actor(ActorStep),
+    Tune(Tune),
     Debug(DebugLine<A>),
     /// A malformed line, which makes no step.
     Bad { answer: BadAnswer },

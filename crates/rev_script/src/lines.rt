@@ -13,15 +13,13 @@ ghost use Rattle.rev_script.specs.declared.dialect.Dialect.TheVariants.{CrLf};
 ghost use Rattle.rev_script.specs.Keyed.{HasKeys};
 ghost use Rattle.rev_script.specs.Words.{words, word};
 ghost use Rattle.rev_script.specs.Script.{line_of, has_lf};
-ghost use Rattle.rev_script.specs.Line.{view, IsAsked, IsNext, IsFault, IsStorageLine};
+ghost use Rattle.rev_script.specs.Line.{view, IsAsked, IsNext, IsFault, IsStorageNext};
 ghost use Rattle.rev_script.specs.Input.{input_of};
 ghost use Rattle.rev_script.specs.ByteReader.{Took, Broke, IsEnded, front};
 ghost use Rattle.rev_script.specs.DataBlock.{IsBroken};
 
 use crate::byte_reader::{ByteReader, LineFault};
-use crate::command::{
-    BadAnswer, BookmarkCommand, Command, KeyQuery, StorageCommand, UpdateCommand,
-};
+use crate::command::{BadAnswer, BookmarkCommand, Command, KeyQuery, StorageCommand};
 use crate::data_block::{MOST_DATA, take_block};
 use crate::dialect::Dialect;
 use crate::grammar::{asked, body};
@@ -32,7 +30,7 @@ use crate::source::Source;
 use crate::words::{few_words, few_words_in, word, words};
 use arrayvec::ArrayVec;
 use rev_items::{Filler, Key};
-use rev_requests::Payload;
+use rev_requests::{KeyCommand, Payload};
 use std::alloc::{AllocError, Allocator};
 use std::marker::Model;
 
@@ -55,6 +53,18 @@ fn behind_first<'a, 'b>(words: &'b [&'a [u8]]) -> &'b [&'a [u8]]
     if words.is_empty() { words } else { &words[1..] }
 }
 
+// The keys of a retrieval line.
+#[inline(always)]
+fn retrieval_keys<A: Allocator + Clone>(
+    alloc: A,
+    words: &[&[u8]],
+) -> Result<Vec<Key<A>, A>, AllocError>
+    requires { list_all is_key (drop 1 (map (λ x. x.now) words.now)) ≡ true }
+    ensures { IfOk result (λ keys. keys.items ≡ drop 1 (map (λ x. x.now) words.now)) }
+{
+    keys_of(alloc, behind_first(words))
+}
+
 // A retrieval line. (Like the other kinds of lines with parts of their own it is made in a function of its own: a line is large,
 // and where all kinds were made in one place, each cleared what only the others have.)
 #[inline(always)]
@@ -66,14 +76,14 @@ fn retrieval_line<A: Allocator + Clone>(
     requires { list_all is_key (drop 1 (map (λ x. x.now) words.now)) ≡ true }
     ensures { IfOk result (λ line. (d : Dialect) → view line ≡ line_of d (Retrieval with_cas) (map (λ x. x.now) words.now) []) }
 {
-    let keys = keys_of(alloc, behind_first(words))?;
+    let keys = retrieval_keys(alloc, words)?;
     Ok(Line::Client(ClientLine::Retrieval { keys, with_cas }))
 }
 
 #[inline(always)]
 fn update_line<A: Allocator>(
     alloc: A,
-    command: UpdateCommand,
+    command: KeyCommand,
     noreply: bool,
     words: &[&[u8]],
 ) -> Result<Line<A>, AllocError>
@@ -133,8 +143,8 @@ fn plain_line<A: Allocator + Clone>(
             delay,
             noreply,
         })),
-        Command::Actor(command) => Ok(Line::Actor(command)),
-        Command::Clock(now) => Ok(Line::Clock(now)),
+        Command::Actor(step) => Ok(Line::Actor(step)),
+        Command::Tune(tune) => Ok(Line::Tune(tune)),
         Command::Debug(command) => Ok(Line::Debug(DebugLine::Plain(command))),
         Command::Query(query) => query_line(alloc, query, words),
         Command::Bookmark(command) => bookmark_line(alloc, command, words),
@@ -228,9 +238,9 @@ fn storage_line<S: Source, A: Allocator + Clone>(
     exptime: i32,
     size: u32,
     noreply: bool,
-) -> Result<Line<A>, LineFault>
+) -> Result<Option<Line<A>>, LineFault>
     requires { input.old.passes ≡ false }
-    ensures ok { IfOk result (λ line. IsStorageLine (input_of input.old) (input_of input.new) command key flags exptime size noreply (view line)) }
+    ensures ok { IfOk result (λ line. IsStorageNext (input_of input.old) (input_of input.new) command key flags exptime size noreply (option_map view line)) }
     ensures err { IfErr result (λ e. IsBroken input.old.dialect input.old.bytes input.new.bytes size e) }
 {
     let mut kept = Vec::new(alloc);
@@ -240,22 +250,22 @@ fn storage_line<S: Source, A: Allocator + Clone>(
     };
     if !sound {
         input.passes = input.dialect.passes_bad_lines();
-        return Ok(Line::Bad {
+        return Ok(Some(Line::Bad {
             answer: BadAnswer::BadChunk,
-        });
+        }));
     }
     let payload = match payload_of(&mut input.filler, size, kept) {
         Err(_) => return Err(LineFault::Memory),
         Ok(payload) => payload,
     };
-    Ok(Line::Client(ClientLine::Storage {
+    Ok(Some(Line::Client(ClientLine::Storage {
         command,
         key,
         flags,
         exptime,
         payload,
         noreply,
-    }))
+    })))
 }
 
 fn two_handles<A: Allocator + Clone>(text: &Vec<u8, A>) -> Result<(A, A), AllocError> {
@@ -307,10 +317,7 @@ fn copied_line<S: Source, A: Allocator + Clone>(
                     answer: BadAnswer::BadChunk,
                 }));
             }
-            match storage_line(input, other, command, key, flags, exptime, size, noreply) {
-                Err(e) => Err(e),
-                Ok(line) => Ok(Some(line)),
-            }
+            storage_line(input, other, command, key, flags, exptime, size, noreply)
         }
     }
 }
@@ -346,10 +353,7 @@ fn many_at_hand<S: Source, A: Allocator + Clone>(
             exptime,
             size,
             noreply,
-        } => match storage_line(input, other, command, key, flags, exptime, size, noreply) {
-            Err(e) => Err(e),
-            Ok(line) => Ok(Some(line)),
-        },
+        } => storage_line(input, other, command, key, flags, exptime, size, noreply),
     }
 }
 
@@ -391,18 +395,15 @@ fn line_at_hand<S: Source, A: Allocator + Clone>(
                 Err(_) => return Err(LineFault::Memory),
                 Ok(key) => key,
             };
-            match storage_line(input, other, command, key, flags, exptime, size, noreply) {
-                Err(e) => Err(e),
-                Ok(line) => Ok(Some(line)),
-            }
+            storage_line(input, other, command, key, flags, exptime, size, noreply)
         }
         // (the two kinds that most lines are have ways out of their own, where nothing of another kind is cleared or copied)
         Command::Retrieval { with_cas } => {
-            let line = retrieval_line(alloc, with_cas, parts);
+            let keys = retrieval_keys(alloc, parts);
             input.bytes.pass(i + 1);
-            match line {
+            match keys {
                 Err(_) => Err(LineFault::Memory),
-                Ok(line) => Ok(Some(line)),
+                Ok(keys) => Ok(Some(Line::Client(ClientLine::Retrieval { keys, with_cas }))),
             }
         }
         Command::Update { command, noreply } => {

@@ -7,7 +7,7 @@ ghost use Rattle.rev_script.specs.Words.{words, word, word_or_none, is_name, are
 ghost use Rattle.rev_items.specs.Keys.{is_key};
 
 use crate::keys::is_key;
-use crate::marks::{MARKED, first_mark, spaces, without};
+use crate::mask::{MASK_BYTES, first_place, space_mask, without};
 use arrayvec::ArrayVec;
 use std::alloc::{AllocError, Allocator};
 
@@ -49,18 +49,18 @@ fn keep_word<'a>(few: &mut ArrayVec<&'a [u8], USUAL_WORDS>, word: &'a [u8]) -> b
     }
 }
 
-// Splits a text as `few_words` does, where its spaces are marked: from one mark to the next no byte is looked at.
+// Splits a text as `few_words` does, by the mask of its spaces: from one of them to the next no byte is looked at.
 #[inline(always)]
-fn few_words_by<'a>(few: &mut ArrayVec<&'a [u8], USUAL_WORDS>, text: &'a [u8], spaces: u64) -> bool
+fn few_words_by<'a>(few: &mut ArrayVec<&'a [u8], USUAL_WORDS>, text: &'a [u8], mask: u64) -> bool
     requires empty { few.old.items ≡ [] }
-    requires short { length text.now ≤ MARKED }
-    requires marks { (k : ℕ) → k < length text.now → ((bit_at spaces k ≡ 1) ↔ (get_or text.now k 0 ≡ 32)) }
+    requires short { length text.now ≤ MASK_BYTES }
+    requires tells { (k : ℕ) → k < length text.now → ((bit_at mask k ≡ 1) ↔ (get_or text.now k 0 ≡ 32)) }
     ensures { IsTrue result → map (λ x. x.now) few.new.items ≡ words text.now }
 {
     let mut from = 0usize;
-    let mut left = spaces;
+    let mut left = mask;
     'words: loop {
-        let end = first_mark(left, text.len());
+        let end = first_place(left, text.len());
         if !keep_word(few, &text[from..end]) {
             return false;
         }
@@ -84,8 +84,8 @@ pub fn few_words_in<'a>(
     requires begins { text.now ≡ take (length text.now) front.now }
     ensures { IsTrue result → map (λ x. x.now) few.new.items ≡ words text.now }
 {
-    if text.len() <= MARKED && MARKED <= front.len() {
-        return few_words_by(few, text, spaces(front));
+    if text.len() <= MASK_BYTES && MASK_BYTES <= front.len() {
+        return few_words_by(few, text, space_mask(front));
     }
     few_words(few, text)
 }

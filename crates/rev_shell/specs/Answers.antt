@@ -4,7 +4,7 @@
 use Rattle.std.specs.Prelude.{ℕ, ℤ, ◌+◌, ◌++◌, Bool, true, false, cond, not, ◌&&◌, nat_eq, nat_lt, List, [], ◌∷◌, length, Option, None, Some, codes}
 use Rattle.rev_model.specs.State.{State, free_of, queue_of, find}
 use Rattle.rev_model.specs.Move.{is_class}
-use Rattle.rev_model.specs.Actor.{Step, Clock}
+use Rattle.rev_model.specs.Actor.{Step}
 use Rattle.rev_model.specs.declared.Outcome.{Outcome}
 use Rattle.rev_model.specs.declared.Outcome.TheVariants as outcomes
 use Rattle.rev_undotree.specs.Steps.{outcome_of}
@@ -17,11 +17,12 @@ use Rattle.rev_script.specs.declared.command.KeyQuery.{KeyQuery}
 use Rattle.rev_script.specs.declared.command.KeyQuery.TheVariants as queries
 use Rattle.rev_script.specs.declared.command.BookmarkCommand.{BookmarkCommand}
 use Rattle.rev_script.specs.declared.command.BookmarkCommand.TheVariants as bookmarks
-use Rattle.rev_script.specs.Script.{ScriptLine, StorageLine, RetrievalLine, UpdateLine, FlushLine, ActorLine, ClockLine, DebugLine, QueryLine, BookmarkLine, BadLine}
+use Rattle.rev_script.specs.Script.{ScriptLine, StorageLine, RetrievalLine, UpdateLine, FlushLine, ActorLine, TuneLine, DebugLine, QueryLine, BookmarkLine, BadLine}
 use Rattle.rev_shell.specs.Texts.{output, bad_text, outcome_text, found_value, item_of, found_text, place_text, entries_text, chunks_text, pages_text, counters_text, globals_text, node_text, parent_text}
 use Rattle.rev_shell.specs.Trees.{gone_to, child_at, child_text, go_text, gone, prune_text, after_prune, tree_text}
 use Rattle.rev_shell.specs.Bookmarks.{marked, with_mark, mark_text, marks_text, goto_text, gone_by}
-use Rattle.rev_script.specs.Steps.{storage_step, update_step, flush_step, actor_step, get}
+use Rattle.rev_requests.specs.Plain.{plain_actor}
+use Rattle.rev_script.specs.Steps.{storage_step, keyed_step, flush_step, tune_step, get}
 use Rattle.rev_explain.specs.Story.{story, why_of}
 use Rattle.rev_shell.specs.Reasons.{events_text, why_text}
 use Rattle.rev_shell.specs.declared.play.Reply.{Reply}
@@ -178,10 +179,10 @@ after_bookmark d bookmarks.Goto name = with_bookmarks (gone_by d.session (marked
 abbrev pub answer : MarkedSession → ScriptLine → List ℕ
 answer d (StorageLine c k flags exptime payload noreply) = reply_text noreply (reply d.session (storage_step c k flags exptime payload))
 answer d (RetrievalLine ks with_cas) = values with_cas d.session ks
-answer d (UpdateLine c k noreply) = reply_text noreply (reply d.session (update_step c k))
+answer d (UpdateLine c k noreply) = reply_text noreply (reply d.session (keyed_step c k))
 answer d (FlushLine delay noreply) = reply_text noreply (reply d.session (flush_step delay))
-answer d (ActorLine c) = reply_text false (reply d.session (actor_step c))
-answer d (ClockLine n) = reply_text false (reply d.session (Clock n))
+answer d (ActorLine a) = reply_text false (reply d.session (plain_actor a))
+answer d (TuneLine t) = reply_text false (reply d.session (tune_step t))
 answer d (DebugLine c) = debug_text d c
 answer d (QueryLine q k) = query_text d.session q k
 answer d (BookmarkLine c name) = bookmark_text d c name
@@ -191,10 +192,10 @@ answer d (BadLine a) = output (bad_text a)
 abbrev pub after : MarkedSession → ScriptLine → MarkedSession
 after d (StorageLine c k flags exptime payload noreply) = with_bookmarks (after_step d.session (storage_step c k flags exptime payload)) d.bookmarks
 after d (RetrievalLine ks with_cas) = with_bookmarks (after_gets d.session ks) d.bookmarks
-after d (UpdateLine c k noreply) = with_bookmarks (after_step d.session (update_step c k)) d.bookmarks
+after d (UpdateLine c k noreply) = with_bookmarks (after_step d.session (keyed_step c k)) d.bookmarks
 after d (FlushLine delay noreply) = with_bookmarks (after_step d.session (flush_step delay)) d.bookmarks
-after d (ActorLine c) = with_bookmarks (after_step d.session (actor_step c)) d.bookmarks
-after d (ClockLine n) = with_bookmarks (after_step d.session (Clock n)) d.bookmarks
+after d (ActorLine a) = with_bookmarks (after_step d.session (plain_actor a)) d.bookmarks
+after d (TuneLine t) = with_bookmarks (after_step d.session (tune_step t)) d.bookmarks
 after d (DebugLine c) = with_bookmarks (after_debug d.session c) d.bookmarks
 after d (QueryLine q k) = d
 after d (BookmarkLine c name) = after_bookmark d c name

@@ -4,7 +4,6 @@ ghost use Rattle.rev_script.specs.Line.{view, client_view, debug_view};
 ghost use Rattle.rev_shell.specs.Bookmarks.{marked, with_mark, mark_text, goto_text, gone_by};
 ghost use Rattle.rev_shell.specs.Answers.{with_bookmarks, answer, after, debug_text, after_debug, query_text, bookmark_text, after_bookmark};
 
-use crate::asked::{actor_step, clock_step, flush_step, storage_step, update_step};
 use crate::bookmarks::{Bookmarks, put_mark};
 use crate::play::{play_line, put_values};
 use crate::reasons::{put_story, put_why};
@@ -16,6 +15,7 @@ use crate::tree::{put_back, put_forward, put_go, put_prune, put_tree};
 use rev_items::Key;
 use rev_script::command::{BookmarkCommand, DebugCommand, KeyQuery};
 use rev_script::line::{ClientLine, DebugLine, Line};
+use rev_script::steps::{actor_step, flush_step, keyed_step, storage_step, tune_step};
 use rev_undotree::{NodeId, Session};
 use std::alloc::{AllocError, Allocator};
 
@@ -49,7 +49,7 @@ fn put_client<A: Allocator + Clone>(
             command,
             key,
             noreply,
-        } => play_line(session, update_step(command, key), noreply, out),
+        } => play_line(session, keyed_step(command, key), noreply, out),
         ClientLine::FlushAll { delay, noreply } => {
             play_line(session, flush_step(delay), noreply, out)
         }
@@ -178,8 +178,8 @@ pub fn put_answer<A: Allocator + Clone>(
 {
     match line {
         Line::Client(line) => put_client(session, line, out),
-        Line::Actor(command) => play_line(session, actor_step(command), false, out),
-        Line::Clock(now) => play_line(session, clock_step(now), false, out),
+        Line::Actor(step) => play_line(session, actor_step(step), false, out),
+        Line::Tune(tune) => play_line(session, tune_step(tune), false, out),
         Line::Debug(line) => put_debug_line(session, bookmarks, line, out),
         Line::Bad { answer: text } => put_output(out, bad_text(text)),
     }

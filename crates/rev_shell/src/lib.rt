@@ -2,7 +2,6 @@
 #![tactic(auto)]
 
 mod answer;
-pub mod asked;
 mod bookmarks;
 mod play;
 mod reasons;

@@ -6,11 +6,11 @@ ghost use Rattle.rev_shell.specs.Texts.{item_of, found_value};
 ghost use Rattle.rev_script.specs.Steps.{get};
 ghost use Rattle.rev_shell.specs.Answers.{state_of, reply, after_step, reply_text, value_of, values, after_gets, was_hit};
 
-use crate::asked::get_step;
 use crate::text::{put_outcome, put_output, put_value};
 use rev_inverse::Store;
 use rev_items::Key;
 use rev_model::Outcome;
+use rev_script::steps::get_step;
 use rev_steps::Step;
 use rev_undotree::{PlayFault, Played, Session};
 use std::alloc::{AllocError, Allocator};

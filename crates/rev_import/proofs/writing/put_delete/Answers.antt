@@ -1,5 +1,5 @@
 use Rattle.std.proofs.Common.{sym, subst, ◌∷◌, [], codes, false}
-use Rattle.rev_script.specs.declared.command.UpdateCommand.TheVariants.{Delete}
+use Rattle.rev_requests.specs.declared.clients.KeyCommand.TheVariants.{Delete}
 use Rattle.rev_script.specs.Script.{UpdateLine}
 use Rattle.rev_import.specs.Writing.{IsLine, line_text}
 use Rattle.rev_import.proofs.Rows.{adds_row, delete_row}

@@ -5,8 +5,9 @@ use Rattle.std.specs.Io.BufRead.{strip_last}
 use Rattle.rev_script.specs.Words.{words, word}
 use Rattle.rev_script.specs.Commands.{asked}
 use Rattle.rev_script.specs.Script.{line_of}
-use Rattle.rev_script.specs.Line.{has_block}
-use Rattle.rev_script.proofs.Next.{next_plain, next_done, next_block, next_cut_storage, fault_text, fault_block, no_text, no_line, asked-long, kept_text}
+use Rattle.rev_script.specs.Line.{view, has_block}
+use Rattle.std.specs.Option.{option_map}
+use Rattle.rev_script.proofs.Next.{next_plain, next_done, next_cut_storage, stored_ok, stored_err, fault_text, no_text, no_line, asked-long, kept_text}
 use Rattle.rev_script.proofs.lines.copied_line.Goals as goal
 use Rattle.rev_script.proofs.lines.copied_line.Goals.{else-not-raw-via-then-not-raw+else-raw-eq0, else-not-raw-via-else-not-raw}
 
@@ -58,19 +59,19 @@ returns-in-Done-clause-ok g c =
       | else-not-raw-via-else-not-raw w ↦ absurd (opposite _ f w.if-not-raw.false)
     ]) a.0 (a.1 c.args.input.now.dialect))
 
-pub returns-in-Err-storage_line-clause-err : goal.returns-in-Err-storage_line-clause-err
-returns-in-Err-storage_line-clause-err g c =
+pub returns-else-not-raw-2-clause-err : goal.returns-else-not-raw-2-clause-err
+returns-else-not-raw-2-clause-err g c =
     let t = c.in-Ok.ensures.ok in
     let is : c.body.result.now ≡ strip_last 13 t.text = c.body.ensures ∙ ap (λ x. strip_last 13 x) (c.as_slice.ensures.value ∙ kept_text t c.if-raw-gt-MOST_KEPT.false) in
     let a = rw c.in-Storage.is at c.in-Ok-asked_line.ensures in
-    rw c.requires (fault_block c.args.input.now.dialect t (is_true _ c.if-not-raw-2.false) (ap asked (sym is) ∙ a.0) c.in-Err-storage_line.ensures.err)
+    rw c.requires (stored_err _ c.args.input.now.dialect c.storage_line.result t (is_true _ c.if-not-raw-2.false) (ap asked (sym is) ∙ a.0) c.storage_line.ensures.err)
 
-pub returns-in-Ok-storage_line-clause-ok : goal.returns-in-Ok-storage_line-clause-ok
-returns-in-Ok-storage_line-clause-ok g c =
+pub returns-else-not-raw-2-clause-ok : goal.returns-else-not-raw-2-clause-ok
+returns-else-not-raw-2-clause-ok g c =
     let t = c.in-Ok.ensures.ok in
     let is : c.body.result.now ≡ strip_last 13 t.text = c.body.ensures ∙ ap (λ x. strip_last 13 x) (c.as_slice.ensures.value ∙ kept_text t c.if-raw-gt-MOST_KEPT.false) in
     let a = rw c.in-Storage.is at c.in-Ok-asked_line.ensures in
     let fits : SFits w32 c.in-Storage.exptime = search rules in
     let e = to_z-of_z w32 c.in-Storage.exptime fits in
-    let s = rw (e, c.requires) at c.in-Ok-storage_line.ensures.ok in
-    rw c.requires (next_block c.args.input.now.dialect t (is_true _ c.if-not-raw-2.false) (ap asked (sym is) ∙ a.0) (a.1 ∙ ap (λ x. word (words x) 1) is) s)
+    let s = rw (e, c.requires) at c.storage_line.ensures.ok in
+    rw c.requires (stored_ok _ (λ line. option_map view line) c.args.input.now.dialect c.storage_line.result t (is_true _ c.if-not-raw-2.false) (ap asked (sym is) ∙ a.0) (a.1 ∙ ap (λ x. word (words x) 1) is) s)

@@ -7,6 +7,6 @@ told_of text front k bit e l t =
     let at : get_or text k 0 ≡ get_or front k 0 = ap (λ x. get_or x k 0) e ∙ get_or-take (length text) front k 0 l in
     (λ h. at ∙ t.0 h, λ h. t.1 (sym at ∙ h))
 
-pub few_words_by-requires-clause-marks : goal.few_words_by-requires-clause-marks
-few_words_by-requires-clause-marks c k l =
-    told_of c.args.text.now c.args.front.now k _ c.requires.begins l (c.spaces.ensures k (omega (arith, c.if-text-le-MARKED.true)))
+pub few_words_by-requires-clause-tells : goal.few_words_by-requires-clause-tells
+few_words_by-requires-clause-tells c k l =
+    told_of c.args.text.now c.args.front.now k _ c.requires.begins l (c.space_mask.ensures k (omega (arith, c.if-text-le-MASK_BYTES.true)))

@@ -5,7 +5,7 @@ use Rattle.std.proofs.lemmas.Simd.{bitmask_splat, bit_mask_l, length-chunk, get_
 use Rattle.std.proofs.lemmas.List.{get_or-map}
 use Rattle.std.proofs.Common.{inl, inr}
 use lib.Lanes.{chunk, zip2, mask_l, top}
-use Rattle.rev_script.proofs.marks.spaces.Goals as goal
+use Rattle.rev_script.proofs.mask.space_mask.Goals as goal
 
 bit_of : (b : ℕ) (x y : ℕ) → b ≡ cond (eqb x y) 1 0 → (b ≡ 1) ↔ (x ≡ y)
 bit_of b x y e = elim (eqb_tells x y) [

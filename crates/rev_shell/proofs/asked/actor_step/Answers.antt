@@ -1,5 +1,0 @@
-use Rattle.std.proofs.Common.{rules}
-use Rattle.rev_shell.proofs.asked.actor_step.Goals as goal
-
-pub returns : goal.returns
-returns g c = search rules steps 500000
