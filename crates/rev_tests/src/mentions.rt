@@ -28,16 +28,22 @@ enum Order {
     Phases,
     /// One, and now and then one of the others.
     Strewn,
-    /// One, two times at once, and then long nothing of it.
-    Rare,
+    /// Pairs of one, two times at once, and then long nothing of it.
+    Pairs,
+    /// One that is 1023 and then 1024 nodes back, and one that is 1025 back: just near, and just far.
+    Apart,
+    /// One that is seldom set, and in the end at each node.
+    FarThenNear,
 }
 
-const ORDERS: [Order; 5] = [
+const ORDERS: [Order; 7] = [
     Order::Hot,
     Order::Turns,
     Order::Phases,
     Order::Strewn,
-    Order::Rare,
+    Order::Pairs,
+    Order::Apart,
+    Order::FarThenNear,
 ];
 
 fn set_at(order: Order, node: usize) -> usize {
@@ -45,8 +51,14 @@ fn set_at(order: Order, node: usize) -> usize {
         Order::Hot => 0,
         Order::Turns => node % 3,
         Order::Phases => node / 90 % 3,
-        Order::Rare => { if node % 1100 < 2 { 0 } else { 3 + node % 2 } }
         Order::Strewn => { if node % 37 == 0 { node / 37 % 5 } else { 0 } }
+        Order::Pairs => { if node % 1100 < 2 { 0 } else { 3 + node % 2 } }
+        Order::Apart => match node {
+            1 | 1024 | 2048 => 0,
+            2 | 1027 => 3,
+            _ => 4,
+        },
+        Order::FarThenNear => { if node % 1100 == 0 || node > 2200 { 0 } else { 3 + node % 2 } }
     }
 }
 
