@@ -1,5 +1,7 @@
 //! What a log does not say of an event, guessed by the events behind it: which look-ups are those of a storage command,
 //! and which hits were deletes.
+ghost use Rattle.std.specs.Prelude.{◌≡◌};
+ghost use Rattle.rev_import.specs.Becoming.{is_too_large};
 
 use crate::figures::{Figures, one_more};
 use crate::writing::MOST_DATA;
@@ -46,7 +48,9 @@ pub struct Guesses<A: Allocator> {
 
 // Whether a storage command is one whose data can't be stored: those of an item that was too large for the server, or
 // is for a script.
-pub fn is_too_large(outcome: StoreOutcome, size: u32) -> bool {
+pub fn is_too_large(outcome: StoreOutcome, size: u32) -> bool
+    ensures { result ≡ is_too_large outcome size }
+{
     outcome == StoreOutcome::TooLarge || size > MOST_DATA
 }
 

@@ -1,4 +1,8 @@
 //! The lines that one event becomes, with the steps of the actors that stand behind them.
+ghost use Rattle.std.specs.Prelude.{◌≡◌, ◌≤◌, ℕ, List, [], ◌∷◌, OnOk};
+ghost use Rattle.rev_script.specs.Script.{ScriptLine};
+ghost use Rattle.rev_import.specs.Writing.{Writes};
+ghost use Rattle.rev_import.specs.Becoming.{hit_lines, miss_lines, dropped_lines, store_lines, storing_of, exptime_of, event_lines, get, delete, Becomes};
 
 use crate::figures::{Figures, one_more};
 use crate::guess::{Guess, is_too_large};
@@ -63,7 +67,9 @@ pub struct Scribe {
 }
 
 /// The command that is written for one that was logged, so that it stores where that one did, as far as can be said.
-pub fn storing_of(command: StoreCommand, outcome: StoreOutcome) -> Storing {
+pub fn storing_of(command: StoreCommand, outcome: StoreOutcome) -> Storing
+    ensures { result ≡ storing_of outcome command }
+{
     match (outcome, command) {
         (StoreOutcome::Stored, _) => Storing::Set,
         (_, StoreCommand::Add) => Storing::Add,
@@ -79,7 +85,9 @@ pub fn storing_of(command: StoreCommand, outcome: StoreOutcome) -> Storing {
 
 /// The expiry time of a line for a time to live that was logged at this second: up to thirty days as it is, a longer one
 /// as a moment, or none where the moment is past what a line can say; one of 2^31 or more was over as it came.
-pub fn exptime_of(now: u32, ttl: u32) -> i32 {
+pub fn exptime_of(now: u32, ttl: u32) -> i32
+    ensures { result ≡ exptime_of now ttl }
+{
     if ttl >= 1 << 31 {
         return -1;
     }
@@ -111,7 +119,9 @@ impl Scribe {
     }
 
     // Flags are not logged, but a class above that of the size tells that there are some.
-    fn flags_of<A: Allocator>(&self, key: &Key<A>, size: u32, class: u32) -> u32 {
+    fn flags_of<A: Allocator>(&self, key: &Key<A>, size: u32, class: u32) -> u32
+        ensures { result ≤ 1 }
+    {
         match self.class_of(key, 0, size) {
             Some(least) if class > least => 1,
             _ => 0,
@@ -123,7 +133,9 @@ impl Scribe {
         now: u32,
         out: &mut Vec<u8, B>,
         figures: &mut Figures,
-    ) -> Result<(), AllocError> {
+    ) -> Result<(), AllocError>
+        ensures { OnOk result (Writes out.old.items out.new.items []) }
+    {
         if let Some(clock) = self.clock {
             if now <= clock {
                 return Ok(());
@@ -139,7 +151,9 @@ impl Scribe {
         class: u32,
         out: &mut Vec<u8, B>,
         figures: &mut Figures,
-    ) -> Result<(), AllocError> {
+    ) -> Result<(), AllocError>
+        ensures { OnOk result (Writes out.old.items out.new.items []) }
+    {
         one_more(&mut figures.lines);
         put_pull(out, class, Queue::Hot)?;
         one_more(&mut figures.lines);
@@ -150,7 +164,9 @@ impl Scribe {
         &mut self,
         out: &mut Vec<u8, B>,
         figures: &mut Figures,
-    ) -> Result<(), AllocError> {
+    ) -> Result<(), AllocError>
+        ensures { OnOk result (Writes out.old.items out.new.items []) }
+    {
         one_more(&mut figures.lines);
         put_bump(out)
     }
@@ -169,7 +185,9 @@ impl Scribe {
         &mut self,
         out: &mut Vec<u8, B>,
         figures: &mut Figures,
-    ) -> Result<(), AllocError> {
+    ) -> Result<(), AllocError>
+        ensures { OnOk result (Writes out.old.items out.new.items []) }
+    {
         for class in 1..CLASSES {
             if self.stored[class] {
                 self.juggle(class as u32, out, figures)?;
@@ -184,7 +202,9 @@ impl Scribe {
         class: Option<u32>,
         out: &mut Vec<u8, B>,
         figures: &mut Figures,
-    ) -> Result<(), AllocError> {
+    ) -> Result<(), AllocError>
+        ensures { OnOk result (Writes out.old.items out.new.items []) }
+    {
         if let Some(class) = class {
             if let Some(stored) = self.stored.get_mut(class as usize) {
                 *stored = true;
@@ -212,7 +232,9 @@ impl Scribe {
         key: &Key<A>,
         out: &mut Vec<u8, B>,
         figures: &mut Figures,
-    ) -> Result<(), AllocError> {
+    ) -> Result<(), AllocError>
+        ensures { OnOk result (Writes out.old.items out.new.items (get key.now ∷ [])) }
+    {
         one_more(&mut figures.lines);
         put_get(out, key)?;
         self.maintain(None, out, figures)
@@ -223,7 +245,9 @@ impl Scribe {
         key: &Key<A>,
         out: &mut Vec<u8, B>,
         figures: &mut Figures,
-    ) -> Result<(), AllocError> {
+    ) -> Result<(), AllocError>
+        ensures { OnOk result (Writes out.old.items out.new.items (delete key.now ∷ [])) }
+    {
         one_more(&mut figures.lines);
         put_delete(out, key)?;
         self.maintain(None, out, figures)
@@ -235,7 +259,9 @@ impl Scribe {
         guess: Guess,
         out: &mut Vec<u8, B>,
         figures: &mut Figures,
-    ) -> Result<(), AllocError> {
+    ) -> Result<(), AllocError>
+        ensures { OnOk result (Writes out.old.items out.new.items (hit_lines key.now guess.own guess.deletes)) }
+    {
         if guess.own {
             return Ok(());
         }
@@ -253,7 +279,9 @@ impl Scribe {
         guess: Guess,
         out: &mut Vec<u8, B>,
         figures: &mut Figures,
-    ) -> Result<(), AllocError> {
+    ) -> Result<(), AllocError>
+        ensures { OnOk result (Writes out.old.items out.new.items (miss_lines key.now guess.own guess.deletes)) }
+    {
         if guess.deletes {
             self.delete(key, out, figures)?;
         }
@@ -270,7 +298,9 @@ impl Scribe {
         guess: Guess,
         out: &mut Vec<u8, B>,
         figures: &mut Figures,
-    ) -> Result<(), AllocError> {
+    ) -> Result<(), AllocError>
+        ensures { OnOk result (Writes out.old.items out.new.items (dropped_lines key.now guess.deletes)) }
+    {
         one_more(&mut figures.too_large);
         if guess.deletes {
             self.delete(key, out, figures)
@@ -290,6 +320,7 @@ impl Scribe {
         figures: &mut Figures,
     ) -> Result<(), AllocError>
         requires { size ≤ 1048576 }
+        ensures { OnOk result (Writes out.old.items out.new.items (store_lines storing key.now flags exptime size)) }
     {
         one_more(&mut figures.lines);
         put_store(out, storing, key, flags, exptime, size)?;
@@ -302,7 +333,9 @@ impl Scribe {
         target: u32,
         out: &mut Vec<u8, B>,
         figures: &mut Figures,
-    ) -> Result<(), AllocError> {
+    ) -> Result<(), AllocError>
+        ensures { OnOk result (Writes out.old.items out.new.items []) }
+    {
         let last = self.classes.last() as u32;
         if source == 0 || source > last || target > last {
             one_more(&mut figures.other_classes);
@@ -325,7 +358,9 @@ impl Scribe {
         count: u64,
         out: &mut Vec<u8, B>,
         figures: &mut Figures,
-    ) -> Result<(), AllocError> {
+    ) -> Result<(), AllocError>
+        ensures { OnOk result (Writes out.old.items out.new.items []) }
+    {
         // a step for each item, and one that ends
         for _ in 0..count {
             one_more(&mut figures.lines);
@@ -343,7 +378,9 @@ impl Scribe {
         most: u64,
         out: &mut Vec<u8, B>,
         figures: &mut Figures,
-    ) -> Result<(), AllocError> {
+    ) -> Result<(), AllocError>
+        ensures { OnOk result (Writes out.old.items out.new.items []) }
+    {
         if class == 0 || class > self.classes.last() as u32 {
             one_more(&mut figures.other_classes);
             return Ok(());
@@ -365,7 +402,9 @@ impl Scribe {
         most: u64,
         out: &mut Vec<u8, B>,
         figures: &mut Figures,
-    ) -> Result<(), AllocError> {
+    ) -> Result<(), AllocError>
+        ensures { OnOk result (Writes out.old.items out.new.items []) }
+    {
         let Some(last) = self.examined.get_mut(class as usize) else {
             one_more(&mut figures.other_classes);
             return Ok(());
@@ -389,7 +428,9 @@ impl Scribe {
         most: u64,
         out: &mut Vec<u8, B>,
         figures: &mut Figures,
-    ) -> Result<(), AllocError> {
+    ) -> Result<(), AllocError>
+        ensures { OnOk result ((clients : List ScriptLine) × Becomes line.now clients × Writes out.old.items out.new.items clients) }
+    {
         let now = line.time.seconds;
         self.set_clock(now, out, figures)?;
         match &line.event {
