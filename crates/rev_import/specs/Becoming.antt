@@ -30,12 +30,19 @@ hit_lines key true deletes = []
 hit_lines key false true = delete key ∷ []
 hit_lines key false false = get key ∷ []
 
+-- the key is deleted where it was held
+abbrev pub dropped_lines : List ℕ → Bool → List ScriptLine
+dropped_lines key true = delete key ∷ []
+dropped_lines key false = []
+
+-- a get, unless it is the look-up of another command
+abbrev pub got_lines : List ℕ → Bool → List ScriptLine
+got_lines key true = []
+got_lines key false = get key ∷ []
+
 -- one that did not find its key, by whether it is the look-up of another command, and whether the key was deleted before
 abbrev pub miss_lines : List ℕ → Bool → Bool → List ScriptLine
-miss_lines key true true = delete key ∷ []
-miss_lines key true false = []
-miss_lines key false true = delete key ∷ get key ∷ []
-miss_lines key false false = get key ∷ []
+miss_lines key own deletes = dropped_lines key deletes ++ got_lines key own
 
 abbrev pub look_up_lines : LookUpOutcome → List ℕ → Bool → Bool → List ScriptLine
 look_up_lines look_ups.Found key own deletes = hit_lines key own deletes
@@ -69,11 +76,6 @@ exptime_of now ttl =
     else (if nat_le ttl 2592000 then pos ttl
     else (if nat_lt (now + ttl) (2 ^ 31) then pos (now + ttl)
     else pos 0))
-
--- the key of data that can't be stored is deleted where it was held
-abbrev pub dropped_lines : List ℕ → Bool → List ScriptLine
-dropped_lines key true = delete key ∷ []
-dropped_lines key false = []
 
 abbrev pub store_lines : Storing → List ℕ → ℕ → ℤ → ℕ → List ScriptLine
 store_lines storing key flags exptime size = StorageLine (storage storing) key flags exptime (Bytes (replicate size 120)) false ∷ []

@@ -1,5 +1,5 @@
 //! The lines that one event becomes, with the steps of the actors that stand behind them.
-ghost use Rattle.std.specs.Prelude.{◌≡◌, ◌≤◌, ℕ, List, [], ◌∷◌, OnOk};
+ghost use Rattle.std.specs.Prelude.{◌≡◌, ◌≤◌, ◌<◌, ℕ, List, [], ◌∷◌, OnOk};
 ghost use Rattle.rev_script.specs.Script.{ScriptLine};
 ghost use Rattle.rev_import.specs.Writing.{Writes};
 ghost use Rattle.rev_import.specs.Becoming.{hit_lines, miss_lines, dropped_lines, store_lines, storing_of, exptime_of, event_lines, get, delete, Becomes};
@@ -115,7 +115,7 @@ impl Scribe {
         let class = self
             .classes
             .class_of(footprint(key, flags, u64::from(size)))?;
-        Some(class as u32)
+        u32::try_from(class).ok()
     }
 
     // Flags are not logged, but a class above that of the size tells that there are some.
@@ -181,6 +181,23 @@ impl Scribe {
         true
     }
 
+    // The maintainer comes to a class if it was stored in.
+    fn juggle_stored<B: Allocator>(
+        &mut self,
+        class: usize,
+        out: &mut Vec<u8, B>,
+        figures: &mut Figures,
+    ) -> Result<(), AllocError>
+        requires { class < 64 }
+        ensures { OnOk result (Writes out.old.items out.new.items []) }
+    {
+        if self.stored[class] {
+            self.juggle(class as u32, out, figures)
+        } else {
+            Ok(())
+        }
+    }
+
     fn juggle_all<B: Allocator>(
         &mut self,
         out: &mut Vec<u8, B>,
@@ -189,9 +206,7 @@ impl Scribe {
         ensures { OnOk result (Writes out.old.items out.new.items []) }
     {
         for class in 1..CLASSES {
-            if self.stored[class] {
-                self.juggle(class as u32, out, figures)?;
-            }
+            self.juggle_stored(class, out, figures)?;
         }
         self.bump(out, figures)
     }
@@ -273,6 +288,23 @@ impl Scribe {
         }
     }
 
+    // A key that was held is deleted.
+    fn drop_key<A: Allocator, B: Allocator>(
+        &mut self,
+        key: &Key<A>,
+        guess: Guess,
+        out: &mut Vec<u8, B>,
+        figures: &mut Figures,
+    ) -> Result<(), AllocError>
+        ensures { OnOk result (Writes out.old.items out.new.items (dropped_lines key.now guess.deletes)) }
+    {
+        if guess.deletes {
+            self.delete(key, out, figures)
+        } else {
+            Ok(())
+        }
+    }
+
     fn miss<A: Allocator, B: Allocator>(
         &mut self,
         key: &Key<A>,
@@ -282,9 +314,7 @@ impl Scribe {
     ) -> Result<(), AllocError>
         ensures { OnOk result (Writes out.old.items out.new.items (miss_lines key.now guess.own guess.deletes)) }
     {
-        if guess.deletes {
-            self.delete(key, out, figures)?;
-        }
+        self.drop_key(key, guess, out, figures)?;
         if guess.own {
             return Ok(());
         }
@@ -302,11 +332,7 @@ impl Scribe {
         ensures { OnOk result (Writes out.old.items out.new.items (dropped_lines key.now guess.deletes)) }
     {
         one_more(&mut figures.too_large);
-        if guess.deletes {
-            self.delete(key, out, figures)
-        } else {
-            Ok(())
-        }
+        self.drop_key(key, guess, out, figures)
     }
 
     fn store<A: Allocator, B: Allocator>(
