@@ -1,7 +1,7 @@
 -- Lines that were written, one behind another.
-use Rattle.std.proofs.Common.{◌≡◌, ℕ, ℤ, zero, suc, ◌<◌, false, List, [], ◌∷◌, ◌++◌, length, map, append_assoc, append-nil, refl, sym, ◌∙◌, ap, subst, arith, Some, Result, OnOk}
+use Rattle.std.proofs.Common.{◌≡◌, ℕ, ℤ, zero, suc, ◌<◌, ◌≤◌, Bool, true, false, List, [], ◌∷◌, ◌++◌, length, map, append_assoc, append-nil, refl, sym, ◌∙◌, ap, subst, arith, Some, Result, OnOk}
 use Rattle.std.specs.List.{All, filter}
-use Rattle.std.specs.Prelude.{slice_index_or}
+use Rattle.std.specs.Prelude.{slice_index_or, if◌then◌else◌}
 use Rattle.std.proofs.lemmas.List.{map-append}
 use Rattle.std.proofs.lemmas.List.Elements.{All-append, filter-append}
 use Rattle.rev_script.specs.Script.{ScriptLine, ClockLine, ActorLine, RetrievalLine, UpdateLine, StorageLine, cuts}
@@ -10,6 +10,9 @@ use Rattle.rev_script.specs.declared.command.ActorCommand.{ActorCommand}
 use Rattle.rev_script.specs.declared.command.UpdateCommand.{UpdateCommand}
 use Rattle.rev_script.specs.declared.command.StorageCommand.{StorageCommand}
 use Rattle.rev_model.specs.Client.{Payload}
+use Rattle.rev_watch.specs.declared.event.Event.{Event}
+use Rattle.rev_watch.specs.declared.event.LogLine.{LogLine}
+use Rattle.rev_import.specs.Becoming.{Becomes, event_lines}
 use Rattle.rev_import.specs.Writing.{Adds, AreLines, Writes, IsStep, is_client, whole_line}
 
 are_more : (t u : List ℕ) (ls ms : List ScriptLine) → AreLines t ls → AreLines u ms → AreLines (t ++ u) (ls ++ ms)
@@ -77,3 +80,19 @@ pub stored : {a b : List ℕ} {c : StorageCommand} {key : List ℕ} {flags : ℕ
     Adds a b (StorageLine c key flags given payload false ∷ []) → Writes a b (StorageLine c key flags exptime payload false ∷ [])
 stored {a} {b} {c} {key} {flags} {payload} given exptime e x =
     subst (λ z. Writes a b (StorageLine c key flags z payload false ∷ [])) e (one (StorageLine c key flags given payload false) (_, refl) x)
+
+-- behind the clock's line stand those of an event
+pub wrote : {A : Type 0} {a b c : List ℕ} (line : LogLine A) (event : Event A) (own deletes : Bool) (flags : ℕ) → line.event ≡ event → flags ≤ 1 →
+    Writes a b [] → Writes b c (event_lines line.time.seconds event own deletes flags) →
+    (clients : List ScriptLine) × Becomes line clients × Writes a c clients
+wrote line event own deletes flags is few x y =
+    (event_lines line.time.seconds event own deletes flags,
+    record { own = own; deletes = deletes; flags = flags; few = few; same = ap (λ e. event_lines line.time.seconds e own deletes flags) (sym is) },
+    more x y)
+
+-- data that can't be stored, and data that can
+pub when : {a b : List ℕ} (test : Bool) (xs ys : List ScriptLine) → test ≡ true → Writes a b xs → Writes a b (if test then xs else ys)
+when {a} {b} test xs ys e x = subst (λ t. Writes a b (if t then xs else ys)) (sym e) x
+
+pub unless : {a b : List ℕ} (test : Bool) (xs ys : List ScriptLine) → test ≡ false → Writes a b ys → Writes a b (if test then xs else ys)
+unless {a} {b} test xs ys e y = subst (λ t. Writes a b (if t then xs else ys)) (sym e) y

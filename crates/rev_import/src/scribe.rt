@@ -2,7 +2,7 @@
 ghost use Rattle.std.specs.Prelude.{◌≡◌, ◌≤◌, ◌<◌, ℕ, List, [], ◌∷◌, OnOk};
 ghost use Rattle.rev_script.specs.Script.{ScriptLine};
 ghost use Rattle.rev_import.specs.Writing.{Writes};
-ghost use Rattle.rev_import.specs.Becoming.{hit_lines, miss_lines, dropped_lines, store_lines, storing_of, exptime_of, event_lines, get, delete, Becomes};
+ghost use Rattle.rev_import.specs.Becoming.{look_up_lines, hit_lines, miss_lines, dropped_lines, store_lines, storing_of, exptime_of, event_lines, get, delete, Becomes};
 
 use crate::figures::{Figures, one_more};
 use crate::guess::{Guess, is_too_large};
@@ -353,6 +353,25 @@ impl Scribe {
         self.maintain(self.class_of(key, flags, size), out, figures)
     }
 
+    fn look_up<A: Allocator, B: Allocator>(
+        &mut self,
+        key: &Key<A>,
+        outcome: LookUpOutcome,
+        guess: Guess,
+        out: &mut Vec<u8, B>,
+        figures: &mut Figures,
+    ) -> Result<(), AllocError>
+        ensures { OnOk result (Writes out.old.items out.new.items (look_up_lines outcome key.now guess.own guess.deletes)) }
+    {
+        match outcome {
+            LookUpOutcome::Found => self.hit(key, guess, out, figures),
+            LookUpOutcome::NotFound
+            | LookUpOutcome::Expired
+            | LookUpOutcome::Flushed
+            | LookUpOutcome::Other => self.miss(key, guess, out, figures),
+        }
+    }
+
     fn move_page<B: Allocator>(
         &mut self,
         source: u32,
@@ -461,11 +480,7 @@ impl Scribe {
         self.set_clock(now, out, figures)?;
         match &line.event {
             Event::LookUp { key, outcome, .. } => {
-                if *outcome == LookUpOutcome::Found {
-                    self.hit(key, guess, out, figures)
-                } else {
-                    self.miss(key, guess, out, figures)
-                }
+                self.look_up(key, *outcome, guess, out, figures)
             }
             Event::Store {
                 key,
@@ -480,16 +495,9 @@ impl Scribe {
                     return self.too_large(key, guess, out, figures);
                 }
                 let storing = storing_of(*command, *outcome);
+                let exptime = exptime_of(now, *ttl);
                 let flags = self.flags_of(key, *size, *class);
-                self.store(
-                    storing,
-                    key,
-                    flags,
-                    exptime_of(now, *ttl),
-                    *size,
-                    out,
-                    figures,
-                )
+                self.store(storing, key, flags, exptime, *size, out, figures)
             }
             Event::Deletion { key, .. } => self.delete(key, out, figures),
             Event::PageMove { source, target } => self.move_page(*source, *target, out, figures),
