@@ -3,3 +3,4 @@ pub mod Lines
 pub mod Numerals
 pub mod Rows
 pub mod Written
+pub mod Moved

@@ -12,7 +12,8 @@ use Rattle.rev_script.specs.declared.command.StorageCommand.{StorageCommand}
 use Rattle.rev_model.specs.Client.{Payload}
 use Rattle.rev_watch.specs.declared.event.Event.{Event}
 use Rattle.rev_watch.specs.declared.event.LogLine.{LogLine}
-use Rattle.rev_import.specs.Becoming.{Becomes, event_lines}
+use Rattle.rev_import.specs.Becoming.{Becomes, event_lines, store_lines}
+use Rattle.rev_import.specs.declared.writing.Storing.{Storing}
 use Rattle.rev_import.specs.Writing.{Adds, AreLines, Writes, IsStep, is_client, whole_line}
 
 are_more : (t u : List ℕ) (ls ms : List ScriptLine) → AreLines t ls → AreLines u ms → AreLines (t ++ u) (ls ++ ms)
@@ -96,3 +97,8 @@ when {a} {b} test xs ys e x = subst (λ t. Writes a b (if t then xs else ys)) (s
 
 pub unless : {a b : List ℕ} (test : Bool) (xs ys : List ScriptLine) → test ≡ false → Writes a b ys → Writes a b (if test then xs else ys)
 unless {a} {b} test xs ys e y = subst (λ t. Writes a b (if t then xs else ys)) (sym e) y
+
+-- the same store, by another spelling
+pub respelled : {a b : List ℕ} (key : List ℕ) (flags size : ℕ) (s t : Storing) (e f : ℤ) → s ≡ t → e ≡ f → Writes a b (store_lines s key flags e size) → Writes a b (store_lines t key flags f size)
+respelled {a} {b} key flags size s t e f x y w =
+    subst (λ z. Writes a b (store_lines t key flags z size)) y (subst (λ z. Writes a b (store_lines z key flags e size)) x w)

@@ -1,5 +1,5 @@
 -- What becomes of the events of a log: lines of clients, of which each makes one step.
-use Rattle.std.specs.Prelude.{◌≡◌, ◌≤◌, ◌+◌, ◌^◌, ℕ, ℤ, pos, negsuc, Bool, true, false, ◌||◌, nat_lt, nat_le, if◌then◌else◌, List, [], ◌∷◌, ◌++◌, replicate}
+use Rattle.std.specs.Prelude.{◌≡◌, ◌≤◌, ◌+◌, ◌^◌, ℕ, ℤ, pos, negsuc, Bool, true, false, ◌||◌, nat_lt, nat_le, if◌then◌else◌, List, [], ◌∷◌, ◌++◌, replicate, Option, Some, None}
 use Rattle.rev_model.specs.Client.{Bytes}
 use Rattle.rev_script.specs.Script.{ScriptLine, RetrievalLine, UpdateLine, StorageLine}
 use Rattle.rev_script.specs.declared.command.UpdateCommand.TheVariants.{Delete}
@@ -13,6 +13,7 @@ use Rattle.rev_watch.specs.declared.event.StoreCommand.TheVariants as commands
 use Rattle.rev_watch.specs.declared.event.StoreOutcome.{StoreOutcome}
 use Rattle.rev_watch.specs.declared.event.StoreOutcome.TheVariants as outcomes
 use Rattle.rev_import.specs.Writing.{Writes, storage}
+use Rattle.rev_import.specs.declared.figures.Figures.{Figures}
 use Rattle.rev_import.specs.declared.writing.Storing.{Storing}
 use Rattle.rev_import.specs.declared.writing.Storing.TheVariants as storings
 
@@ -118,6 +119,12 @@ pub record Moves {A : Type 0} (before after : List (LogLine A)) (old new : List 
 
 -- ---- an import
 
--- what a contract sees of an import: the events that wait
+-- what a contract sees of an import: the events that wait, and what was counted
 pub record PlainImport (A : Type 0) : Type 0 where
   pub waiting : List (LogLine A)
+  pub figures : Figures
+
+-- the key that an eviction took away
+abbrev pub evicted_key : {A : Type 0} → Event A → Option (List ℕ)
+evicted_key (Eviction key fetched ttl last_access class size) = Some key
+evicted_key event = None

@@ -1,4 +1,7 @@
 //! The events of a log, made into the lines of a script.
+ghost use Rattle.std.specs.Prelude.{◌≡◌, ◌++◌, ◌∷◌, ◌-◌, [], length, OnOk, Some, None};
+ghost use Rattle.std.specs.Option.{option_copied};
+ghost use Rattle.rev_import.specs.Becoming.{Moves, evicted_key};
 
 use crate::figures::{EventCounts, Figures, one_more};
 use crate::guess::Guesses;
@@ -9,6 +12,7 @@ use rev_items::Key;
 use rev_watch::event::{Event, LogLine};
 use std::alloc::{AllocError, Allocator};
 use std::collections::VecDeque;
+use std::marker::Model;
 
 /// The most events that are held back.
 pub const MOST_WAITING: usize = 65536;
@@ -24,8 +28,18 @@ pub struct Import<A: Allocator> {
     figures: Figures,
 }
 
+impl<A: Allocator> Model for Import<A> {
+    ghost use Rattle.rev_import.specs.Becoming.{PlainImport};
+
+    ghost Value = { PlainImport A };
+
+    ghost view = { λ i. record { waiting = i.waiting.items; figures = i.figures } };
+}
+
 /// The key that an eviction took away, and none where the event is no eviction.
-pub fn evicted_key<A: Allocator>(event: &Event<A>) -> Option<&Key<A>> {
+pub fn evicted_key<A: Allocator>(event: &Event<A>) -> Option<&Key<A>>
+    ensures { option_copied result ≡ evicted_key event.now }
+{
     match event {
         Event::Eviction { key, .. } => Some(key),
         _ => None,
@@ -48,7 +62,9 @@ fn count<A: Allocator>(event: &Event<A>, counts: &mut EventCounts) {
 
 impl<A: Allocator + Copy> Import<A> {
     /// An import into a store of these classes. No memory is taken.
-    pub fn new(alloc: A, classes: ClassTable, rhythm: Rhythm) -> Import<A> {
+    pub fn new(alloc: A, classes: ClassTable, rhythm: Rhythm) -> Import<A>
+        ensures { result.waiting ≡ [] }
+    {
         Import {
             waiting: VecDeque::new(alloc),
             guesses: Guesses::new(alloc),
@@ -58,37 +74,57 @@ impl<A: Allocator + Copy> Import<A> {
     }
 
     // Writes the lines of the event that waits longest.
-    fn write_first<B: Allocator>(&mut self, out: &mut Vec<u8, B>) -> Result<(), AllocError> {
-        let Some(line) = self.waiting.pop_front() else {
-            return Ok(());
-        };
-        let guess = self.guesses.pop();
-        let most = self.guesses.held();
-        self.scribe
-            .write(&line, guess, most, out, &mut self.figures)
+    fn write_first<B: Allocator>(&mut self, out: &mut Vec<u8, B>) -> Result<(), AllocError>
+        ensures moves { OnOk result (Moves self.old.waiting self.new.waiting out.old.items out.new.items) }
+        ensures fewer { OnOk result (length self.new.waiting ≡ length self.old.waiting - 1) }
+    {
+        match self.waiting.pop_front() {
+            None => Ok(()),
+            Some(line) => {
+                let guess = self.guesses.pop();
+                let most = self.guesses.held();
+                self.scribe
+                    .write(&line, guess, most, out, &mut self.figures)
+            }
+        }
     }
 
-    /// Takes in the next event, and writes the lines of the one that waits longest where too many wait.
+    // Makes room for an event where as many wait as may.
+    fn make_room<B: Allocator>(&mut self, out: &mut Vec<u8, B>) -> Result<(), AllocError>
+        ensures { OnOk result (Moves self.old.waiting self.new.waiting out.old.items out.new.items) }
+    {
+        if self.waiting.len() < MOST_WAITING {
+            Ok(())
+        } else {
+            self.write_first(out)
+        }
+    }
+
+    /// Takes in the next event. Where 65536 wait, the lines of the one that waits longest are written first.
     ///
     /// Err: memory was refused; the import is no longer of use.
     pub fn take<B: Allocator>(
         &mut self,
         line: LogLine<A>,
         out: &mut Vec<u8, B>,
-    ) -> Result<(), AllocError> {
+    ) -> Result<(), AllocError>
+        ensures { OnOk result (Moves (self.old.waiting ++ line ∷ []) self.new.waiting out.old.items out.new.items) }
+    {
         count(&line.event, &mut self.figures.events);
-        self.guesses.push(&line, &self.waiting, &mut self.figures)?;
+        self.guesses
+            .push(&line, &self.waiting, &mut self.figures)?;
+        self.make_room(out)?;
         self.waiting.push_back(line)?;
-        if self.waiting.len() > MOST_WAITING {
-            self.write_first(out)?;
-        }
         Ok(())
     }
 
     /// Writes the lines of all events that wait.
     ///
     /// Err: memory was refused; the import is no longer of use.
-    pub fn finish<B: Allocator>(&mut self, out: &mut Vec<u8, B>) -> Result<(), AllocError> {
+    pub fn finish<B: Allocator>(&mut self, out: &mut Vec<u8, B>) -> Result<(), AllocError>
+        ensures moves { OnOk result (Moves self.old.waiting self.new.waiting out.old.items out.new.items) }
+        ensures none { OnOk result (self.new.waiting ≡ []) }
+    {
         for _ in 0..self.waiting.len() {
             self.write_first(out)?;
         }
@@ -96,7 +132,9 @@ impl<A: Allocator + Copy> Import<A> {
     }
 
     /// What was counted so far.
-    pub fn figures(&self) -> Figures {
+    pub fn figures(&self) -> Figures
+        ensures { result ≡ self.now.figures }
+    {
         self.figures
     }
 }

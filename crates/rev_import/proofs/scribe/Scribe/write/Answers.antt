@@ -1,6 +1,7 @@
-use Rattle.std.proofs.Common.{sym, ◌∙◌, arith, false}
+use Rattle.std.proofs.Common.{◌≡◌, sym, ◌∙◌, arith, false, w32, to_z, of_z, rules}
+use Rattle.std.proofs.lemmas.Int.{to_z-of_z}
 use Rattle.std.proofs.lemmas.Result.{on_ok_weaker}
-use Rattle.rev_import.proofs.Written.{wrote, when, unless}
+use Rattle.rev_import.proofs.Written.{wrote, when, unless, respelled}
 use Rattle.rev_import.proofs.scribe.Scribe.write.Goals as goal
 
 pub returns-in-LookUp : goal.returns-in-LookUp
@@ -21,6 +22,9 @@ returns-then-is_too_large g c = on_ok_weaker c.too_large.result
     (when _ _ _ (sym c.is_too_large.ensures ∙ c.if-is_too_large.true) x)) c.too_large.ensures
 
 pub returns-else-is_too_large : goal.returns-else-is_too_large
-returns-else-is_too_large g c = on_ok_weaker c.store.result
+returns-else-is_too_large g c =
+    let range : to_z w32 (of_z w32 c.exptime_of-exptime.result) ≡ c.exptime_of-exptime.result = search (rules, to_z-of_z) in
+    on_ok_weaker c.store.result
     (λ x. wrote c.args.line.now _ false false c.flags_of-flags.result c.in-Store.is c.flags_of-flags.ensures c.in_ok-set_clock.ensures
-    (unless _ _ _ (sym c.is_too_large.ensures ∙ c.if-is_too_large.false) x)) c.store.ensures
+    (unless _ _ _ (sym c.is_too_large.ensures ∙ c.if-is_too_large.false)
+    (respelled _ _ _ _ _ _ _ c.storing_of-storing.ensures (range ∙ c.exptime_of-exptime.ensures) x))) c.store.ensures
