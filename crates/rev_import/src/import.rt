@@ -78,15 +78,14 @@ impl<A: Allocator + Copy> Import<A> {
         ensures moves { OnOk result (Moves self.old.waiting self.new.waiting out.old.items out.new.items) }
         ensures fewer { OnOk result (length self.new.waiting ≡ length self.old.waiting - 1) }
     {
-        match self.waiting.pop_front() {
-            None => Ok(()),
-            Some(line) => {
-                let guess = self.guesses.pop();
-                let most = self.guesses.held();
-                self.scribe
-                    .write(&line, guess, most, out, &mut self.figures)
-            }
-        }
+        let line = match self.waiting.pop_front() {
+            None => return Ok(()),
+            Some(line) => line,
+        };
+        let guess = self.guesses.pop();
+        let most = self.guesses.held();
+        self.scribe
+            .write(&line, guess, most, out, &mut self.figures)
     }
 
     // Makes room for an event where as many wait as may.
