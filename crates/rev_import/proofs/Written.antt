@@ -19,11 +19,11 @@ use Rattle.rev_import.specs.Writing.{Adds, AreLines, Writes, IsStep, is_client, 
 are_more : (t u : List ℕ) (ls ms : List ScriptLine) → AreLines t ls → AreLines u ms → AreLines (t ++ u) (ls ++ ms)
 are_more t u ls ms a b = record {
   cut = λ more.
-    ap (cuts CrLf) (append_assoc t u more)
-    ∙ a.cut (u ++ more)
-    ∙ ap (λ x. map whole_line ls ++ x) (b.cut more)
-    ∙ sym (append_assoc (map whole_line ls) (map whole_line ms) (cuts CrLf more))
-    ∙ ap (λ x. x ++ cuts CrLf more) (sym (map-append whole_line ls ms));
+      ap (cuts CrLf) (append_assoc t u more)
+      ∙ a.cut (u ++ more)
+      ∙ ap (λ x. map whole_line ls ++ x) (b.cut more)
+      ∙ sym (append_assoc (map whole_line ls) (map whole_line ms) (cuts CrLf more))
+      ∙ ap (λ x. x ++ cuts CrLf more) (sym (map-append whole_line ls ms));
 }
 
 adds_more : {a b c : List ℕ} {ls ms : List ScriptLine} → Adds a b ls → Adds b c ms → Adds a c (ls ++ ms)
@@ -86,10 +86,11 @@ stored {a} {b} {c} {key} {flags} {payload} given exptime e x =
 pub wrote : {A : Type 0} {a b c : List ℕ} (line : LogLine A) (event : Event A) (own deletes : Bool) (flags : ℕ) → line.event ≡ event → flags ≤ 1 →
     Writes a b [] → Writes b c (event_lines line.time.seconds event own deletes flags) →
     (clients : List ScriptLine) × Becomes line clients × Writes a c clients
-wrote line event own deletes flags is few x y =
-    (event_lines line.time.seconds event own deletes flags,
-    record { own = own; deletes = deletes; flags = flags; few = few; same = ap (λ e. event_lines line.time.seconds e own deletes flags) (sym is) },
-    more x y)
+wrote line event own deletes flags is few x y = (
+  event_lines line.time.seconds event own deletes flags,
+  record { own = own; deletes = deletes; flags = flags; few = few; same = ap (λ e. event_lines line.time.seconds e own deletes flags) (sym is) },
+  more x y,
+)
 
 -- data that can't be stored, and data that can
 pub when : {a b : List ℕ} (test : Bool) (xs ys : List ScriptLine) → test ≡ true → Writes a b xs → Writes a b (if test then xs else ys)

@@ -110,8 +110,7 @@ impl<A: Allocator + Copy> Import<A> {
         ensures { OnOk result (Moves (self.old.waiting ++ line ∷ []) self.new.waiting out.old.items out.new.items) }
     {
         count(&line.event, &mut self.figures.events);
-        self.guesses
-            .push(&line, &self.waiting, &mut self.figures)?;
+        self.guesses.push(&line, &self.waiting, &mut self.figures)?;
         self.make_room(out)?;
         self.waiting.push_back(line)?;
         Ok(())

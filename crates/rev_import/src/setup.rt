@@ -1,4 +1,6 @@
 //! What a server was configured with, followed by lrudb's own configuration.
+ghost use Rattle.std.specs.Prelude.{◌≡◌, ◌≤◌, IfOk, None};
+ghost use Rattle.rev_classes.specs.Limits.{fault_of, class_sizes};
 
 use crate::writing::{put_temp_ttl, put_tune};
 use rev_classes::{ClassTable, Config, ConfigFault};
@@ -155,7 +157,10 @@ fn opened(
     pages: u32,
     factor: Factor,
     temp_ttl: i32,
-) -> Result<(Config, ClassTable, Option<Unfollowed>), ConfigFault> {
+) -> Result<(Config, ClassTable, Option<Unfollowed>), ConfigFault>
+    ensures sound { IfOk result (λ r. fault_of r.0 ≡ None) }
+    ensures classes { IfOk result (λ r. r.1.sizes ≡ class_sizes r.0) }
+{
     let config = config_of(pages, factor, temp_ttl);
     let unfollowed = match ClassTable::build(&config) {
         Ok(classes) => return Ok((config, classes, None)),
@@ -171,7 +176,10 @@ fn opened(
 /// decimals; `factor` says more where it is given.
 ///
 /// Err: never, since what can't be followed is replaced.
-pub fn follow(settings: &Settings, factor: Option<Factor>) -> Result<Setup, ConfigFault> {
+pub fn follow(settings: &Settings, factor: Option<Factor>) -> Result<Setup, ConfigFault>
+    ensures sound { IfOk result (λ setup. fault_of setup.config ≡ None) }
+    ensures classes { IfOk result (λ setup. setup.classes.sizes ≡ class_sizes setup.config) }
+{
     let (pages, memory) = pages_of(settings.max_bytes);
     let (tune, shares) = tune_of(settings);
     let (temp_ttl, seconds) = temp_ttl_of(settings);
