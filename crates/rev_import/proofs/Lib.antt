@@ -2,3 +2,5 @@ pub mod Words
 pub mod Lines
 pub mod Numerals
 pub mod Rows
+pub mod Written
+pub mod Moved

@@ -1,14 +1,17 @@
 -- What an import writes: lines of a script, one behind another, each whole with its data block.
 -- Rule of this project: each line that is written is read as exactly one step.
 use Rattle.std.specs.Prelude.{◌≡◌, ℕ, Bool, true, ◌&&◌, nat_lt, List, ◌∷◌, ◌++◌, length, map, codes}
-use Rattle.std.specs.List.{list_all, concat}
+use Rattle.std.specs.List.{list_all, concat, filter}
+use Rattle.std.specs.Prelude.{All, Some, false, []}
 use Rattle.rev_model.specs.declared.Queue.{Queue}
 use Rattle.rev_model.specs.declared.Queue.TheVariants.{Hot, Warm, Cold, Temp}
 use Rattle.rev_script.specs.declared.command.StorageCommand.{StorageCommand}
 use Rattle.rev_script.specs.declared.command.StorageCommand.TheVariants.{Store}
 use Rattle.rev_requests.specs.declared.clients.StoreVerb.TheVariants as verbs
 use Rattle.rev_script.specs.declared.dialect.Dialect.TheVariants.{CrLf}
-use Rattle.rev_script.specs.Script.{ScriptLine, Cut, cuts}
+use Rattle.rev_model.specs.Actor.{Step}
+use Rattle.rev_script.specs.Script.{ScriptLine, Cut, cuts, ActorLine, ClockLine}
+use Rattle.rev_script.specs.Steps.{steps_of}
 use Rattle.rev_import.specs.declared.writing.Storing.{Storing}
 use Rattle.rev_import.specs.declared.writing.Storing.TheVariants.{Set, Add, Replace}
 
@@ -29,6 +32,23 @@ pub record Adds (old new : List ℕ) (ls : List ScriptLine) : Type 0 where
   pub text : List ℕ
   pub behind : new ≡ old ++ text
   pub lines_are : AreLines text ls
+
+-- a line of a client; the others are of the actors and of the clock
+abbrev pub is_client : ScriptLine → Bool
+is_client (ActorLine c) = false
+is_client (ClockLine n) = false
+is_client line = true
+
+-- a line that makes exactly one step
+abbrev pub IsStep : ScriptLine → Type 0
+IsStep line = (step : Step) × (steps_of line ≡ Some (step ∷ []))
+
+-- behind what was written before stand whole lines, each of which makes one step, and these are the ones of clients
+pub record Writes (old new : List ℕ) (clients : List ScriptLine) : Type 0 where
+  pub lines : List ScriptLine
+  pub adds : Adds old new lines
+  pub steps : All IsStep lines
+  pub of_clients : filter is_client lines ≡ clients
 
 -- a word of a line: at least one byte, and none that ends a word or a line
 abbrev pub is_word : List ℕ → Bool

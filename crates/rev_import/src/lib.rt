@@ -1,4 +1,12 @@
 //! A trace of a real cache, made into a script: the lines that an import writes.
 #![tactic(auto)]
 
+pub mod figures;
+mod guess;
+pub mod import;
+pub mod policy;
+mod scribe;
+pub mod setup;
+#[cfg(test)]
+mod tests;
 pub mod writing;

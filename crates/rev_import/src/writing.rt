@@ -10,6 +10,7 @@ ghost use Rattle.rev_import.specs.Writing.{Adds, line_text, storage, storage_nam
 use itoa::Buffer;
 use rev_items::Key;
 use rev_model::Queue;
+use rev_requests::Tune;
 use std::alloc::{AllocError, Allocator};
 
 /// The byte of which filler is made. A server's log tells how long data were and not what they were.
@@ -219,4 +220,30 @@ pub fn put_temp_ttl<A: Allocator>(out: &mut Vec<u8, A>, seconds: i32) -> Result<
         b"lru",
         &[b"temp_ttl", digits.format(seconds).as_bytes()],
     )
+}
+
+// Writes a factor of so many thousandths with three digits behind its point.
+fn put_thousandths<A: Allocator>(out: &mut Vec<u8, A>, thousandths: u32) -> Result<(), AllocError> {
+    let mut whole = Buffer::new();
+    out.extend_from_slice(whole.format(thousandths / 1000).as_bytes())?;
+    out.push(b'.')?;
+    for unit in [100, 10, 1] {
+        out.push(b'0' + (thousandths / unit % 10) as u8)?;
+    }
+    Ok(())
+}
+
+/// Sets shares and age factors: `lru tune HOT WARM HOT_FACTOR WARM_FACTOR`, shares in per cent.
+pub fn put_tune<A: Allocator>(out: &mut Vec<u8, A>, tune: Tune) -> Result<(), AllocError> {
+    let mut hot = Buffer::new();
+    let mut warm = Buffer::new();
+    out.extend_from_slice(b"lru tune ")?;
+    out.extend_from_slice(hot.format(tune.hot_share()).as_bytes())?;
+    out.push(b' ')?;
+    out.extend_from_slice(warm.format(tune.warm_share()).as_bytes())?;
+    out.push(b' ')?;
+    put_thousandths(out, tune.hot_factor())?;
+    out.push(b' ')?;
+    put_thousandths(out, tune.warm_factor())?;
+    out.extend_from_slice(b"\r\n")
 }

@@ -1,0 +1,3 @@
+//! Logs worked by hand.
+
+mod logs;
