@@ -4,10 +4,11 @@ use Rattle.std.specs.List.{All, filter}
 use Rattle.std.specs.Prelude.{slice_index_or, if◌then◌else◌}
 use Rattle.std.proofs.lemmas.List.{map-append}
 use Rattle.std.proofs.lemmas.List.Elements.{All-append, filter-append}
-use Rattle.rev_script.specs.Script.{ScriptLine, ClockLine, ActorLine, RetrievalLine, UpdateLine, StorageLine, cuts}
+use Rattle.rev_script.specs.Script.{ScriptLine, ActorLine, RetrievalLine, UpdateLine, StorageLine, cuts}
 use Rattle.rev_script.specs.declared.dialect.Dialect.TheVariants.{CrLf}
-use Rattle.rev_script.specs.declared.command.ActorCommand.{ActorCommand}
-use Rattle.rev_script.specs.declared.command.UpdateCommand.{UpdateCommand}
+use Rattle.rev_requests.specs.declared.actors.ActorStep.{ActorStep}
+use Rattle.rev_requests.specs.declared.actors.ActorStep.TheVariants.{Clock}
+use Rattle.rev_requests.specs.declared.clients.KeyCommand.{KeyCommand}
 use Rattle.rev_script.specs.declared.command.StorageCommand.{StorageCommand}
 use Rattle.rev_model.specs.Client.{Payload}
 use Rattle.rev_watch.specs.declared.event.Event.{Event}
@@ -65,16 +66,16 @@ then_quiet {a} {b} {c} {cs} x y = subst (λ z. Writes a c z) (append-nil cs) (mo
 one : {a b : List ℕ} (l : ScriptLine) → IsStep l → Adds a b (l ∷ []) → Writes a b (filter is_client (l ∷ []))
 one l s x = record { lines = l ∷ []; adds = x; steps = one_step l s; of_clients = refl }
 
-pub clock : {a b : List ℕ} (n : ℕ) → Adds a b (ClockLine n ∷ []) → Writes a b []
-clock n x = one (ClockLine n) (_, refl) x
+pub clock : {a b : List ℕ} (n : ℕ) → Adds a b (ActorLine (Clock n) ∷ []) → Writes a b []
+clock n x = one (ActorLine (Clock n)) (_, refl) x
 
-pub actor : {a b : List ℕ} (c : ActorCommand) → Adds a b (ActorLine c ∷ []) → Writes a b []
+pub actor : {a b : List ℕ} (c : ActorStep) → Adds a b (ActorLine c ∷ []) → Writes a b []
 actor c x = one (ActorLine c) (_, refl) x
 
 pub got : {a b : List ℕ} (key : List ℕ) → Adds a b (RetrievalLine (key ∷ []) false ∷ []) → Writes a b (RetrievalLine (key ∷ []) false ∷ [])
 got key x = one (RetrievalLine (key ∷ []) false) (_, refl) x
 
-pub updated : {a b : List ℕ} {c : UpdateCommand} {key : List ℕ} → Adds a b (UpdateLine c key false ∷ []) → Writes a b (UpdateLine c key false ∷ [])
+pub updated : {a b : List ℕ} {c : KeyCommand} {key : List ℕ} → Adds a b (UpdateLine c key false ∷ []) → Writes a b (UpdateLine c key false ∷ [])
 updated x = one (UpdateLine _ _ false) (_, refl) x
 
 pub stored : {a b : List ℕ} {c : StorageCommand} {key : List ℕ} {flags : ℕ} {payload : Payload} (given exptime : ℤ) → given ≡ exptime →

@@ -2,7 +2,7 @@
 use Rattle.std.specs.Prelude.{◌≡◌, ◌≤◌, ◌+◌, ◌^◌, ℕ, ℤ, pos, negsuc, Bool, true, false, ◌||◌, nat_lt, nat_le, if◌then◌else◌, List, [], ◌∷◌, ◌++◌, replicate, Option, Some, None}
 use Rattle.rev_model.specs.Client.{Bytes}
 use Rattle.rev_script.specs.Script.{ScriptLine, RetrievalLine, UpdateLine, StorageLine}
-use Rattle.rev_script.specs.declared.command.UpdateCommand.TheVariants.{Delete}
+use Rattle.rev_requests.specs.declared.clients.KeyCommand.TheVariants.{Delete}
 use Rattle.rev_watch.specs.declared.event.Event.{Event}
 use Rattle.rev_watch.specs.declared.event.Event.TheVariants.{LookUp, Store, Deletion, Eviction, PageMove, CrawlEnd, ConnectionOpened, ConnectionClosed, Unknown}
 use Rattle.rev_watch.specs.declared.event.LogLine.{LogLine}

@@ -10,7 +10,7 @@ use Rattle.rev_script.specs.declared.command.StorageCommand.TheVariants.{Store}
 use Rattle.rev_requests.specs.declared.clients.StoreVerb.TheVariants as verbs
 use Rattle.rev_script.specs.declared.dialect.Dialect.TheVariants.{CrLf}
 use Rattle.rev_model.specs.Actor.{Step}
-use Rattle.rev_script.specs.Script.{ScriptLine, Cut, cuts, ActorLine, ClockLine}
+use Rattle.rev_script.specs.Script.{ScriptLine, Cut, cuts, ActorLine, TuneLine}
 use Rattle.rev_script.specs.Steps.{steps_of}
 use Rattle.rev_import.specs.declared.writing.Storing.{Storing}
 use Rattle.rev_import.specs.declared.writing.Storing.TheVariants.{Set, Add, Replace}
@@ -33,10 +33,10 @@ pub record Adds (old new : List ℕ) (ls : List ScriptLine) : Type 0 where
   pub behind : new ≡ old ++ text
   pub lines_are : AreLines text ls
 
--- a line of a client; the others are of the actors and of the clock
+-- a line of a client; the others are of the actors, of the clock and of the settings
 abbrev pub is_client : ScriptLine → Bool
 is_client (ActorLine c) = false
-is_client (ClockLine n) = false
+is_client (TuneLine t) = false
 is_client line = true
 
 -- a line that makes exactly one step

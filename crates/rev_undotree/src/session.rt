@@ -188,7 +188,7 @@ impl<A: Allocator + Clone> Session<A> {
     }
 
     // Plays a step, as `play` does, with the buckets that there are.
-    #[inline(always)]
+    #[inline(never)]
     fn play_once(&mut self, step: Step<A>) -> Result<Played, (PlayFault, Step<A>)>
         ensures ok { IfOk result (λ p. self.new ≡ record { root = self.old.root; rows = self.old.rows ++ Some (row self.old.current (plain_step step) (not (is_continued self.old.rows self.old.current))) ∷ []; current = p.node.0 }) }
         ensures node { IfOk result (λ p. p.node.0 ≡ length self.old.rows + 1) }
