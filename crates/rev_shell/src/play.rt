@@ -31,6 +31,28 @@ fn why<A: Allocator>(refused: (PlayFault, Step<A>)) -> PlayFault
     fault
 }
 
+// Plays a step for which there was no memory once more, where some can be given back.
+#[cold]
+fn play_narrowed<A: Allocator + Clone>(
+    session: &mut Session<A>,
+    step: Step<A>,
+) -> Result<Reply, AllocError>
+    ensures reply { IfOk result (λ r. r ≡ reply session.old (plain_step step)) }
+    ensures session { OnOk result (session.new ≡ after_step session.old (plain_step step)) }
+{
+    if !session.narrow() {
+        return Err(AllocError);
+    }
+    match session.play_once(step) {
+        Ok(Played { outcome, .. }) => Ok(Reply::Played(outcome)),
+        Err(refused) => match why(refused) {
+            PlayFault::TooManyNodes => Ok(Reply::TooManyNodes),
+            PlayFault::TooDeep => Ok(Reply::TooDeep),
+            PlayFault::Memory => Err(AllocError),
+        },
+    }
+}
+
 /// Plays a step. At an error the session is as it was.
 #[inline(always)]
 pub fn play<A: Allocator + Clone>(
@@ -40,8 +62,9 @@ pub fn play<A: Allocator + Clone>(
     ensures reply { IfOk result (λ r. r ≡ reply session.old (plain_step step)) }
     ensures session { OnOk result (session.new ≡ after_step session.old (plain_step step)) }
 {
-    match session.play(step) {
+    match session.play_once(step) {
         Ok(Played { outcome, .. }) => Ok(Reply::Played(outcome)),
+        Err((PlayFault::Memory, step)) => play_narrowed(session, step),
         Err(refused) => match why(refused) {
             PlayFault::TooManyNodes => Ok(Reply::TooManyNodes),
             PlayFault::TooDeep => Ok(Reply::TooDeep),

@@ -187,9 +187,9 @@ impl<A: Allocator + Clone> Session<A> {
         }
     }
 
-    // Plays a step, as `play` does, with the buckets that there are.
-    #[inline(never)]
-    fn play_once(&mut self, step: Step<A>) -> Result<Played, (PlayFault, Step<A>)>
+    /// Plays a step as `play` does, with the buckets that there are: who meets a want of memory may `narrow` and play it
+    /// again, as `play` does.
+    pub fn play_once(&mut self, step: Step<A>) -> Result<Played, (PlayFault, Step<A>)>
         ensures ok { IfOk result (λ p. self.new ≡ record { root = self.old.root; rows = self.old.rows ++ Some (row self.old.current (plain_step step) (not (is_continued self.old.rows self.old.current))) ∷ []; current = p.node.0 }) }
         ensures node { IfOk result (λ p. p.node.0 ≡ length self.old.rows + 1) }
         ensures outcome { IfOk result (λ p. p.outcome ≡ outcome_of (at self.old.root self.old.rows self.old.current) (plain_step step)) }
