@@ -1,5 +1,5 @@
-//! The step of a line's command, once its key and its data are there. (Each kind is made in a function of its own: a step is
-//! large, and where all kinds were made in one place, each cleared what only the others have.)
+//! The step of a line's command, once its key and its data are there. (Each kind is made in a function of its own: a
+//! step is large, and where all kinds were made in one place, each cleared what only the others have.)
 ghost use Rattle.std.specs.Prelude.{◌≡◌};
 ghost use Rattle.rev_requests.specs.Plain.{plain_actor, plain_payload, plain_step};
 ghost use Rattle.rev_script.specs.Steps.{storage_step, keyed_step, get, flush_step, tune_step};
