@@ -1,7 +1,2 @@
-mod Dropping
-pub mod Linking
-pub mod Paging
-pub mod Rest
-pub mod Seats
-pub mod Taking
-pub mod Telling
+pub mod Lists
+pub mod Turning

@@ -1,4 +1,5 @@
-pub mod Telling
-pub mod Taking
-pub mod Linking
-pub mod Paging
+pub mod Record
+pub mod Seen
+pub mod Leads
+pub mod Lending
+mod Shelves

@@ -1,8 +1,12 @@
-//! What steps are made of: changes of one to five moves each, and the laws by which they keep a store sound.
+//! Moves of a store, each undone by a move, and the record of those that undo a step.
 #![tactic(auto)]
 
-pub mod alter;
-pub mod enter;
-pub mod leave;
-pub mod moving;
-pub mod page;
+mod changes;
+mod parts;
+mod record;
+mod reference;
+
+pub use changes::Change;
+pub use parts::{Parts, Shelf, Unshelved};
+pub use record::{Record, place_of};
+pub use reference::RecordRef;

@@ -7,7 +7,7 @@ use Rattle.rev_model.specs.Client.{flush_at}
 use Rattle.rev_model.specs.Move.{with_part}
 use Rattle.rev_model.specs.declared.GlobalPart.TheVariants as part
 use Rattle.rev_model.specs.declared.Timing.{Timing}
-use Rattle.rev_changes.proofs.Rest.{Rest}
+use Rattle.rev_edits.proofs.Rest.{Rest}
 use Rattle.rev_commands.specs.Flushing.{flushed}
 
 -- the state with the timing of a flush at this moment

@@ -10,7 +10,7 @@ use Rattle.rev_model.specs.Words.{is_dead, header_of}
 use Rattle.rev_model.specs.Client.{lookup}
 use Rattle.std.specs.Option.{option_map}
 use Rattle.rev_model.specs.declared.ItemHeader.{ItemHeader}
-use Rattle.rev_changes.proofs.Rest.{Rest}
+use Rattle.rev_edits.proofs.Rest.{Rest}
 use Rattle.rev_model.specs.declared.ChunkRef.{ChunkRef}
 use Rattle.rev_model.specs.declared.BumpEntry.{BumpEntry}
 use Rattle.rev_commands.proofs.Looking.{Live, found_is}

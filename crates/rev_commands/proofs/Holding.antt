@@ -13,9 +13,9 @@ use Rattle.rev_model.specs.Words.{freed}
 use Rattle.rev_model.specs.Client.{removed}
 use Rattle.rev_model.specs.Sound.{SoundBut, Loose}
 use Rattle.rev_model.specs.declared.ChunkRef.{ChunkRef}
-use Rattle.rev_changes.proofs.Rest.{Rest}
-use Rattle.rev_changes.specs.Linking.{Fresh}
-use Rattle.rev_changes.proofs.Linking.{held_loose}
+use Rattle.rev_edits.proofs.Rest.{Rest}
+use Rattle.rev_edits.specs.Linking.{Fresh}
+use Rattle.rev_edits.proofs.Linking.{held_loose}
 use Rattle.rev_commands.specs.Finding.{held, held_item}
 
 -- the item that a chunk holds was removed: then its key leads nowhere

@@ -6,4 +6,4 @@ use Rattle.rev_model.specs.declared.Timing.{Timing}
 
 -- the timing after a flush at this moment
 abbrev pub flushed : Globals → ℕ → Timing
-flushed g m = cond (nat_le m g.clock) (record { clock = g.clock; mark = g.last_cas; flush = None }) (record { clock = g.clock; mark = g.mark; flush = Some m })
+flushed g m = cond (nat_le m g.clock) (record { clock = g.clock; flush_limit = g.last_cas; flush = None }) (record { clock = g.clock; flush_limit = g.flush_limit; flush = Some m })

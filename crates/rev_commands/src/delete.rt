@@ -3,17 +3,17 @@ ghost use Rattle.std.specs.Prelude.{◌≡◌, ◌+◌, ◌≤◌, length, Some,
 ghost use Rattle.rev_model.specs.Client.{delete as delete_of};
 ghost use Rattle.rev_model.specs.Sound.{Sound};
 ghost use Rattle.rev_model.specs.Move.{LeadsBack};
-ghost use Rattle.rev_moves.specs.Leads.{Leads};
+ghost use Rattle.rev_changes.specs.Leads.{Leads};
 ghost use Rattle.rev_model.specs.declared.Cause.TheVariants as causes;
-ghost use Rattle.rev_changes.specs.Telling.{Tells, TellsAll};
+ghost use Rattle.rev_edits.specs.Telling.{Tells, TellsAll};
 ghost use Rattle.rev_model.specs.Causes.{clear_removals};
 ghost use Rattle.rev_commands.specs.Looking.{removal_need};
 
 use crate::look::{lookup, removal_moves, remove};
+use rev_changes::Record;
 use rev_inverse::Store;
 use rev_items::Key;
 use rev_model::{Cause, Outcome};
-use rev_moves::Record;
 use std::alloc::{AllocError, Allocator};
 
 /// The key's item leaves: four moves, or none.

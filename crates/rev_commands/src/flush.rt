@@ -4,14 +4,14 @@ ghost use Rattle.rev_model.specs.Client.{flush_all as flush_all_of, flush_moment
 ghost use Rattle.rev_model.specs.Sound.{Sound};
 ghost use Rattle.rev_model.specs.Move.{LeadsBack};
 ghost use Rattle.rev_model.specs.State.{State};
-ghost use Rattle.rev_changes.specs.Telling.{TellsAll};
+ghost use Rattle.rev_edits.specs.Telling.{TellsAll};
 ghost use Rattle.rev_commands.specs.Flushing.{flushed};
 
-use rev_changes::moving::change;
+use rev_changes::{Change, Record};
+use rev_edits::moving::change;
 use rev_inverse::Store;
 use rev_items::moment;
 use rev_model::{Globals, Outcome, Timing};
-use rev_moves::{Move, Record};
 use std::alloc::{AllocError, Allocator};
 
 /// The second of the clock at which a flush comes that is asked for at `now`: 0, which is at once, where the delay is 0
@@ -30,13 +30,13 @@ fn flushed(globals: Globals, due: u64) -> Timing
     if due <= u64::from(globals.clock) {
         Timing {
             clock: globals.clock,
-            mark: globals.last_cas,
+            flush_limit: globals.last_cas,
             flush: None,
         }
     } else {
         Timing {
             clock: globals.clock,
-            mark: globals.mark,
+            flush_limit: globals.flush_limit,
             flush: Some(due),
         }
     }
@@ -61,6 +61,6 @@ pub fn flush_all<A: Allocator + Clone>(
     let mut undo = Record::with_room(store.alloc()?, 1)?;
     let globals = store.globals();
     let due = flush_moment(globals.clock, delay);
-    change(store, Move::Timing(flushed(globals, due)), &mut undo);
+    change(store, Change::Timing(flushed(globals, due)), &mut undo);
     Ok((Outcome::Okay, undo))
 }

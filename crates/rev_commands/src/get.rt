@@ -7,16 +7,16 @@ ghost use Rattle.rev_model.specs.Sound.{Sound};
 ghost use Rattle.rev_model.specs.Move.{LeadsBack};
 ghost use Rattle.rev_model.specs.Causes.{look_removals};
 ghost use Rattle.rev_model.specs.declared.Outcome.TheVariants as outcome;
-ghost use Rattle.rev_moves.specs.Leads.{Leads};
-ghost use Rattle.rev_changes.specs.Telling.{Tells, TellsAll};
+ghost use Rattle.rev_changes.specs.Leads.{Leads};
+ghost use Rattle.rev_edits.specs.Telling.{Tells, TellsAll};
 ghost use Rattle.rev_commands.specs.Hitting.{access_need};
 
 use crate::hit::{access_moves, hit};
 use crate::look::lookup;
+use rev_changes::Record;
 use rev_inverse::Store;
 use rev_items::Key;
 use rev_model::{ChunkRef, Outcome};
-use rev_moves::Record;
 use std::alloc::{AllocError, Allocator};
 
 /// What a hit of the chunk's item answers.

@@ -7,16 +7,16 @@ ghost use Rattle.rev_model.specs.Words.{header_of, queue_with};
 ghost use Rattle.rev_model.specs.Client.{hit as hit_of, hit_again as hit_again_of};
 ghost use Rattle.rev_model.specs.Sound.{Sound};
 ghost use Rattle.rev_model.specs.declared.Queue.{Queue};
-ghost use Rattle.rev_moves.specs.Leads.{Leads};
-ghost use Rattle.rev_changes.specs.Telling.{Tells};
+ghost use Rattle.rev_changes.specs.Leads.{Leads};
+ghost use Rattle.rev_edits.specs.Telling.{Tells};
 ghost use Rattle.rev_commands.specs.Hitting.{hit_need, access_need};
 
-use rev_changes::alter::retouch;
-use rev_changes::moving::change;
+use rev_changes::{Change, Record};
+use rev_edits::alter::retouch;
+use rev_edits::moving::change;
 use rev_inverse::Store;
 use rev_items::{Bits, Key};
 use rev_model::{BumpEntry, ChunkRef, ItemHeader, Queue, Touched, is_dead};
-use rev_moves::{Move, Record};
 use std::alloc::Allocator;
 
 /// A hit of an item of COLD that was hit before: ACTIVE is set, and the item enters the bump queue, where that has room.
@@ -46,12 +46,12 @@ fn ask_bump<A: Allocator>(
         let (time, moment) = (item.time, item.moment);
         retouch(store, chunk, Touched { bits, time, moment }, undo);
         let cas = item.cas;
-        change(store, Move::BumpIn(BumpEntry { chunk, cas }), undo);
+        change(store, Change::BumpIn(BumpEntry { chunk, cas }), undo);
     }
 }
 
 /// A hit of an item of another queue that was hit before: ACTIVE is set, and its time is now. One move.
-fn mark_active<A: Allocator>(
+fn set_active<A: Allocator>(
     store: &mut Store<A>,
     chunk: ChunkRef,
     item: ItemHeader,
@@ -95,9 +95,9 @@ fn hit_again<A: Allocator>(
     let class = store.owner(chunk.page as usize);
     match store.queue_with(class, chunk) {
         Queue::Cold => ask_bump(store, chunk, item, undo),
-        Queue::Hot => mark_active(store, chunk, item, undo),
-        Queue::Warm => mark_active(store, chunk, item, undo),
-        Queue::Temp => mark_active(store, chunk, item, undo),
+        Queue::Hot => set_active(store, chunk, item, undo),
+        Queue::Warm => set_active(store, chunk, item, undo),
+        Queue::Temp => set_active(store, chunk, item, undo),
     }
 }
 

@@ -45,7 +45,7 @@ fn live<'a, A: Allocator>(store: &'a Store<A>, key: &Key<A>) -> Option<&'a Item<
 {
     let (_, item) = store.item(key)?;
     let globals = store.globals();
-    if item.is_dead(globals.clock, globals.mark) {
+    if item.is_dead(globals.clock, globals.flush_limit) {
         return None;
     }
     Some(item)

@@ -8,18 +8,18 @@ ghost use Rattle.rev_model.specs.Client.{removed};
 ghost use Rattle.rev_model.specs.Sound.{Sound, SoundBut};
 ghost use Rattle.rev_model.specs.Causes.{found_removals};
 ghost use Rattle.rev_model.specs.declared.ChunkRef.{ChunkRef as ChunkRefOf};
-ghost use Rattle.rev_moves.specs.Leads.{Leads};
-ghost use Rattle.rev_changes.specs.Telling.{Tells};
+ghost use Rattle.rev_changes.specs.Leads.{Leads};
+ghost use Rattle.rev_edits.specs.Telling.{Tells};
 ghost use Rattle.rev_commands.specs.Looking.{found_need};
 ghost use Rattle.rev_commands.specs.Finding.{held};
 
 use crate::look::remove;
-use rev_changes::enter::link;
-use rev_changes::leave::free;
+use rev_changes::Record;
+use rev_edits::enter::link;
+use rev_edits::leave::free;
 use rev_inverse::Store;
 use rev_items::Item;
 use rev_model::ChunkRef;
-use rev_moves::Record;
 use std::alloc::Allocator;
 
 /// The item that a lookup found leaves without a cause, since its key is stored again: four moves, or none where it found

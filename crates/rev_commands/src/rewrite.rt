@@ -3,18 +3,18 @@ ghost use Rattle.std.specs.Prelude.{◌≡◌, ◌≤◌, length, [], IfOk, OnOk
 ghost use Rattle.rev_model.specs.Sound.{Sound};
 ghost use Rattle.rev_model.specs.Move.{LeadsBack};
 ghost use Rattle.rev_model.specs.Causes.{look_removals, rewrite_in_removals};
-ghost use Rattle.rev_changes.specs.Telling.{TellsAll};
+ghost use Rattle.rev_edits.specs.Telling.{TellsAll};
 ghost use Rattle.rev_commands.specs.Rewriting.{rewritten_in, named};
 ghost use Rattle.rev_commands.specs.Drafts.{Drafted, Fits, missed, unchanged, carried, carried_removals};
 
 use crate::look::{REMOVAL_MOVES, lookup, removal_moves};
 use crate::place::place;
 use crate::plan::{Draft, Plan};
+use rev_changes::Record;
 use rev_inverse::Store;
 use rev_items::Key;
 use rev_maintainer::room::plan_room;
 use rev_model::Outcome;
-use rev_moves::Record;
 use rev_requests::StoreVerb;
 use std::alloc::{AllocError, Allocator};
 

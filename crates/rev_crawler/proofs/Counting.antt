@@ -11,7 +11,7 @@ use Rattle.rev_model.specs.declared.ChunkRef.{ChunkRef}
 use Rattle.rev_model.specs.declared.Entry.{Entry}
 use Rattle.rev_model.specs.declared.Entry.TheVariants.{Chunk, Mark}
 use Rattle.rev_model.specs.declared.Queue.{Queue}
-use Rattle.rev_changes.proofs.Rest.{Rest}
+use Rattle.rev_edits.proofs.Rest.{Rest}
 
 -- ---- a mark at the end
 

@@ -19,8 +19,8 @@ use Rattle.rev_model.specs.declared.Entry.TheVariants.{Chunk, Mark}
 use Rattle.rev_model.specs.declared.Outcome.TheVariants.{Okay}
 use Rattle.rev_model.specs.declared.Queue.{Queue}
 use Rattle.rev_model.specs.declared.Queue.TheVariants.{Hot, Warm, Cold, Temp}
-use Rattle.rev_changes.proofs.Rest.{Rest}
-use Rattle.rev_changes.proofs.Seats.{place_parts}
+use Rattle.rev_edits.proofs.Rest.{Rest}
+use Rattle.rev_edits.proofs.Seats.{place_parts}
 use Rattle.rev_crawler.proofs.Passing.{case_three}
 use Rattle.rev_crawler.proofs.Counting.{has-mark_last, count-mark_last, marks-mark_last, rest-queues}
 

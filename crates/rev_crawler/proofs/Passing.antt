@@ -33,7 +33,7 @@ use Rattle.rev_model.specs.declared.Outcome.{Outcome}
 use Rattle.rev_model.specs.declared.Outcome.TheVariants as outcome
 use Rattle.rev_model.specs.declared.Listed.TheVariants.{InQueue}
 use Rattle.rev_model.specs.declared.Placed.TheVariants.{ToQueue}
-use Rattle.rev_changes.proofs.Rest.{Rest}
+use Rattle.rev_edits.proofs.Rest.{Rest}
 use Rattle.rev_crawler.proofs.Counting.{has-mark_out, count-mark_out, rest-queue}
 
 some_inj : {X : Type 0} (x y : X) → Some x ≡ Some y → x ≡ y
@@ -117,8 +117,8 @@ no_item None e = refl
 no_item (Some i) e = absurd (cc)
 
 -- the header tells whether the item is dead
-pub death : (g h : Globals) (i : PlainItem) (k : ItemHeader) (b : Bool) → g ≡ h → header_of i ≡ k → is_past g.clock g.mark k.moment k.cas ≡ b → is_dead h i ≡ b
-death g h i k b same is e = ap (λ (j : Globals). is_dead j i) (sym same) ∙ ap (λ (j : ItemHeader). is_past g.clock g.mark j.moment j.cas) is ∙ e
+pub death : (g h : Globals) (i : PlainItem) (k : ItemHeader) (b : Bool) → g ≡ h → header_of i ≡ k → is_past g.clock g.flush_limit k.moment k.cas ≡ b → is_dead h i ≡ b
+death g h i k b same is e = ap (λ (j : Globals). is_dead j i) (sym same) ∙ ap (λ (j : ItemHeader). is_past g.clock g.flush_limit j.moment j.cas) is ∙ e
 
 module _ (s : State) (c : ℕ) (q : Queue) (x : ChunkRef) where
   pub crawl_none : item_at s x ≡ None → (s, outcome.Idle) ≡ crawl_item s c q x (item_at s x)

@@ -10,14 +10,14 @@ ghost use Rattle.rev_model.specs.Causes.{crawl_removals, crawl_item_removals};
 ghost use Rattle.rev_model.specs.Track.{removal};
 ghost use Rattle.rev_model.specs.Sound.{Sound, Stands};
 ghost use Rattle.rev_model.specs.Move.{LeadsBack};
-ghost use Rattle.rev_changes.specs.Telling.{TellsAll};
+ghost use Rattle.rev_edits.specs.Telling.{TellsAll};
 
 use crate::reads::{is_class, unchanged};
-use rev_changes::leave::discard;
-use rev_changes::moving::change;
+use rev_changes::{Change, Record};
+use rev_edits::leave::discard;
+use rev_edits::moving::change;
 use rev_inverse::Store;
 use rev_model::{Cause, ChunkRef, Counter, Entry, Listed, Outcome, Placed, Queue, is_dead};
-use rev_moves::{Move, Record};
 use std::alloc::{AllocError, Allocator};
 
 /// The mark is taken out of the queue: one move.
@@ -39,7 +39,7 @@ fn end<A: Allocator + Clone>(
     let mut undo = Record::with_room(store.alloc()?, 1)?;
     change(
         store,
-        Move::Take(Listed::InQueue(class, queue, Entry::Mark)),
+        Change::Take(Listed::InQueue(class, queue, Entry::Mark)),
         &mut undo,
     );
     Ok((Outcome::Ended, undo))
@@ -96,13 +96,13 @@ fn pass<A: Allocator + Clone>(
     let mut undo = Record::with_room(store.alloc()?, 2)?;
     change(
         store,
-        Move::Take(Listed::InQueue(class, queue, Entry::Mark)),
+        Change::Take(Listed::InQueue(class, queue, Entry::Mark)),
         &mut undo,
     );
     let ahead = store.before(class, queue, Entry::Chunk(chunk));
     change(
         store,
-        Move::Put(Placed::ToQueue(class, queue, Entry::Mark, ahead)),
+        Change::Put(Placed::ToQueue(class, queue, Entry::Mark, ahead)),
         &mut undo,
     );
     Ok((Outcome::Passed, undo))

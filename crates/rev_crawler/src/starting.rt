@@ -3,13 +3,13 @@ ghost use Rattle.std.specs.Prelude.{◌≡◌, ◌≤◌, length, IfOk, OnOk, On
 ghost use Rattle.rev_model.specs.Actor.{crawl_start};
 ghost use Rattle.rev_model.specs.Sound.{Sound};
 ghost use Rattle.rev_model.specs.Move.{LeadsBack};
-ghost use Rattle.rev_changes.specs.Telling.{TellsAll};
+ghost use Rattle.rev_edits.specs.Telling.{TellsAll};
 
 use crate::reads::{is_busy, names_other, unchanged};
-use rev_changes::moving::change;
+use rev_changes::{Change, Record};
+use rev_edits::moving::change;
 use rev_inverse::Store;
 use rev_model::{ClassSet, Outcome};
-use rev_moves::{Move, Record};
 use std::alloc::{AllocError, Allocator};
 
 /// A mark enters each of the four queues of each class that the set names, at the tail, empty queues too (protocol.txt,
@@ -37,6 +37,6 @@ pub fn start<A: Allocator + Clone>(
         return unchanged(store, Outcome::Busy);
     }
     let mut undo = Record::with_room(store.alloc()?, 1)?;
-    change(store, Move::Marks(set), &mut undo);
+    change(store, Change::Marks(set), &mut undo);
     Ok((Outcome::Okay, undo))
 }

@@ -15,10 +15,10 @@ use Rattle.rev_model.specs.declared.KeyChange.{KeyChange}
 use Rattle.rev_model.specs.declared.Listed.TheVariants.{InFree, InQueue}
 use Rattle.rev_model.specs.declared.Placed.TheVariants.{ToFree, ToQueue}
 use Rattle.rev_model.proofs.Undo.{same_chunk-self}
-use Rattle.rev_moves.specs.Record.{Group, PlainRecord, IsWhole, group_of, moves_in, notes_in}
-use Rattle.rev_moves.specs.Seen.{plain_moves, plain_notes}
-use Rattle.rev_moves.specs.declared.moves.Move as kept
-use Rattle.rev_moves.specs.declared.moves.Move.TheVariants as stored
+use Rattle.rev_changes.specs.Record.{PlainChange, PlainRecord, IsWhole, plain_change, moves_in, notes_in}
+use Rattle.rev_changes.specs.Seen.{plain_moves, plain_notes}
+use Rattle.rev_changes.specs.declared.changes.Change as kept
+use Rattle.rev_changes.specs.declared.changes.Change.TheVariants as stored
 use Rattle.rev_explain.specs.Readings.{keyed_after, queue_after, or_before, keyed_through, queue_through, note_of}
 
 -- ---- a move, and those that are played before it
@@ -97,8 +97,8 @@ queue-through home lru (m ∷ ms) rest x =
     queue-by home lru m (ms ++ rest) x
     ∙ known_before (queue_after m x) (queue_through ms) (class_queue_before home lru (ms ++ rest)) (class_queue_before home lru rest) (λ y. queue-through home lru ms rest y)
 
--- what a group does to the key where `rest` is played before it, or else what that does
-abbrev pub change_or : {A : Type 0} → List ℕ → Option ChunkRef → List Move → kept.Move A → Option KeyChange → Option KeyChange
+-- what a change does to the key where `rest` is played before it, or else what that does
+abbrev pub change_or : {A : Type 0} → List ℕ → Option ChunkRef → List Move → kept.Change A → Option KeyChange → Option KeyChange
 change_or k home rest (stored.Enter q n x c i a) o = cond (same_key k i.key) (Some (record { leads = Some x; note = n })) o
 change_or k home rest (stored.Leave q n x c u) o = cond (keyed k home rest x) (Some (record { leads = None; note = n })) o
 change_or k home rest (stored.Link q c x i a n) o = cond (same_key k i.key) (Some (record { leads = Some x; note = None })) o
@@ -112,7 +112,7 @@ shifted-by : (b : ChunkRef) (o : Option KeyChange) → shift_change b o ≡ reco
 shifted-by b None = refl
 shifted-by b (Some t) = refl
 
-change-through : {A : Type 0} → (k : List ℕ) (home : Option ChunkRef) (m : kept.Move A) (rest : List Move) (more : List (Option Cause)) → key_change k home (plain_moves m ++ rest) (plain_notes m ++ more) ≡ change_or k home rest m (key_change k home rest more)
+change-through : {A : Type 0} → (k : List ℕ) (home : Option ChunkRef) (m : kept.Change A) (rest : List Move) (more : List (Option Cause)) → key_change k home (plain_moves m ++ rest) (plain_notes m ++ more) ≡ change_or k home rest m (key_change k home rest more)
 change-through k home (stored.Enter q n x c i a) rest more =
     ap (λ b. cond (cond b (same_key k i.key) (keyed k home rest x)) (Some (record { leads = Some x; note = n })) (key_change k home rest more)) (same_chunk-self x)
 change-through k home (stored.Leave q n x c u) rest more = refl
@@ -141,42 +141,42 @@ change-through k home (stored.BumpFront b) rest more = refl
 change-through k home (stored.Marks set) rest more = refl
 change-through k home (stored.Unmarks set) rest more = refl
 
--- ---- before the i-th group
+-- ---- before the i-th change
 
 drop_at : {X : Type 0} (xs : List X) (i : ℕ) (x : X) → i < length xs → x ≡ slice_index_or xs i x → drop i xs ≡ x ∷ drop (i + 1) xs
 drop_at xs i x lt e = drop_more xs i x lt ∙ ap (λ z. z ∷ drop (i + 1) xs) (sym e)
 
-pub keyed_next : (k : List ℕ) (home : Option ChunkRef) (gs : List Group) (i : ℕ) (g : Group) (x : ChunkRef) → i < length gs → g ≡ slice_index_or gs i g → keyed k home (moves_in (drop i gs)) x ≡ known_or (keyed_through k g.moves x) (keyed k home (moves_in (drop (i + 1) gs)))
+pub keyed_next : (k : List ℕ) (home : Option ChunkRef) (gs : List PlainChange) (i : ℕ) (g : PlainChange) (x : ChunkRef) → i < length gs → g ≡ slice_index_or gs i g → keyed k home (moves_in (drop i gs)) x ≡ known_or (keyed_through k g.moves x) (keyed k home (moves_in (drop (i + 1) gs)))
 keyed_next k home gs i g x lt e = ap (λ l. keyed k home (moves_in l) x) (drop_at gs i g lt e) ∙ keyed-through k home g.moves (moves_in (drop (i + 1) gs)) x
 
-pub queue_next : (home : Option ChunkRef) (lru : Option ClassQueue) (gs : List Group) (i : ℕ) (g : Group) (x : ChunkRef) → i < length gs → g ≡ slice_index_or gs i g → class_queue_before home lru (moves_in (drop i gs)) x ≡ known_or (queue_through g.moves x) (class_queue_before home lru (moves_in (drop (i + 1) gs)))
+pub queue_next : (home : Option ChunkRef) (lru : Option ClassQueue) (gs : List PlainChange) (i : ℕ) (g : PlainChange) (x : ChunkRef) → i < length gs → g ≡ slice_index_or gs i g → class_queue_before home lru (moves_in (drop i gs)) x ≡ known_or (queue_through g.moves x) (class_queue_before home lru (moves_in (drop (i + 1) gs)))
 queue_next home lru gs i g x lt e = ap (λ l. class_queue_before home lru (moves_in l) x) (drop_at gs i g lt e) ∙ queue-through home lru g.moves (moves_in (drop (i + 1) gs)) x
 
--- what the groups from the i-th on do to the key
-abbrev pub change_at : List ℕ → Option ChunkRef → List Group → ℕ → Option KeyChange
+-- what the changes from the i-th on do to the key
+abbrev pub change_at : List ℕ → Option ChunkRef → List PlainChange → ℕ → Option KeyChange
 change_at k home gs i = key_change k home (moves_in (drop i gs)) (notes_in (drop i gs))
 
-pub change_next : {A : Type 0} → (k : List ℕ) (home : Option ChunkRef) (gs : List Group) (i : ℕ) (m : kept.Move A) → i < length gs → group_of m ≡ slice_index_or gs i (group_of m)
+pub change_next : {A : Type 0} → (k : List ℕ) (home : Option ChunkRef) (gs : List PlainChange) (i : ℕ) (m : kept.Change A) → i < length gs → plain_change m ≡ slice_index_or gs i (plain_change m)
     → change_at k home gs i ≡ change_or k home (moves_in (drop (i + 1) gs)) m (change_at k home gs (i + 1))
 change_next k home gs i m lt e =
-    ap (λ l. key_change k home (moves_in l) (notes_in l)) (drop_at gs i (group_of m) lt e)
+    ap (λ l. key_change k home (moves_in l) (notes_in l)) (drop_at gs i (plain_change m) lt e)
     ∙ change-through k home m (moves_in (drop (i + 1) gs)) (notes_in (drop (i + 1) gs))
 
-pub keyed_end : (k : List ℕ) (home : Option ChunkRef) (gs : List Group) (i : ℕ) (x : ChunkRef) → length gs ≤ i → keyed k home (moves_in (drop i gs)) x ≡ is_chunk home x
+pub keyed_end : (k : List ℕ) (home : Option ChunkRef) (gs : List PlainChange) (i : ℕ) (x : ChunkRef) → length gs ≤ i → keyed k home (moves_in (drop i gs)) x ≡ is_chunk home x
 keyed_end k home gs i x le = ap (λ l. keyed k home (moves_in l) x) (drop_all i gs le)
 
-pub queue_end : (home : Option ChunkRef) (lru : Option ClassQueue) (gs : List Group) (i : ℕ) (x : ChunkRef) → length gs ≤ i → class_queue_before home lru (moves_in (drop i gs)) x ≡ cond (is_chunk home x) lru None
+pub queue_end : (home : Option ChunkRef) (lru : Option ClassQueue) (gs : List PlainChange) (i : ℕ) (x : ChunkRef) → length gs ≤ i → class_queue_before home lru (moves_in (drop i gs)) x ≡ cond (is_chunk home x) lru None
 queue_end home lru gs i x le = ap (λ l. class_queue_before home lru (moves_in l) x) (drop_all i gs le)
 
-pub change_end : (k : List ℕ) (home : Option ChunkRef) (gs : List Group) (i : ℕ) → length gs ≤ i → change_at k home gs i ≡ None
+pub change_end : (k : List ℕ) (home : Option ChunkRef) (gs : List PlainChange) (i : ℕ) → length gs ≤ i → change_at k home gs i ≡ None
 change_end k home gs i le = ap (λ l. key_change k home (moves_in l) (notes_in l)) (drop_all i gs le)
 
 -- the whole record
-pub queue_whole : (home : Option ChunkRef) (lru : Option ClassQueue) (r : PlainRecord) (x : ChunkRef) → IsWhole r → class_queue_before home lru r.moves x ≡ class_queue_before home lru (moves_in r.groups) x
+pub queue_whole : (home : Option ChunkRef) (lru : Option ClassQueue) (r : PlainRecord) (x : ChunkRef) → IsWhole r → class_queue_before home lru r.moves x ≡ class_queue_before home lru (moves_in r.changes) x
 queue_whole home lru r x whole = ap (λ l. class_queue_before home lru l x) whole.moves
 
-pub change_whole : (k : List ℕ) (home : Option ChunkRef) (r : PlainRecord) → IsWhole r → key_change k home r.moves r.notes ≡ change_at k home r.groups 0
-change_whole k home r whole = ap (λ l. key_change k home l r.notes) whole.moves ∙ ap (key_change k home (moves_in r.groups)) whole.notes
+pub change_whole : (k : List ℕ) (home : Option ChunkRef) (r : PlainRecord) → IsWhole r → key_change k home r.moves r.notes ≡ change_at k home r.changes 0
+change_whole k home r whole = ap (λ l. key_change k home l r.notes) whole.moves ∙ ap (key_change k home (moves_in r.changes)) whole.notes
 
 -- a test of two keys
 pub same_named : (r : Bool) (k l : List ℕ) → (r ≡ true → k ≡ l) → (k ≡ l → r ≡ true) → r ≡ same_key k l

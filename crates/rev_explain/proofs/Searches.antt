@@ -12,7 +12,7 @@ use Rattle.rev_model.specs.declared.EventKind.{EventKind}
 use Rattle.rev_model.specs.declared.KeyChange.{KeyChange}
 use Rattle.rev_model.specs.declared.KeyPlace.{KeyPlace}
 use Rattle.rev_model.specs.declared.Outcome.{Outcome}
-use Rattle.rev_moves.specs.Record.{PlainRecord}
+use Rattle.rev_changes.specs.Record.{PlainRecord}
 use Rattle.rev_undotree.specs.Rows.{RowsFall, at}
 use Rattle.rev_undotree.specs.Machine.{lineage}
 use Rattle.rev_undotree.specs.Positions.{SessionState}

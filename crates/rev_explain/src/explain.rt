@@ -11,10 +11,10 @@ ghost use Rattle.rev_explain.specs.Story.{told, last_left, story as story_of, wh
 
 use crate::events::{Event, EventKind, Why};
 use crate::readings::{find_before, find_change, home_of, is_key, note_of};
+use rev_changes::RecordRef;
 use rev_inverse::Store;
 use rev_items::Key;
 use rev_model::{Cause, ClassQueue, KeyPlace, Outcome, Queue};
-use rev_moves::RecordRef;
 use rev_requests::{ClientStep, KeyCommand, Step};
 use rev_undotree::{NodeId, Session};
 use std::alloc::{AllocError, Allocator};

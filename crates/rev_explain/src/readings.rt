@@ -1,16 +1,16 @@
 //! What the record of a step tells of a key: where the key was before the step, from where it is after it.
-//! A record's first group is the last that is played. So the search goes from the front, and the first group that concerns
+//! A record's first undone is the last that is played. So the search goes from the front, and the first undone that concerns
 //! the key decides.
 ghost use Rattle.std.specs.Prelude.{◌≡◌, drop, Some, None};
 ghost use Rattle.rev_model.specs.Chunk.{same_chunk};
 ghost use Rattle.rev_model.specs.Track.{same_key, has_key, is_chunk, keyed, key_change, class_queue_before, key_place_before, chunk_of};
-ghost use Rattle.rev_moves.specs.Seen.{plain_moves};
-ghost use Rattle.rev_moves.specs.Record.{IsWhole, moves_in, notes_in};
+ghost use Rattle.rev_changes.specs.Seen.{plain_moves};
+ghost use Rattle.rev_changes.specs.Record.{IsWhole, moves_in, notes_in};
 ghost use Rattle.rev_explain.specs.Readings.{keyed_through, queue_through, note_of as note_in};
 
+use rev_changes::{Change, RecordRef};
 use rev_items::{Item, Key};
 use rev_model::{Cause, ChunkRef, ClassQueue, Entry, KeyChange, KeyPlace, Listed, Placed};
-use rev_moves::{Move, RecordRef};
 use std::alloc::Allocator;
 use std::ops::ControlFlow;
 
@@ -48,69 +48,69 @@ fn has_key<A: Allocator>(key: &Key<A>, item: &Option<Item<A>>) -> bool
     }
 }
 
-/// Whether the chunk's item has the key after the group, or else which chunk to ask for before it.
+/// Whether the chunk's item has the key after the undone, or else which chunk to ask for before it.
 fn keyed_after<A: Allocator>(
-    undo: &Move<A>,
+    undo: &Change<A>,
     key: &Key<A>,
     chunk: ChunkRef,
 ) -> ControlFlow<bool, ChunkRef>
     ensures { result ≡ keyed_through key.now (plain_moves undo.now) chunk }
 {
     match undo {
-        Move::Enter {
+        Change::Enter {
             chunk: filled,
             item,
             ..
         }
-        | Move::Link {
+        | Change::Link {
             chunk: filled,
             item,
             ..
         }
-        | Move::Revive {
+        | Change::Revive {
             chunk: filled,
             item,
             ..
         } if is_same(chunk, *filled) => ControlFlow::Break(is_key(key, item.key())),
-        Move::Leave {
+        Change::Leave {
             chunk: left,
             under,
             ..
         }
-        | Move::Unlink {
+        | Change::Unlink {
             chunk: left,
             under,
             ..
         } if is_same(chunk, *left) => ControlFlow::Break(has_key(key, under)),
-        Move::Shift(from, to) if is_same(chunk, *to) => ControlFlow::Continue(*from),
-        Move::Shift(from, _) | Move::Free { chunk: from, .. } if is_same(chunk, *from) =>
+        Change::Shift(from, to) if is_same(chunk, *to) => ControlFlow::Continue(*from),
+        Change::Shift(from, _) | Change::Free { chunk: from, .. } if is_same(chunk, *from) =>
             ControlFlow::Break(false),
         _ => ControlFlow::Continue(chunk),
     }
 }
 
-/// The queue of the chunk after the group, or else which chunk to ask for before it.
+/// The queue of the chunk after the undone, or else which chunk to ask for before it.
 fn queue_after<A: Allocator>(
-    undo: &Move<A>,
+    undo: &Change<A>,
     chunk: ChunkRef,
 ) -> ControlFlow<Option<ClassQueue>, ChunkRef>
     ensures { result ≡ queue_through (plain_moves undo.now) chunk }
 {
     match undo {
-        Move::Put(Placed::ToQueue(class, queue, Entry::Chunk(put), _))
-        | Move::Enter {
+        Change::Put(Placed::ToQueue(class, queue, Entry::Chunk(put), _))
+        | Change::Enter {
             class,
             queue,
             chunk: put,
             ..
         }
-        | Move::Revive {
+        | Change::Revive {
             class,
             queue,
             chunk: put,
             ..
         }
-        | Move::Requeue {
+        | Change::Requeue {
             class,
             to: queue,
             chunk: put,
@@ -119,7 +119,7 @@ fn queue_after<A: Allocator>(
             class: *class,
             queue: *queue,
         })),
-        Move::Link {
+        Change::Link {
             class,
             queue,
             chunk: put,
@@ -128,18 +128,18 @@ fn queue_after<A: Allocator>(
             class: *class as usize,
             queue: *queue,
         })),
-        Move::Shift(from, to) if is_same(chunk, *to) => ControlFlow::Continue(*from),
-        Move::Take(Listed::InQueue(_, _, Entry::Chunk(gone)))
-        | Move::Leave { chunk: gone, .. }
-        | Move::Unlink { chunk: gone, .. }
-        | Move::Free { chunk: gone, .. }
-        | Move::Shift(gone, _)
+        Change::Shift(from, to) if is_same(chunk, *to) => ControlFlow::Continue(*from),
+        Change::Take(Listed::InQueue(_, _, Entry::Chunk(gone)))
+        | Change::Leave { chunk: gone, .. }
+        | Change::Unlink { chunk: gone, .. }
+        | Change::Free { chunk: gone, .. }
+        | Change::Shift(gone, _)
             if is_same(chunk, *gone) => ControlFlow::Break(None),
         _ => ControlFlow::Continue(chunk),
     }
 }
 
-/// Whether a chunk's item has the key once the groups from `start` on were played, where `home` is the key's chunk before
+/// Whether a chunk's item has the key once the changes from `start` on were played, where `home` is the key's chunk before
 /// them.
 fn is_keyed<A: Allocator>(
     trace: &RecordRef<A>,
@@ -148,11 +148,11 @@ fn is_keyed<A: Allocator>(
     home: Option<ChunkRef>,
     chunk: ChunkRef,
 ) -> bool
-    ensures { result ≡ keyed key.now home (moves_in (drop start trace.now.groups)) chunk }
+    ensures { result ≡ keyed key.now home (moves_in (drop start trace.now.changes)) chunk }
 {
     let mut sought = chunk;
     for i in start..trace.len() {
-        match trace.group(i) {
+        match trace.change(i) {
             None => {}
             Some(undo) => match keyed_after(undo, key, sought) {
                 ControlFlow::Break(keyed) => return keyed,
@@ -174,7 +174,7 @@ fn find_queue<A: Allocator>(
 {
     let mut sought = chunk;
     for i in 0..trace.len() {
-        match trace.group(i) {
+        match trace.change(i) {
             None => {}
             Some(undo) => match queue_after(undo, sought) {
                 ControlFlow::Break(queue) => return queue,
@@ -195,45 +195,46 @@ pub fn note_of(change: Option<KeyChange>) -> Option<Cause>
     }
 }
 
-/// What the groups from `start` on do to the key, where it leads to `home` before them.
+/// What the changes from `start` on do to the key, where it leads to `home` before them.
 fn change_from<A: Allocator>(
     trace: &RecordRef<A>,
     start: usize,
     key: &Key<A>,
     home: Option<ChunkRef>,
 ) -> Option<KeyChange>
-    ensures value { result ≡ key_change key.now home (moves_in (drop start trace.now.groups)) (notes_in (drop start trace.now.groups)) }
+    ensures value { result ≡ key_change key.now home (moves_in (drop start trace.now.changes)) (notes_in (drop start trace.now.changes)) }
     ensures whole { IsWhole trace.now }
 {
     for i in start..trace.len() {
-        let (leads, note) = match trace.group(i) {
+        let (leads, note) = match trace.change(i) {
             Some(
-                Move::Enter {
+                Change::Enter {
                     chunk,
                     item,
                     cause,
                     ..
                 },
             ) if is_key(key, item.key()) => (Some(*chunk), *cause),
-            Some(Move::Link { chunk, item, .. }) if is_key(key, item.key()) => (Some(*chunk), None),
+            Some(Change::Link { chunk, item, .. }) if is_key(key, item.key()) => (
+                Some(*chunk),
+                None,
+            ),
             Some(
-                Move::Revive {
+                Change::Revive {
                     chunk,
                     item,
                     cause,
                     ..
                 },
             ) if is_key(key, item.key()) => (Some(*chunk), *cause),
-            Some(Move::Unlink { chunk, .. }) if is_keyed(trace, i + 1, key, home, *chunk) => {
+            Some(Change::Unlink { chunk, .. }) if is_keyed(trace, i + 1, key, home, *chunk) => {
                 (None, None)
             }
-            Some(Move::Free { chunk, cause, .. }) if is_keyed(trace, i + 1, key, home, *chunk) => {
-                (None, *cause)
-            }
-            Some(Move::Leave { chunk, cause, .. }) if is_keyed(trace, i + 1, key, home, *chunk) => {
-                (None, *cause)
-            }
-            Some(Move::Shift(from, to)) if is_keyed(trace, i + 1, key, home, *from) => (
+            Some(Change::Free { chunk, cause, .. }) if is_keyed(trace, i + 1, key, home, *chunk) =>
+                { (None, *cause) }
+            Some(Change::Leave { chunk, cause, .. }) if is_keyed(trace, i + 1, key, home, *chunk) =>
+                { (None, *cause) }
+            Some(Change::Shift(from, to)) if is_keyed(trace, i + 1, key, home, *from) => (
                 Some(*to),
                 note_of(change_from(trace, i + 1, key, home)),
             ),

@@ -4,7 +4,7 @@ use Rattle.std.proofs.Common.{◌∙◌, ap, sym, subst, arith, inl, inr}
 use Rattle.std.proofs.lemmas.Bool.{cases_eq, cases_lt}
 use Rattle.std.proofs.lemmas.List.{length-append, length-set}
 use Rattle.rev_links.proofs.Grids.{slice_get-set_same, slice_get-set_other}
-use Rattle.rev_links.specs.declared.places.Place.TheVariants.{End}
+use Rattle.rev_links.specs.declared.places.RingPlace.TheVariants.{End}
 use Rattle.rev_index.specs.Chains.{ChainLink}
 use Rattle.rev_index.specs.Index.{AreEmpty}
 

@@ -6,7 +6,7 @@ use Rattle.std.specs.FinMap as fin
 use Rattle.std.proofs.lemmas.Nat.{pow_pos, pow_below}
 use Rattle.std.specs.Ordering.{nat_cmp}
 use Rattle.std.specs.Cmp.Lexicographic.{slice_cmp}
-use Rattle.rev_links.specs.declared.places.Place.TheVariants.{End, At}
+use Rattle.rev_links.specs.declared.places.RingPlace.TheVariants.{End, At}
 use Rattle.rev_links.specs.Rings.{Path, In}
 use Rattle.rev_links.proofs.Rings.{path_same}
 use Rattle.rev_items.specs.Plain.{PlainItem}

@@ -2,7 +2,7 @@
 use Rattle.std.proofs.Common.{◌≡◌, ◌≢◌, ℕ, ◌+◌, ◌*◌, ◌<◌, ◌≤◌, Option, Some, None, IsSome, List, [], length, get_or, inl, inr, refl, sym, ◌∙◌, ap, subst, arith, option_map, map}
 use Rattle.std.proofs.lemmas.Bool.{cases_lt}
 use Rattle.std.proofs.lemmas.List.{get_or_past, length-map}
-use Rattle.rev_links.specs.declared.places.Place.TheVariants.{End, At}
+use Rattle.rev_links.specs.declared.places.RingPlace.TheVariants.{End, At}
 use Rattle.rev_links.specs.Rings.{Joined, Path, In, Gap, SetsNext, SetsPrevious}
 use Rattle.rev_links.proofs.Rings.{walk_path, rest, distinct_path, first_step, length_at_most, opened_by_writes}
 use Rattle.rev_model.specs.declared.ChunkRef.{ChunkRef}

@@ -2,8 +2,8 @@
 -- Rule of this project: when links stand for the chains, and what a step of links leaves.
 use Rattle.std.specs.Prelude.{◌≡◌, ℕ, ◌%◌, Option, List, length, map, slice_get, option_map}
 use Rattle.rev_links.specs.Rings.{walk, Closed, Opened}
-use Rattle.rev_links.specs.declared.places.Place.{Place}
-use Rattle.rev_links.specs.declared.places.Place.TheVariants.{End, At}
+use Rattle.rev_links.specs.declared.places.RingPlace.{RingPlace}
+use Rattle.rev_links.specs.declared.places.RingPlace.TheVariants.{End, At}
 use Rattle.rev_links.specs.declared.places.Link.{Link}
 use Rattle.rev_model.specs.declared.ChunkRef.{ChunkRef}
 use Rattle.rev_index.specs.declared.chains.Bucket.{Bucket}
@@ -12,7 +12,7 @@ use Rattle.rev_items.specs.Hash.{hash_of}
 
 -- a bucket's end, or a chunk
 abbrev pub ChainPlace : Type 0
-ChainPlace = Place Bucket ChunkRef
+ChainPlace = RingPlace Bucket ChunkRef
 
 -- what stands behind and before a place
 abbrev pub ChainLink : Type 0

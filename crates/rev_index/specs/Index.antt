@@ -4,7 +4,7 @@ use Rattle.std.specs.Prelude.{◌≡◌, ℕ, zero, suc, ◌<◌, ◌≤◌, ◌
 use Rattle.std.specs.Ordering.{nat_cmp, eq_by_cmp}
 use Rattle.std.specs.Cmp.Lexicographic.{slice_cmp}
 use Rattle.std.specs.FinMap as map
-use Rattle.rev_links.specs.declared.places.Place.TheVariants.{End}
+use Rattle.rev_links.specs.declared.places.RingPlace.TheVariants.{End}
 use Rattle.rev_links.specs.Rings.{Path, In}
 use Rattle.rev_items.specs.Plain.{PlainItem}
 use Rattle.rev_model.specs.State.{Contents, Keys}

@@ -1,10 +1,11 @@
+//! The chains of the buckets, linked through the chunks.
 ghost use Rattle.std.specs.Prelude.{◌≡◌, ◌≢◌, ◌%◌, ◌<◌, ◌≤◌, ◌^◌, ℕ, length, Some, IsSome, vec_len};
-ghost use Rattle.rev_links.specs.declared.places.Place.TheVariants.{At};
+ghost use Rattle.rev_links.specs.declared.places.RingPlace.TheVariants.{At};
 ghost use Rattle.rev_links.specs.Rings.{SetsNext, SetsPrevious, Between, Gap};
 ghost use Rattle.rev_index.specs.Chains.{ChainPlace, link_at, next_in, previous_in, SameShape, Closes, Opens};
 
 use rev_items::bucket;
-use rev_links::{Grid, Link, Place};
+use rev_links::{Grid, Link, RingPlace};
 use rev_model::ChunkRef;
 use std::alloc::Allocator;
 
@@ -14,7 +15,7 @@ pub struct Bucket {
     pub number: u32,
 }
 
-pub type ChainPlace = Place<Bucket, ChunkRef>;
+pub type ChainPlace = RingPlace<Bucket, ChunkRef>;
 
 pub type ChainLink = Link<Bucket, ChunkRef>;
 
@@ -43,8 +44,8 @@ impl<A: Allocator> Chains<A> {
         ensures { link_at self.now.ends.items self.now.links place ≡ Some result }
     {
         match place {
-            Place::End(bucket) => self.ends[bucket.number as usize],
-            Place::At(chunk) => *self.links.get(chunk.page, chunk.slot),
+            RingPlace::End(bucket) => self.ends[bucket.number as usize],
+            RingPlace::At(chunk) => *self.links.get(chunk.page, chunk.slot),
         }
     }
 
@@ -57,8 +58,8 @@ impl<A: Allocator> Chains<A> {
         ensures shape { SameShape self.old.ends.items self.old.links self.new.ends.items self.new.links }
     {
         match place {
-            Place::End(bucket) => self.ends[bucket.number as usize] = link,
-            Place::At(chunk) => self.links.set(chunk.page, chunk.slot, link),
+            RingPlace::End(bucket) => self.ends[bucket.number as usize] = link,
+            RingPlace::At(chunk) => self.links.set(chunk.page, chunk.slot, link),
         }
     }
 
@@ -70,8 +71,8 @@ impl<A: Allocator> Chains<A> {
         ensures shape { SameShape self.old.ends.items self.old.links self.new.ends.items self.new.links }
     {
         match place {
-            Place::End(bucket) => self.ends[bucket.number as usize].next = next,
-            Place::At(chunk) => self.links.get_mut(chunk.page, chunk.slot).next = next,
+            RingPlace::End(bucket) => self.ends[bucket.number as usize].next = next,
+            RingPlace::At(chunk) => self.links.get_mut(chunk.page, chunk.slot).next = next,
         }
     }
 
@@ -83,8 +84,8 @@ impl<A: Allocator> Chains<A> {
         ensures shape { SameShape self.old.ends.items self.old.links self.new.ends.items self.new.links }
     {
         match place {
-            Place::End(bucket) => self.ends[bucket.number as usize].previous = previous,
-            Place::At(chunk) => self.links.get_mut(chunk.page, chunk.slot).previous = previous,
+            RingPlace::End(bucket) => self.ends[bucket.number as usize].previous = previous,
+            RingPlace::At(chunk) => self.links.get_mut(chunk.page, chunk.slot).previous = previous,
         }
     }
 
@@ -94,7 +95,7 @@ impl<A: Allocator> Chains<A> {
         ensures value { Closes self.old.ends.items self.old.links self.new.ends.items self.new.links chunk }
         ensures shape { SameShape self.old.ends.items self.old.links self.new.ends.items self.new.links }
     {
-        let link = self.link(Place::At(chunk));
+        let link = self.link(RingPlace::At(chunk));
         self.set_next(link.previous, link.next);
         self.set_previous(link.next, link.previous);
     }
@@ -109,13 +110,13 @@ impl<A: Allocator> Chains<A> {
     {
         let next = self.link(after).next;
         self.set_link(
-            Place::At(chunk),
+            RingPlace::At(chunk),
             Link {
                 previous: after,
                 next,
             },
         );
-        self.set_next(after, Place::At(chunk));
-        self.set_previous(next, Place::At(chunk));
+        self.set_next(after, RingPlace::At(chunk));
+        self.set_previous(next, RingPlace::At(chunk));
     }
 }

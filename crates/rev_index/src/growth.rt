@@ -1,8 +1,9 @@
+//! The table of buckets gets wider, and each chunk enters its new chain.
 ghost use Rattle.std.specs.Prelude.{◌≡◌, ◌≢◌, ◌<◌, ◌≤◌, ◌^◌, None, Some, length};
 ghost use Rattle.std.specs.FinMap as map;
 ghost use Rattle.rev_items.specs.Plain.{PlainItem};
 ghost use Rattle.rev_index.specs.Made.{at};
-ghost use Rattle.rev_links.specs.declared.places.Place.TheVariants.{At};
+ghost use Rattle.rev_links.specs.declared.places.RingPlace.TheVariants.{At};
 ghost use Rattle.rev_model.specs.declared.ChunkRef.{ChunkRef as ChunkOf};
 ghost use Rattle.rev_index.specs.Chains.{next_in};
 ghost use Rattle.rev_index.specs.Index.{IsChained, AreNew, AreEmpty, index_of, bound, bound_all, members};
@@ -12,7 +13,7 @@ use crate::item_table::ItemTable;
 use crate::making::{clear_ends, empty_ends};
 use crate::seek::home;
 use crate::sizing::{KeyRange, wanted};
-use rev_links::Place;
+use rev_links::RingPlace;
 use rev_model::ChunkRef;
 use std::alloc::{AllocError, Allocator};
 use std::mem;
@@ -33,7 +34,7 @@ pub fn enter<A: Allocator>(chains: &mut Chains<A>, items: &ItemTable<A>, chunk: 
         ≡ next_in chains.old.ends.items chains.old.links (At other) }
 {
     let bucket = home(chains, items, chunk);
-    chains.insert(chunk, Place::End(bucket));
+    chains.insert(chunk, RingPlace::End(bucket));
 }
 
 // Enters each chunk of the chains that these ends have over the same links, one bucket after another. It takes no memory:
@@ -49,14 +50,14 @@ fn enter_all<A: Allocator>(chains: &mut Chains<A>, items: &ItemTable<A>, ends: &
         ≡ record before { keys = bound_all (at items.now) (members ends.now chains.old.links) before.keys } }
 {
     let mut number = ends.len();
-    let mut place = Place::End(Bucket { number: 0 });
+    let mut place = RingPlace::End(Bucket { number: 0 });
     'chunks: loop {
         match place {
-            Place::At(chunk) => {
+            RingPlace::At(chunk) => {
                 place = chains.link(place).next;
                 enter(chains, items, chunk);
             }
-            Place::End(_) => {
+            RingPlace::End(_) => {
                 if number == 0 {
                     return;
                 }

@@ -1,3 +1,4 @@
+//! Which item a chunk holds, and in which chunk a key is.
 ghost use Rattle.std.specs.Prelude.{◌≡◌, ◌<◌, ◌+◌, ℕ, List, None, Some, IfSome, IfOk, ◌≤◌, length, slice_index, slice_set};
 ghost use Rattle.std.specs.Option.{option_copied, option_map};
 ghost use Rattle.std.specs.FinMap as map;

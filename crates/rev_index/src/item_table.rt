@@ -1,3 +1,4 @@
+//! The items of all chunks, by page and slot.
 ghost use Rattle.std.specs.Prelude.{◌≡◌, ◌<◌, ℕ, List, [], length, IfOk, IsSome, Some, slice_index_or, slice_set};
 ghost use Rattle.std.specs.Option.{option_copied};
 ghost use Rattle.rev_links.specs.Grids.{cell_at, with_cell, away};

@@ -1,12 +1,13 @@
+//! New tables and slots.
 ghost use Rattle.std.specs.Prelude.{◌≡◌, ◌≤◌, ◌^◌, ℕ, IfOk, length};
 ghost use Rattle.rev_index.specs.Index.{AllNone, AreEmpty};
 ghost use Rattle.rev_links.specs.Grids.{away};
-ghost use Rattle.rev_links.specs.declared.places.Place.TheVariants.{End};
+ghost use Rattle.rev_links.specs.declared.places.RingPlace.TheVariants.{End};
 
 use crate::chains::{Bucket, ChainLink, Chains};
 use crate::item_table::PageItems;
 use crate::parts::Slots;
-use rev_links::{Grid, Link, Place};
+use rev_links::{Grid, Link, RingPlace};
 use std::alloc::{AllocError, Allocator};
 
 // So many slots without items.
@@ -25,7 +26,7 @@ fn no_items<A: Allocator>(alloc: A, n: u16) -> Result<PageItems<A>, AllocError>
 fn no_links<A: Allocator>(alloc: A, n: u16) -> Result<Vec<ChainLink, A>, AllocError>
     ensures count { IfOk result (λ v. length v.items ≡ n) }
 {
-    let place = Place::End(Bucket { number: 0 });
+    let place = RingPlace::End(Bucket { number: 0 });
     let link = Link {
         previous: place,
         next: place,
@@ -56,7 +57,7 @@ fn buckets(hash_power: u32) -> u32
 fn empty_end(number: u32) -> ChainLink
     ensures { result ≡ record { previous = End (record { number = number }); next = End (record { number = number }) } }
 {
-    let place = Place::End(Bucket { number });
+    let place = RingPlace::End(Bucket { number });
     Link {
         previous: place,
         next: place,

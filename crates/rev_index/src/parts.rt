@@ -1,3 +1,4 @@
+//! A page's slots of the index while the page is away.
 ghost use Rattle.std.specs.Prelude.{◌≡◌, ℕ};
 
 use crate::chains::ChainLink;

@@ -1,3 +1,4 @@
+//! The search along a chain.
 ghost use Rattle.std.specs.Prelude.{◌≡◌, ◌<◌, ◌≤◌, ◌^◌, ℕ, length, Some, None, IsSome, vec_len};
 ghost use Rattle.rev_index.specs.Made.{at};
 ghost use Rattle.rev_index.specs.Chains.{chain};
@@ -6,7 +7,7 @@ ghost use Rattle.rev_index.specs.Index.{IsChained, IsHome, is_named, find_in};
 use crate::chains::{Bucket, Chains};
 use crate::item_table::ItemTable;
 use rev_items::Key;
-use rev_links::Place;
+use rev_links::RingPlace;
 use rev_model::ChunkRef;
 use std::alloc::Allocator;
 
@@ -31,15 +32,15 @@ pub fn seek<A: Allocator, B: Allocator>(
     requires bucket { bucket.number < length chains.now.ends.items }
     ensures { result ≡ find_in (at items.now) key.now (chain chains.now.ends.items chains.now.links bucket.number) None }
 {
-    let mut place = Place::End(bucket);
+    let mut place = RingPlace::End(bucket);
     'walk: loop {
         match chains.link(place).next {
-            Place::End(_) => return None,
-            Place::At(chunk) => {
+            RingPlace::End(_) => return None,
+            RingPlace::At(chunk) => {
                 if has_key(items, chunk, key) {
                     return Some(chunk);
                 }
-                place = Place::At(chunk);
+                place = RingPlace::At(chunk);
             }
         }
     }

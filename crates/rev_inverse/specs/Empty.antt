@@ -14,7 +14,7 @@ abbrev pub empty_globals : Config → Globals
 empty_globals c = record {
   clock = c.now;
   last_cas = 0;
-  mark = 0;
+  flush_limit = 0;
   flush = None;
   mover = None;
   settings = record { hot_share = 20; warm_share = 40; hot_factor = 200; warm_factor = 2000; temp_ttl = c.temp_ttl };

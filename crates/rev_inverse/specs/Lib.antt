@@ -1,4 +1,4 @@
 pub mod Fitted
 pub mod Reading
 pub mod Empty
-mod Groups
+mod Changes

@@ -1,3 +1,4 @@
+//! The crawler's marks enter and leave the queues of classes.
 ghost use Rattle.std.specs.Prelude.{◌≡◌, ℕ, ◌+◌, ◌*◌, ◌<◌, ◌≤◌, ◌++◌, ◌∷◌, [], length, true, false};
 ghost use Rattle.rev_model.specs.Chunk.{same_entry};
 ghost use Rattle.rev_model.specs.Lists.{has, distinct};

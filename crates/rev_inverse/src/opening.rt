@@ -1,3 +1,4 @@
+//! A store is opened, with nothing in it.
 ghost use Rattle.std.specs.Prelude.{◌≡◌, ◌⊎◌, ◌≤◌, ℕ, ◌+◌, ◌*◌, IfOk, IfErr, None, Ok, Some, length};
 ghost use Rattle.rev_classes.specs.Limits.{class_sizes, fault_of};
 ghost use Rattle.rev_classes.specs.declared.ConfigFault.TheVariants.{Memory};
@@ -8,12 +9,12 @@ ghost use Rattle.rev_queues.specs.QueueState.{empty_queues};
 ghost use Rattle.rev_index.specs.Index.{empty_index};
 ghost use Rattle.rev_inverse.specs.Empty.{empty_globals, empty_state};
 
-use crate::changes::COUNTERS;
+use crate::moves::COUNTERS;
 use crate::store::Store;
+use rev_changes::{Parts, Shelf};
 use rev_classes::{ClassTable, Config, ConfigFault};
 use rev_index::Index;
 use rev_model::{Globals, Settings};
-use rev_moves::{Parts, Shelf};
 use rev_pages::Pages;
 use rev_queues::Queues;
 use std::alloc::{AllocError, Allocator};
@@ -33,7 +34,7 @@ fn first_globals(config: &Config) -> Globals
     Globals {
         clock: config.now,
         last_cas: 0,
-        mark: 0,
+        flush_limit: 0,
         flush: None,
         mover: None,
         settings,
@@ -144,7 +145,7 @@ impl<A: Allocator + Clone> Store<A> {
         })
     }
 
-    /// The slots for a page of a class, which `Move::Lay` takes. This, `widen` and `open` are all that takes memory.
+    /// The slots for a page of a class, which `Change::Lay` takes. This, `widen` and `open` are all that takes memory.
     pub fn parts(&self, class: usize) -> Result<Parts<A>, AllocError>
         requires class { IsClass self.now.fixed class }
         ensures { IfOk result (λ parts. parts ≡ per_page self.now.fixed class) }
@@ -174,7 +175,7 @@ impl<A: Allocator + Clone> Store<A> {
         self.index.narrow()
     }
 
-    /// Memory for what a page leaves when `Move::Lift` lifts it.
+    /// Memory for what a page leaves when `Change::Lift` lifts it.
     ///
     /// Err: a growth was refused.
     pub fn shelf(&self) -> Result<Shelf<A>, AllocError> {

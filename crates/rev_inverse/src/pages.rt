@@ -1,11 +1,12 @@
+//! Pages are laid and lifted.
 ghost use Rattle.std.specs.Prelude.{◌≡◌, ℕ};
 ghost use Rattle.rev_model.specs.State.{WellFormed};
 ghost use Rattle.rev_model.specs.Move as plain;
 ghost use Rattle.rev_model.specs.Move.{moved, reverse, Possible};
 
 use crate::store::Store;
+use rev_changes::{Parts, Shelf, Unshelved};
 use rev_model::Form;
-use rev_moves::{Parts, Shelf, Unshelved};
 use std::alloc::Allocator;
 
 impl<A: Allocator> Store<A> {

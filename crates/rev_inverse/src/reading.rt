@@ -1,3 +1,4 @@
+//! What can be read of a store.
 ghost use Rattle.std.specs.Prelude.{◌≡◌, ℕ, ◌<◌, length, slice_get, Option, None, Some, MatchOption, true};
 ghost use Rattle.std.specs.Option.{option_copied, option_map};
 ghost use Rattle.rev_model.specs.Chunk.{same_chunk, same_entry};
@@ -8,7 +9,7 @@ ghost use Rattle.rev_model.specs.Pull.{lowest_page, owns_page};
 ghost use Rattle.rev_model.specs.declared.Queue.{Queue as QueueOf};
 ghost use Rattle.rev_inverse.specs.Reading.{next_after};
 
-use crate::changes::{COUNTERS, number};
+use crate::moves::{COUNTERS, number};
 use crate::store::Store;
 use crate::uncounted::{
     before_entry, behind_entry, behind_free, front_free, head_entry, queue_bytes, tail_chunk,

@@ -1,3 +1,4 @@
+//! An item goes from one chunk to another.
 ghost use Rattle.std.specs.Prelude.{◌≡◌, ℕ, List, Some, None};
 ghost use Rattle.std.specs.FinMap as map;
 ghost use Rattle.rev_items.specs.Plain.{PlainItem};

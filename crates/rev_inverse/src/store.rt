@@ -1,3 +1,4 @@
+//! The store, what it holds, and the two ways to change it: a change that is made, a record that is turned.
 use rev_classes::ClassTable;
 use rev_index::Index;
 use rev_model::{BumpEntry, Globals};

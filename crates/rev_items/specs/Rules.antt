@@ -20,5 +20,5 @@ moment now (pos n) = cond (nat_eq n 0) 0 (cond (nat_le n 2592000) (now + n) n)
 moment now (negsuc n) = 1
 
 -- dead: the item has expired by the clock, or was linked no later than the last flush
-abbrev pub is_past : (clock mark moment cas : ℕ) → Bool
-is_past clock mark moment cas = (not (nat_eq moment 0) && nat_le moment clock) || nat_le cas mark
+abbrev pub is_past : (clock limit moment cas : ℕ) → Bool
+is_past clock limit moment cas = (not (nat_eq moment 0) && nat_le moment clock) || nat_le cas limit

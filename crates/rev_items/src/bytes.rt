@@ -12,7 +12,7 @@ const INLINE_LENGTH: usize = 24;
 /// Where the bytes lie. Their hash stands in the room that is left beside the length or the list, in this order of the
 /// fields, so that either takes 32 bytes where the allocator takes none. Behind bytes in place there are zeros.
 #[derive(Drop)]
-enum Place<A: Allocator> {
+enum BytesPlace<A: Allocator> {
     Inline {
         length: u8,
         hash: u32,
@@ -27,7 +27,7 @@ enum Place<A: Allocator> {
 /// Bytes that are written once and then read: few of them lie in place, more on the heap.
 #[derive(Drop)]
 pub struct Bytes<A: Allocator> {
-    place: Place<A>,
+    place: BytesPlace<A>,
 }
 
 impl<A: Allocator> Model for Bytes<A> {
@@ -61,13 +61,13 @@ impl<A: Allocator> Bytes<A> {
     {
         let length = bytes.len();
         let place = if length <= INLINE_LENGTH {
-            Place::Inline {
+            BytesPlace::Inline {
                 length: length as u8,
                 hash,
                 bytes: padded(bytes),
             }
         } else {
-            Place::Heap {
+            BytesPlace::Heap {
                 hash,
                 bytes: bytes.to_vec(alloc)?,
             }
@@ -79,8 +79,8 @@ impl<A: Allocator> Bytes<A> {
         ensures { result.now ≡ self.now }
     {
         match &self.place {
-            Place::Inline { length, bytes, .. } => &bytes[..usize::from(*length)],
-            Place::Heap { bytes, .. } => bytes.as_slice(),
+            BytesPlace::Inline { length, bytes, .. } => &bytes[..usize::from(*length)],
+            BytesPlace::Heap { bytes, .. } => bytes.as_slice(),
         }
     }
 
@@ -89,8 +89,8 @@ impl<A: Allocator> Bytes<A> {
         ensures { result ≡ hash_of self.now }
     {
         match &self.place {
-            Place::Inline { hash, .. } => *hash,
-            Place::Heap { hash, .. } => *hash,
+            BytesPlace::Inline { hash, .. } => *hash,
+            BytesPlace::Heap { hash, .. } => *hash,
         }
     }
 
@@ -100,8 +100,8 @@ impl<A: Allocator> Bytes<A> {
     {
         match (&self.place, &other.place) {
             (
-                Place::Inline { length, bytes, .. },
-                Place::Inline {
+                BytesPlace::Inline { length, bytes, .. },
+                BytesPlace::Inline {
                     length: other_length,
                     bytes: other_bytes,
                     ..

@@ -1,3 +1,4 @@
+//! The hash of a key, and the bucket that a hash is in.
 ghost use Rattle.std.specs.Prelude.{◌<◌, ◌%◌, ◌≡◌};
 ghost use Rattle.rev_items.specs.Hash.{hash_of};
 

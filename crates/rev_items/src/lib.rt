@@ -152,12 +152,12 @@ pub fn moment(now: u32, exptime: i32) -> u64
 }
 
 /// Whether an item of this moment and cas number is dead at `now`, after a flush of all items up to the cas number
-/// `mark` (this project's own test, one for every reader).
-pub fn is_past(now: u32, mark: u64, moment: u64, cas: u64) -> bool
-    ensures { result ≡ is_past now mark moment cas }
+/// `limit` (this project's own test, one for every reader).
+pub fn is_past(now: u32, limit: u64, moment: u64, cas: u64) -> bool
+    ensures { result ≡ is_past now limit moment cas }
 {
     let expired = moment != 0 && moment <= u64::from(now);
-    expired || cas <= mark
+    expired || cas <= limit
 }
 
 impl<A: Allocator> Key<A> {
@@ -330,12 +330,12 @@ impl<A: Allocator> Item<A> {
         u64::from(self.footprint)
     }
 
-    /// Whether the item is dead at `now`, after a flush of all items up to the cas number `mark`: it has expired, or
+    /// Whether the item is dead at `now`, after a flush of all items up to the cas number `limit`: it has expired, or
     /// was linked no later than the flush (this project's own test, one for every reader).
-    pub fn is_dead(&self, now: u32, mark: u64) -> bool
-        ensures { result ≡ is_past now mark self.now.moment self.now.cas }
+    pub fn is_dead(&self, now: u32, limit: u64) -> bool
+        ensures { result ≡ is_past now limit self.now.moment self.now.cas }
     {
-        is_past(now, mark, self.held.moment, self.held.cas)
+        is_past(now, limit, self.held.moment, self.held.cas)
     }
 
     /// Exchanges bits, time and moment, and gives the old ones.

@@ -1,7 +1,7 @@
 -- Members of a list: what stands before one, and how one leaves and enters; and when a test tells members apart.
 use Rattle.std.specs.Prelude.{Bool, cond, Option, Some, None, List, [], ◌∷◌, ◌≡◌, ◌≢◌, true, false}
-use Rattle.rev_links.specs.declared.places.Place.{Place}
-use Rattle.rev_links.specs.declared.places.Place.TheVariants.{End, At}
+use Rattle.rev_links.specs.declared.places.RingPlace.{RingPlace}
+use Rattle.rev_links.specs.declared.places.RingPlace.TheVariants.{End, At}
 
 -- what stands before the first x, where `last` stands before the list
 abbrev pub before_from : {X : Type 0} → (X → X → Bool) → X → Option X → List X → Option X
@@ -12,7 +12,7 @@ abbrev pub before_of : {X : Type 0} → (X → X → Bool) → X → List X → 
 before_of eq x ys = before_from eq x None ys
 
 -- the place of a member, or of an end where there is none
-abbrev pub place_or : {E X : Type 0} → E → Option X → Place E X
+abbrev pub place_or : {E X : Type 0} → E → Option X → RingPlace E X
 place_or e None = End e
 place_or e (Some x) = At x
 

@@ -1,7 +1,7 @@
 -- What the links of a member tell of its neighbours in the list.
 use Rattle.std.proofs.Common.{◌≡◌, Bool, true, false, cond, Option, Some, None, List, [], ◌∷◌, inl, inr, refl, sym, ◌∙◌, ap, slice_get}
-use Rattle.rev_links.specs.declared.places.Place.{Place}
-use Rattle.rev_links.specs.declared.places.Place.TheVariants.{End, At}
+use Rattle.rev_links.specs.declared.places.RingPlace.{RingPlace}
+use Rattle.rev_links.specs.declared.places.RingPlace.TheVariants.{End, At}
 use Rattle.rev_links.specs.Rings.{member_of, Path, In}
 use Rattle.rev_links.proofs.Members.{Tells, before_from, before_of, place_or}
 use Rattle.rev_links.specs.Neighbours.{behind_of}
@@ -11,8 +11,8 @@ pub member_place : {E X : Type 0} (e : E) (o : Option X) → member_of (Some (pl
 member_place e None = refl
 member_place e (Some x) = refl
 
-module _ {E X : Type 0} (eq : X → X → Bool) (tells : Tells eq) (next previous : Place E X → Option (Place E X)) where
-  before_path_from : (e : E) (last : Option X) (xs : List X) (q : Place E X) (x : X) → Path next previous (place_or e last) xs q → In x xs
+module _ {E X : Type 0} (eq : X → X → Bool) (tells : Tells eq) (next previous : RingPlace E X → Option (RingPlace E X)) where
+  before_path_from : (e : E) (last : Option X) (xs : List X) (q : RingPlace E X) (x : X) → Path next previous (place_or e last) xs q → In x xs
       → previous (At x) ≡ Some (place_or e (before_from eq x last xs))
   before_path_from e last [] q x h m = absurd m
   before_path_from e last (y ∷ ys) q x h m = go (eq x y) refl (λ m'. before_path_from e (Some y) ys q x h.1 m')
@@ -23,16 +23,16 @@ module _ {E X : Type 0} (eq : X → X → Bool) (tells : Tells eq) (next previou
       go false t ih = ih (elim m [ inl u ↦ absurd (tells.apart x y t (sym u)) | inr w ↦ w ])
 
   -- the place before a member, in a list from an end
-  pub before_path : (e : E) (xs : List X) (q : Place E X) (x : X) → Path next previous (End e) xs q → In x xs → previous (At x) ≡ Some (place_or e (before_of eq x xs))
+  pub before_path : (e : E) (xs : List X) (q : RingPlace E X) (x : X) → Path next previous (End e) xs q → In x xs → previous (At x) ≡ Some (place_or e (before_of eq x xs))
   before_path e xs q x h m = before_path_from e None xs q x h m
 
   -- the place behind a path's first place
-  pub first_path : (p : Place E X) (xs : List X) (e : E) → Path next previous p xs (End e) → next p ≡ Some (place_or e (slice_get xs 0))
+  pub first_path : (p : RingPlace E X) (xs : List X) (e : E) → Path next previous p xs (End e) → next p ≡ Some (place_or e (slice_get xs 0))
   first_path p [] e h = h.onward
   first_path p (x ∷ xs) e h = h.0.onward
 
   -- the place behind a member, in a list to an end
-  pub behind_path : (p : Place E X) (xs : List X) (e : E) (x : X) → Path next previous p xs (End e) → In x xs → next (At x) ≡ Some (place_or e (behind_of eq x xs))
+  pub behind_path : (p : RingPlace E X) (xs : List X) (e : E) (x : X) → Path next previous p xs (End e) → In x xs → next (At x) ≡ Some (place_or e (behind_of eq x xs))
   behind_path p [] e x h m = absurd m
   behind_path p (y ∷ ys) e x h m = go (eq x y) refl (λ m'. behind_path (At y) ys e x h.1 m')
     where

@@ -1,8 +1,8 @@
 -- What steps and writes do to a list that runs through slots.
 use Rattle.std.proofs.Common.{◌≡◌, ◌≢◌, ℕ, suc, zero, ◌+◌, ◌<◌, ◌≤◌, Bool, true, false, cond, eqb, Option, Some, List, [], ◌∷◌, length, inl, inr, refl, sym, ◌∙◌, ap, subst, arith}
 use Rattle.std.proofs.lemmas.Bool.{eqb-true, eq-eqb}
-use Rattle.rev_links.specs.declared.places.Place.{Place}
-use Rattle.rev_links.specs.declared.places.Place.TheVariants.{End, At}
+use Rattle.rev_links.specs.declared.places.RingPlace.{RingPlace}
+use Rattle.rev_links.specs.declared.places.RingPlace.TheVariants.{End, At}
 use Rattle.rev_links.specs.Rings.{walk, Joined, Path, In, Closed, Opened, SetsNext, SetsPrevious}
 use Rattle.rev_links.proofs.Members.{without, insert_behind, Tells}
 
@@ -12,9 +12,9 @@ Distinct [] = Unit {0}
 Distinct (x ∷ xs) = (In x xs → ⊥) × Distinct xs
 
 -- ---- paths
-module _ {E X : Type 0} (next previous : Place E X → Option (Place E X)) where
+module _ {E X : Type 0} (next previous : RingPlace E X → Option (RingPlace E X)) where
   -- the walk along a path to an end gives the path's members
-  pub walk_path : (p : Place E X) (xs : List X) (e : E) (n : ℕ) → Path next previous p xs (End e) → length xs ≤ n → walk next n p ≡ xs
+  pub walk_path : (p : RingPlace E X) (xs : List X) (e : E) (n : ℕ) → Path next previous p xs (End e) → length xs ≤ n → walk next n p ≡ xs
   unfolding walk
   walk_path p [] e zero h l = refl
   walk_path p [] e (suc n) h l = rw (h.onward, walk) refl
@@ -24,7 +24,7 @@ module _ {E X : Type 0} (next previous : Place E X → Option (Place E X)) where
       rw (o, walk) (ap (λ ys. x ∷ ys) (walk_path (At x) xs e n h.1 (omega arith)))
 
   -- two paths from one place to ends are one path
-  pub one_path : (p : Place E X) (xs ys : List X) (e d : E) → Path next previous p xs (End e) → Path next previous p ys (End d) → (xs ≡ ys) × (e ≡ d)
+  pub one_path : (p : RingPlace E X) (xs ys : List X) (e d : E) → Path next previous p xs (End e) → Path next previous p ys (End d) → (xs ≡ ys) × (e ≡ d)
   one_path p [] [] e d h k = let u = h.onward in let v = k.onward in (refl, cc)
   one_path p [] (y ∷ ys) e d h k = let u = h.onward in let v = k.0.onward in (cc, cc)
   one_path p (x ∷ xs) [] e d h k = let u = h.0.onward in let v = k.onward in (cc, cc)
@@ -38,7 +38,7 @@ module _ {E X : Type 0} (next previous : Place E X → Option (Place E X)) where
       (cc, r.1)
 
   -- the rest of a path behind one of its members
-  pub rest : (p : Place E X) (xs : List X) (q : Place E X) (x : X) → Path next previous p xs q → In x xs
+  pub rest : (p : RingPlace E X) (xs : List X) (q : RingPlace E X) (x : X) → Path next previous p xs q → In x xs
       → (zs : List X) × Path next previous (At x) zs q × (length zs < length xs)
   rest p [] q x h m = absurd m
   rest p (y ∷ ys) q x h (inl e) = (ys, subst (λ z. Path next previous (At z) ys q) e h.1, omega arith)
@@ -55,29 +55,29 @@ module _ {E X : Type 0} (next previous : Place E X → Option (Place E X)) where
       omega arith
 
   -- two lists with a common member have one end
-  pub one_end : (p q : Place E X) (xs ys : List X) (e d : E) (x : X) → Path next previous p xs (End e) → Path next previous q ys (End d)
+  pub one_end : (p q : RingPlace E X) (xs ys : List X) (e d : E) (x : X) → Path next previous p xs (End e) → Path next previous q ys (End d)
       → In x xs → In x ys → e ≡ d
   one_end p q xs ys e d x h k m n =
       let r = rest p xs (End e) x h m in
       let s = rest q ys (End d) x k n in
       (one_path (At x) r.0 s.0 e d r.1 s.1).1
 
-  pub distinct_path : (p : Place E X) (xs : List X) (e : E) → Path next previous p xs (End e) → Distinct xs
+  pub distinct_path : (p : RingPlace E X) (xs : List X) (e : E) → Path next previous p xs (End e) → Distinct xs
   distinct_path p [] e h = tt
   distinct_path p (x ∷ xs) e h = (absent x xs e h.1, distinct_path (At x) xs e h.1)
 
-  pub first_step : (p : Place E X) (xs : List X) (q : Place E X) → Path next previous p xs q → (b : Place E X) × Joined next previous p b
+  pub first_step : (p : RingPlace E X) (xs : List X) (q : RingPlace E X) → Path next previous p xs q → (b : RingPlace E X) × Joined next previous p b
   first_step p [] q h = (q, h)
   first_step p (x ∷ xs) q h = (At x, h.0)
 
-  joined_back : (a b p : Place E X) → previous b ≡ Some a → Joined next previous p b → Joined next previous a b
+  joined_back : (a b p : RingPlace E X) → previous b ≡ Some a → Joined next previous p b → Joined next previous a b
   joined_back a b p u h = let v = h.back in let e : p ≡ a = cc in subst (λ z. Joined next previous z b) e h
 
-  joined_onward : (a b q : Place E X) → next a ≡ Some b → Joined next previous a q → Joined next previous a b
+  joined_onward : (a b q : RingPlace E X) → next a ≡ Some b → Joined next previous a q → Joined next previous a b
   joined_onward a b q u h = let v = h.onward in let e : q ≡ b = cc in subst (λ z. Joined next previous a z) e h
 
   -- what a member's link says
-  pub neighbours : (p : Place E X) (xs : List X) (q : Place E X) (x : X) (a b : Place E X) → Path next previous p xs q → In x xs
+  pub neighbours : (p : RingPlace E X) (xs : List X) (q : RingPlace E X) (x : X) (a b : RingPlace E X) → Path next previous p xs q → In x xs
       → previous (At x) ≡ Some a → next (At x) ≡ Some b → Joined next previous a (At x) × Joined next previous (At x) b
   neighbours p [] q x a b h m u v = absurd m
   neighbours p (y ∷ ys) q x a b h (inl e) u v =
@@ -88,12 +88,12 @@ module _ {E X : Type 0} (next previous : Place E X → Option (Place E X)) where
   neighbours p (y ∷ ys) q x a b h (inr m) u v = neighbours (At y) ys q x a b h.1 m u v
 
   -- what the link of a path's first place says
-  pub first_neighbour : (p : Place E X) (xs : List X) (q b : Place E X) → Path next previous p xs q → next p ≡ Some b → Joined next previous p b
+  pub first_neighbour : (p : RingPlace E X) (xs : List X) (q b : RingPlace E X) → Path next previous p xs q → next p ≡ Some b → Joined next previous p b
   first_neighbour p xs q b h v = let f = first_step p xs q h in joined_onward p b f.0 v f.1
 
 -- ---- writes
-module _ {E X : Type 0} (eq : X → X → Bool) (tells : Tells eq) (next previous next' previous' : Place E X → Option (Place E X)) where
-  step_closed : (x : X) (p n : Place E X) → Closed next previous next' previous' x p n → (s t : Place E X) → s ≢ At x → t ≢ At x → Joined next previous s t → Joined next' previous' s t
+module _ {E X : Type 0} (eq : X → X → Bool) (tells : Tells eq) (next previous next' previous' : RingPlace E X → Option (RingPlace E X)) where
+  step_closed : (x : X) (p n : RingPlace E X) → Closed next previous next' previous' x p n → (s t : RingPlace E X) → s ≢ At x → t ≢ At x → Joined next previous s t → Joined next' previous' s t
   step_closed x p n c s t sx tx h =
       let u = h.onward in
       let v = h.back in
@@ -104,14 +104,14 @@ module _ {E X : Type 0} (eq : X → X → Bool) (tells : Tells eq) (next previou
       record { onward = c.next_same s sp ∙ u; back = c.previous_same t tn ∙ v }
 
   -- a path that does not meet x stays
-  pub path_closed : (x : X) (p n : Place E X) → Closed next previous next' previous' x p n → (s : Place E X) (xs : List X) (t : Place E X) → s ≢ At x → (In x xs → ⊥) → t ≢ At x
+  pub path_closed : (x : X) (p n : RingPlace E X) → Closed next previous next' previous' x p n → (s : RingPlace E X) (xs : List X) (t : RingPlace E X) → s ≢ At x → (In x xs → ⊥) → t ≢ At x
       → Path next previous s xs t → Path next' previous' s xs t
   path_closed x p n c s [] t sx xx tx h = step_closed x p n c s t sx tx h
   path_closed x p n c s (y ∷ ys) t sx xx tx h =
-      let y' : Place E X = At y in let yx : y' ≢ At x = λ e. let f : y ≡ x = cc in xx (inl f) in
+      let y' : RingPlace E X = At y in let yx : y' ≢ At x = λ e. let f : y ≡ x = cc in xx (inl f) in
       (step_closed x p n c s (At y) sx yx h.0, path_closed x p n c (At y) ys t yx (λ m. xx (inr m)) tx h.1)
 
-  behind_closed : (x : X) (p n : Place E X) → Closed next previous next' previous' x p n → (s : Place E X) (ys : List X) (e : E) → Joined next previous s (At x) → Path next previous (At x) ys (End e)
+  behind_closed : (x : X) (p n : RingPlace E X) → Closed next previous next' previous' x p n → (s : RingPlace E X) (ys : List X) (e : E) → Joined next previous s (At x) → Path next previous (At x) ys (End e)
       → Path next' previous' s ys (End e)
   behind_closed x p n c s [] e h k =
       let a = h.back in let b = c.before.back in let f : p ≡ s = cc in
@@ -121,19 +121,19 @@ module _ {E X : Type 0} (eq : X → X → Bool) (tells : Tells eq) (next previou
       let a = h.back in let b = c.before.back in let f : p ≡ s = cc in
       let a' = k.0.onward in let b' = c.behind.onward in let f' : n ≡ At z = cc in
       let none = absent next previous x (z ∷ zs) e k in
-      let z' : Place E X = At z in let zx : z' ≢ At x = λ u. let w : z ≡ x = cc in none (inl w) in
-      let e' : Place E X = End e in let ex : e' ≢ At x = λ u. cc in (
+      let z' : RingPlace E X = At z in let zx : z' ≢ At x = λ u. let w : z ≡ x = cc in none (inl w) in
+      let e' : RingPlace E X = End e in let ex : e' ≢ At x = λ u. cc in (
         subst (λ w. Joined next' previous' w (At z)) f (subst (λ w. Joined next' previous' p w) f' c.joined),
         path_closed x p n c (At z) zs (End e) zx (λ m. none (inr m)) ex k.1,
       )
 
   -- a path that meets x is left without it
-  pub path_taken : (x : X) (p n : Place E X) → Closed next previous next' previous' x p n → (s : Place E X) (xs : List X) (e : E) → s ≢ At x → In x xs
+  pub path_taken : (x : X) (p n : RingPlace E X) → Closed next previous next' previous' x p n → (s : RingPlace E X) (xs : List X) (e : E) → s ≢ At x → In x xs
       → Path next previous s xs (End e) → Path next' previous' s (without eq x xs) (End e)
   path_taken x p n c s [] e sx m h = absurd m
   path_taken x p n c s (y ∷ ys) e sx m h = go (eq x y) refl (λ yx m'. path_taken x p n c (At y) ys e yx m' h.1)
     where
-      y' : Place E X
+      y' : RingPlace E X
       y' = At y
 
       go : (b : Bool) → eq x y ≡ b → (y' ≢ At x → In x ys → Path next' previous' y' (without eq x ys) (End e)) → Path next' previous' s (cond b ys (y ∷ without eq x ys)) (End e)
@@ -146,7 +146,7 @@ module _ {E X : Type 0} (eq : X → X → Bool) (tells : Tells eq) (next previou
           let m' : In x ys = elim m [ inl u ↦ absurd (xy (sym u)) | inr w ↦ w ] in
           (step_closed x p n c s (At y) sx yx h.0, ih yx m')
 
-  step_opened : (x : X) (a n : Place E X) → Opened next previous next' previous' x a n → (s t : Place E X) → s ≢ At x → t ≢ At x → s ≢ a → Joined next previous s t → Joined next' previous' s t
+  step_opened : (x : X) (a n : RingPlace E X) → Opened next previous next' previous' x a n → (s t : RingPlace E X) → s ≢ At x → t ≢ At x → s ≢ a → Joined next previous s t → Joined next' previous' s t
   step_opened x a n o s t sx tx sa h =
       let u = h.onward in
       let v = h.back in
@@ -155,25 +155,25 @@ module _ {E X : Type 0} (eq : X → X → Bool) (tells : Tells eq) (next previou
       record { onward = o.next_same s sa sx ∙ u; back = o.previous_same t tn tx ∙ v }
 
   -- a path that does not meet the place before x stays
-  pub path_opened : (x : X) (a n : Place E X) → Opened next previous next' previous' x a n → (s : Place E X) (xs : List X) (t : Place E X) → s ≢ At x → (In x xs → ⊥) → t ≢ At x
+  pub path_opened : (x : X) (a n : RingPlace E X) → Opened next previous next' previous' x a n → (s : RingPlace E X) (xs : List X) (t : RingPlace E X) → s ≢ At x → (In x xs → ⊥) → t ≢ At x
       → s ≢ a → ((y : X) → In y xs → At y ≢ a) → Path next previous s xs t → Path next' previous' s xs t
   path_opened x a n o s [] t sx xx tx sa none h = step_opened x a n o s t sx tx sa h
   path_opened x a n o s (y ∷ ys) t sx xx tx sa none h =
-      let y' : Place E X = At y in let yx : y' ≢ At x = λ e. let f : y ≡ x = cc in xx (inl f) in (
+      let y' : RingPlace E X = At y in let yx : y' ≢ At x = λ e. let f : y ≡ x = cc in xx (inl f) in (
         step_opened x a n o s (At y) sx yx sa h.0,
         path_opened x a n o (At y) ys t yx (λ m. xx (inr m)) tx (none y (inl refl)) (λ z m. none z (inr m)) h.1,
       )
 
   -- a path from the place before x has x in front
-  pub path_fronted : (x : X) (a n : Place E X) → Opened next previous next' previous' x a n → (xs : List X) (e : E) → (In x xs → ⊥) → ((y : X) → In y xs → At y ≢ a)
+  pub path_fronted : (x : X) (a n : RingPlace E X) → Opened next previous next' previous' x a n → (xs : List X) (e : E) → (In x xs → ⊥) → ((y : X) → In y xs → At y ≢ a)
       → Path next previous a xs (End e) → Path next' previous' a (x ∷ xs) (End e)
   path_fronted x a n o [] e xx none h =
       let u = h.onward in let v = o.joined.onward in let f : n ≡ End e = cc in
       (o.before, subst (λ z. Joined next' previous' (At x) z) f o.behind)
   path_fronted x a n o (z ∷ zs) e xx none h =
       let u = h.0.onward in let v = o.joined.onward in let f : n ≡ At z = cc in
-      let z' : Place E X = At z in let zx : z' ≢ At x = λ k. let g : z ≡ x = cc in xx (inl g) in
-      let e' : Place E X = End e in let ex : e' ≢ At x = λ k. cc in (
+      let z' : RingPlace E X = At z in let zx : z' ≢ At x = λ k. let g : z ≡ x = cc in xx (inl g) in
+      let e' : RingPlace E X = End e in let ex : e' ≢ At x = λ k. cc in (
         o.before,
         (
           subst (λ w. Joined next' previous' (At x) w) f o.behind,
@@ -182,12 +182,12 @@ module _ {E X : Type 0} (eq : X → X → Bool) (tells : Tells eq) (next previou
       )
 
   -- a path through the member before x has x behind it
-  pub path_put : (x y : X) (n : Place E X) → Opened next previous next' previous' x (At y) n → (s : Place E X) (xs : List X) (e : E) → s ≢ At x → s ≢ At y → (In x xs → ⊥) → In y xs
+  pub path_put : (x y : X) (n : RingPlace E X) → Opened next previous next' previous' x (At y) n → (s : RingPlace E X) (xs : List X) (e : E) → s ≢ At x → s ≢ At y → (In x xs → ⊥) → In y xs
       → Path next previous s xs (End e) → Path next' previous' s (insert_behind eq x y xs) (End e)
   path_put x y n o s [] e sx sy xx m h = absurd m
   path_put x y n o s (z ∷ zs) e sx sy xx m h = go (eq y z) refl (λ zx zy m'. path_put x y n o (At z) zs e zx zy (λ k. xx (inr k)) m' h.1)
     where
-      z' : Place E X
+      z' : RingPlace E X
       z' = At z
 
       zx : z' ≢ At x
@@ -198,7 +198,7 @@ module _ {E X : Type 0} (eq : X → X → Bool) (tells : Tells eq) (next previou
           let f : y ≡ z = tells.same y z t in
           let k : Path next previous (At y) zs (End e) = subst (λ w. Path next previous (At w) zs (End e)) (sym f) h.1 in
           let none = absent next previous y zs e k in
-          let y' : Place E X = At y in
+          let y' : RingPlace E X = At y in
           let apart : (w : X) → In w zs → At w ≢ y' = λ w m' u. let g : w ≡ y = cc in none (subst (λ v. In v zs) g m') in
           let r : Path next' previous' (At y) (x ∷ zs) (End e) = path_fronted x (At y) n o zs e (λ m'. xx (inr m')) apart k in
           (step_opened x (At y) n o s (At z) sx zx sy h.0, subst (λ w. Path next' previous' (At w) (x ∷ zs) (End e)) f r)
@@ -311,7 +311,7 @@ module _ {X : Type 0} (number : X → ℕ) where
 
 -- ---- a member taken out or put in by single writes
 module _ {E X : Type 0} where
-  pub closed_by_writes : (next₀ previous₀ next₁ previous₁ next₂ previous₂ : Place E X → Option (Place E X)) (x : X) (p n : Place E X)
+  pub closed_by_writes : (next₀ previous₀ next₁ previous₁ next₂ previous₂ : RingPlace E X → Option (RingPlace E X)) (x : X) (p n : RingPlace E X)
       → Joined next₀ previous₀ p (At x) → Joined next₀ previous₀ (At x) n
       → SetsNext next₀ previous₀ next₁ previous₁ p n → SetsPrevious next₁ previous₁ next₂ previous₂ n p
       → Closed next₀ previous₀ next₂ previous₂ x p n
@@ -324,14 +324,14 @@ module _ {E X : Type 0} where
         previous_same = λ q h. b.others q h ∙ a.kept q;
       }
 
-  pub opened_by_writes : (next₀ previous₀ next₁ previous₁ next₂ previous₂ next₃ previous₃ : Place E X → Option (Place E X)) (x : X) (a n : Place E X)
+  pub opened_by_writes : (next₀ previous₀ next₁ previous₁ next₂ previous₂ next₃ previous₃ : RingPlace E X → Option (RingPlace E X)) (x : X) (a n : RingPlace E X)
       → a ≢ At x → n ≢ At x → Joined next₀ previous₀ a n
       → next₁ (At x) ≡ Some n → previous₁ (At x) ≡ Some a
-      → ((q : Place E X) → q ≢ At x → next₁ q ≡ next₀ q) → ((q : Place E X) → q ≢ At x → previous₁ q ≡ previous₀ q)
+      → ((q : RingPlace E X) → q ≢ At x → next₁ q ≡ next₀ q) → ((q : RingPlace E X) → q ≢ At x → previous₁ q ≡ previous₀ q)
       → SetsNext next₁ previous₁ next₂ previous₂ a (At x) → SetsPrevious next₂ previous₂ next₃ previous₃ n (At x)
       → Opened next₀ previous₀ next₃ previous₃ x a n
   opened_by_writes next₀ previous₀ next₁ previous₁ next₂ previous₂ next₃ previous₃ x a n ax nx joined u v us vs s t =
-      let x' : Place E X = At x in
+      let x' : RingPlace E X = At x in
       let xa : x' ≢ a = λ e. ax (sym e) in
       let xn : x' ≢ n = λ e. nx (sym e) in
       record {
@@ -343,8 +343,8 @@ module _ {E X : Type 0} where
       }
 
 -- a path whose places keep their neighbours stays
-module _ {E X : Type 0} (next previous next' previous' : Place E X → Option (Place E X)) where
-  pub path_same : (p : Place E X) (xs : List X) (q : Place E X) → next' p ≡ next p
+module _ {E X : Type 0} (next previous next' previous' : RingPlace E X → Option (RingPlace E X)) where
+  pub path_same : (p : RingPlace E X) (xs : List X) (q : RingPlace E X) → next' p ≡ next p
       → ((x : X) → In x xs → (next' (At x) ≡ next (At x)) × (previous' (At x) ≡ previous (At x))) → previous' q ≡ previous q
       → Path next previous p xs q → Path next' previous' p xs q
   path_same p [] q a k b h = record { onward = a ∙ h.onward; back = b ∙ h.back }

@@ -1,3 +1,4 @@
+//! Cells by number, of which each read and write is counted.
 ghost use Rattle.std.specs.Prelude.{◌≡◌, ℕ, ◌+◌, ◌<◌, List, length, slice_get, slice_set, Some};
 ghost use Rattle.std.specs.Borrow.{sem};
 

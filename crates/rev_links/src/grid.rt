@@ -1,3 +1,4 @@
+//! Cells by page and slot, not counted.
 ghost use Rattle.std.specs.Prelude.{◌≡◌, ◌<◌, ℕ, List, [], length, IfOk, IsSome, Some, slice_index_or, slice_set};
 ghost use Rattle.rev_links.specs.Grids.{cell_at, with_cell, away};
 ghost use Rattle.std.specs.Borrow.{sem};

@@ -11,5 +11,5 @@ mod ticks;
 pub use cells::Cells;
 pub use counted::CountedGrid;
 pub use grid::Grid;
-pub use places::{Link, Place};
+pub use places::{Link, RingPlace};
 pub use ticks::Ticks;

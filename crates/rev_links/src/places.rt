@@ -1,6 +1,7 @@
+//! Places in rings, and their neighbours.
 /// A place in a ring: the end of a list, or a member of one. An end stands before the first member and after the last.
 #[derive(Clone, Copy)]
-pub enum Place<E, X> {
+pub enum RingPlace<E, X> {
     End(E),
     At(X),
 }
@@ -8,6 +9,6 @@ pub enum Place<E, X> {
 /// The neighbours of a place.
 #[derive(Clone, Copy)]
 pub struct Link<E, X> {
-    pub previous: Place<E, X>,
-    pub next: Place<E, X>,
+    pub previous: RingPlace<E, X>,
+    pub next: RingPlace<E, X>,
 }

@@ -1,3 +1,4 @@
+//! The count of reads and writes of cells.
 ghost use Rattle.std.specs.Prelude.{◌≡◌, ℕ, ◌+◌, ◌<◌};
 
 use std::marker::Model;

@@ -18,7 +18,7 @@ use Rattle.rev_model.specs.declared.Outcome.TheVariants as outcome
 use Rattle.rev_model.specs.declared.PullMode.{PullMode}
 use Rattle.rev_model.specs.declared.Queue.{Queue}
 use Rattle.rev_model.specs.declared.Queue.TheVariants.{Hot, Warm, Cold}
-use Rattle.rev_changes.specs.Taking.{paired}
+use Rattle.rev_edits.specs.Taking.{paired}
 
 some_inj : {X : Type 0} (x y : X) → Some x ≡ Some y → x ≡ y
 some_inj x y e = cc
@@ -40,9 +40,9 @@ module _ (s : State) (k : ℕ) (q : Queue) (m : PullMode) (x : ChunkRef) (i : Pl
   pub active_is : i.bits.active ≡ g.bits.active
   active_is = ap (λ (z : ItemHeader). z.bits.active) header_is
 
-  module _ (b dead : Bool) (asked : b ≡ is_past s.globals.clock s.globals.mark g.moment g.cas) (is : b ≡ dead) where
+  module _ (b dead : Bool) (asked : b ≡ is_past s.globals.clock s.globals.flush_limit g.moment g.cas) (is : b ≡ dead) where
     dead_is : is_dead s.globals i ≡ dead
-    dead_is = ap (λ (z : ItemHeader). is_past s.globals.clock s.globals.mark z.moment z.cas) header_is ∙ (sym asked ∙ is)
+    dead_is = ap (λ (z : ItemHeader). is_past s.globals.clock s.globals.flush_limit z.moment z.cas) header_is ∙ (sym asked ∙ is)
 
     pulled : pull_item s k q m x (item_at s x) ≡ cond dead (counted k counter.Reclaimed (dropped k q x i s), outcome.Reclaimed) (pull_live s k q m x i)
     pulled = ap (pull_item s k q m x) there ∙ ap (λ d. cond d (counted k counter.Reclaimed (dropped k q x i s), outcome.Reclaimed) (pull_live s k q m x i)) dead_is
@@ -50,7 +50,7 @@ module _ (s : State) (k : ℕ) (q : Queue) (m : PullMode) (x : ChunkRef) (i : Pl
     gone : item_removals s q m (item_at s x) ≡ cond dead (removal (Some i) (Some ReclaimedByPull)) (live_removals q m i)
     gone = ap (item_removals s q m) there ∙ ap (λ d. cond d (removal (Some i) (Some ReclaimedByPull)) (live_removals q m i)) dead_is
 
-  module _ (b : Bool) (asked : b ≡ is_past s.globals.clock s.globals.mark g.moment g.cas) where
+  module _ (b : Bool) (asked : b ≡ is_past s.globals.clock s.globals.flush_limit g.moment g.cas) where
     pub live_done : b ≡ false → (r : Queue) → q ≡ r → (p : State × Outcome) → p ≡ pull_live s k r m x i → p ≡ pull_item s k q m x (item_at s x)
     live_done is r e p h = h ∙ (ap (λ z. pull_live s k z m x i) (sym e) ∙ sym (pulled b false asked is))
 

@@ -22,8 +22,8 @@ use Rattle.rev_model.specs.declared.ItemHeader.{ItemHeader}
 use Rattle.rev_model.specs.declared.Outcome.TheVariants as outcome
 use Rattle.rev_model.specs.declared.Queue.{Queue}
 use Rattle.rev_model.specs.declared.Queue.TheVariants.{Warm, Cold}
-use Rattle.rev_changes.proofs.Rest.{Rest, rest-counted, rest-touched, rest-headed}
-use Rattle.rev_changes.proofs.Seats.{item_stands, owner_class}
+use Rattle.rev_edits.proofs.Rest.{Rest, rest-counted, rest-touched, rest-headed}
+use Rattle.rev_edits.proofs.Seats.{item_stands, owner_class}
 use Rattle.rev_maintainer.specs.Bumping.{is_asked, asked_item, asked, entry_need, need_from, bump_need, bumped}
 
 some_inj : {X : Type 0} (x y : X) → Some x ≡ Some y → x ≡ y

@@ -14,7 +14,7 @@ use Rattle.rev_model.specs.Words.{is_dead, tail, over, idle, dropped, headed, wi
 use Rattle.rev_model.specs.Pull.{pull, pull_tail, pull_item, pull_live, warmed, cooled, takes_all, evicts}
 use Rattle.rev_model.specs.Sound.{SoundBut, Stands}
 use Rattle.rev_model.proofs.Places.{queue_in, tail_stands}
-use Rattle.rev_changes.proofs.Rest.{Rest, rest_of, rest-counted, rest-touched, rest-headed, rest-dropped}
+use Rattle.rev_edits.proofs.Rest.{Rest, rest_of, rest-counted, rest-touched, rest-headed, rest-dropped}
 
 module _ (h : Option ChunkRef) (s : State) (sound : SoundBut h s) (c : ℕ) (class : IsClass s.fixed c) where
   rest : Rest h s

@@ -5,7 +5,7 @@ use Rattle.rev_model.specs.State.{State, free_of}
 use Rattle.rev_model.specs.Pull.{page_of}
 use Rattle.rev_model.specs.declared.ChunkRef.{ChunkRef}
 use Rattle.rev_model.specs.declared.Form.{Form}
-use Rattle.rev_changes.specs.Paging.{IsPlan}
+use Rattle.rev_edits.specs.Paging.{IsPlan}
 use Rattle.rev_maintainer.specs.declared.room.RoomPlan.{RoomPlan}
 
 -- one move for a free chunk, two for a page; else four a round, and two

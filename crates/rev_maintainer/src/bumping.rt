@@ -7,16 +7,16 @@ ghost use Rattle.rev_model.specs.State.{WellFormed, item_at, IsClass};
 ghost use Rattle.rev_model.specs.Words.{header_of};
 ghost use Rattle.rev_model.specs.Sound.{Sound, Stands};
 ghost use Rattle.rev_model.specs.Move.{LeadsBack};
-ghost use Rattle.rev_moves.specs.Leads.{Leads};
-ghost use Rattle.rev_changes.specs.Telling.{Tells, TellsAll};
+ghost use Rattle.rev_changes.specs.Leads.{Leads};
+ghost use Rattle.rev_edits.specs.Telling.{Tells, TellsAll};
 ghost use Rattle.rev_maintainer.specs.Bumping.{asked, bumped, bump_need};
 
-use rev_changes::alter::{raise, retouch, to_head};
-use rev_changes::moving::change;
+use rev_changes::{Change, Record};
+use rev_edits::alter::{raise, retouch, to_head};
+use rev_edits::moving::change;
 use rev_inverse::Store;
 use rev_items::Bits;
 use rev_model::{BumpEntry, ChunkRef, Counter, ItemHeader, Outcome, Queue, Touched};
-use rev_moves::{Move, Record};
 use std::alloc::{AllocError, Allocator};
 
 /// The item that the entry asks for: its chunk still holds the entry's cas number, and it is active and in COLD. The
@@ -98,7 +98,7 @@ fn bump_in<A: Allocator>(store: &mut Store<A>, undo: &mut Record<A>) -> Outcome
         return Outcome::Idle;
     };
     let item = asked(store, entry);
-    change(store, Move::BumpOut, undo);
+    change(store, Change::BumpOut, undo);
     match item {
         None => Outcome::Idle,
         Some(item) => {

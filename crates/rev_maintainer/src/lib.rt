@@ -8,4 +8,4 @@ pub mod room;
 mod stepping;
 
 pub use bumping::bump;
-pub use stepping::pull_step;
+pub use stepping::pull;

@@ -3,20 +3,20 @@ ghost use Rattle.std.specs.Prelude.{◌≡◌, ℕ, ◌+◌, ◌*◌, ◌<◌, �
 ghost use Rattle.rev_model.specs.State.{State, WellFormed, IsChunkOf, free_of, IsClass};
 ghost use Rattle.rev_model.specs.Pull.{squeezed, given, page_of, room_by, room};
 ghost use Rattle.rev_model.specs.Sound.{Sound, SoundBut};
-ghost use Rattle.rev_moves.specs.Leads.{Leads};
-ghost use Rattle.rev_changes.specs.Telling.{Tells};
+ghost use Rattle.rev_changes.specs.Leads.{Leads};
+ghost use Rattle.rev_edits.specs.Telling.{Tells};
 ghost use Rattle.rev_model.specs.Causes.{squeeze_removals, room_removals_by, room_removals};
-ghost use Rattle.rev_changes.specs.Taking.{paired};
-ghost use Rattle.rev_changes.specs.Paging.{IsPlan};
+ghost use Rattle.rev_edits.specs.Taking.{paired};
+ghost use Rattle.rev_edits.specs.Paging.{IsPlan};
 ghost use Rattle.rev_maintainer.specs.Rooming.{room_need, IsRoomPlan};
 
-use crate::pulls::pull;
-use rev_changes::alter::raise;
-use rev_changes::enter::take_front;
-use rev_changes::page::{NewPage, lay_page, plan_page};
+use crate::pulls::pull_queue;
+use rev_changes::Record;
+use rev_edits::alter::raise;
+use rev_edits::enter::take_front;
+use rev_edits::page::{NewPage, lay_page, plan_page};
 use rev_inverse::Store;
 use rev_model::{ChunkRef, Counter, PullMode, Queue};
-use rev_moves::Record;
 use std::alloc::{AllocError, Allocator};
 
 /// Rounds of room (this project's own figure, memcached's `do_item_alloc_pull`).
@@ -66,10 +66,10 @@ fn squeeze<A: Allocator>(store: &mut Store<A>, class: usize, undo: &mut Record<A
 {
     match store.tail(class, Queue::Cold) {
         Some(_) => {
-            let _outcome = pull(store, class, Queue::Cold, PullMode::Evicting, undo);
+            let _outcome = pull_queue(store, class, Queue::Cold, PullMode::Evicting, undo);
         }
         None => {
-            let _outcome = pull(store, class, Queue::Hot, PullMode::ShareZero, undo);
+            let _outcome = pull_queue(store, class, Queue::Hot, PullMode::ShareZero, undo);
         }
     }
 }

@@ -4,12 +4,12 @@ ghost use Rattle.rev_model.specs.Actor.{pull_step as pull_step_of};
 ghost use Rattle.rev_model.specs.Causes.{pull_step_removals};
 ghost use Rattle.rev_model.specs.Move.{is_class, LeadsBack};
 ghost use Rattle.rev_model.specs.Sound.{Sound};
-ghost use Rattle.rev_changes.specs.Telling.{TellsAll};
+ghost use Rattle.rev_edits.specs.Telling.{TellsAll};
 
-use crate::pulls::pull;
+use crate::pulls::pull_queue;
+use rev_changes::Record;
 use rev_inverse::Store;
 use rev_model::{Outcome, PullMode, Queue};
-use rev_moves::Record;
 use std::alloc::{AllocError, Allocator};
 
 /// The most moves of a pull.
@@ -26,7 +26,7 @@ fn is_class<A: Allocator>(store: &Store<A>, class: usize) -> bool
 /// one of HOT or WARM that is idle too long, or whose queue is over its share, to COLD's: Moved. Else Idle.
 ///
 /// A class outside 1 to the last is answered BadClass. Err: a growth was refused, and the store is as it was.
-pub fn pull_step<A: Allocator + Clone>(
+pub fn pull<A: Allocator + Clone>(
     store: &mut Store<A>,
     class: usize,
     queue: Queue,
@@ -43,6 +43,6 @@ pub fn pull_step<A: Allocator + Clone>(
         return Ok((Outcome::BadClass, Record::with_room(store.alloc()?, 0)?));
     }
     let mut undo = Record::with_room(store.alloc()?, MOST_MOVES)?;
-    let outcome = pull(store, class, queue, PullMode::Plain, &mut undo);
+    let outcome = pull_queue(store, class, queue, PullMode::Plain, &mut undo);
     Ok((outcome, undo))
 }

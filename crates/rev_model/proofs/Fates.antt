@@ -74,10 +74,10 @@ pub record Stays (s t : State) : Type 0 where
   pub content : t.content ≡ s.content
   pub index : t.index ≡ s.index
   pub clock : t.globals.clock ≡ s.globals.clock
-  pub mark : t.globals.mark ≡ s.globals.mark
+  pub flush_limit : t.globals.flush_limit ≡ s.globals.flush_limit
 
 pub stays : (s : State) → Stays s s
-stays s = record { content = refl; index = refl; clock = refl; mark = refl }
+stays s = record { content = refl; index = refl; clock = refl; flush_limit = refl }
 
 -- an item leaves its chunk and the index
 pub record Drops (s t : State) (x : ChunkRef) (i : PlainItem) : Type 0 where
@@ -85,7 +85,7 @@ pub record Drops (s t : State) (x : ChunkRef) (i : PlainItem) : Type 0 where
   pub content : t.content ≡ map.remove s.content x
   pub index : t.index ≡ map.remove s.index i.key
   pub clock : t.globals.clock ≡ s.globals.clock
-  pub mark : t.globals.mark ≡ s.globals.mark
+  pub flush_limit : t.globals.flush_limit ≡ s.globals.flush_limit
 
 -- an item's bits or time change
 pub record Refreshes (s t : State) (x : ChunkRef) (i j : PlainItem) : Type 0 where
@@ -93,7 +93,7 @@ pub record Refreshes (s t : State) (x : ChunkRef) (i j : PlainItem) : Type 0 whe
   pub content : t.content ≡ map.insert s.content x j
   pub index : t.index ≡ s.index
   pub clock : t.globals.clock ≡ s.globals.clock
-  pub mark : t.globals.mark ≡ s.globals.mark
+  pub flush_limit : t.globals.flush_limit ≡ s.globals.flush_limit
   pub key : j.key ≡ i.key
   pub moment : j.moment ≡ i.moment
   pub cas : j.cas ≡ i.cas
@@ -105,13 +105,13 @@ pub record Carries (s t : State) (x y : ChunkRef) (i : PlainItem) : Type 0 where
   pub content : t.content ≡ map.insert (map.remove s.content x) y i
   pub index : t.index ≡ map.insert s.index i.key y
   pub clock : t.globals.clock ≡ s.globals.clock
-  pub mark : t.globals.mark ≡ s.globals.mark
+  pub flush_limit : t.globals.flush_limit ≡ s.globals.flush_limit
 
 -- ---- the same fate
 
-life-same : (g h : Globals) (o : Option PlainItem) → h.clock ≡ g.clock → h.mark ≡ g.mark → life h o ≡ life g o
+life-same : (g h : Globals) (o : Option PlainItem) → h.clock ≡ g.clock → h.flush_limit ≡ g.flush_limit → life h o ≡ life g o
 life-same g h None c m = refl
-life-same g h (Some i) c m = ap (λ n. Some (not (is_past n h.mark i.moment i.cas))) c ∙ ap (λ n. Some (not (is_past g.clock n i.moment i.cas))) m
+life-same g h (Some i) c m = ap (λ n. Some (not (is_past n h.flush_limit i.moment i.cas))) c ∙ ap (λ n. Some (not (is_past g.clock n i.moment i.cas))) m
 
 item_of-content : (s t : State) (o : Option ChunkRef) → t.content ≡ s.content → item_of t o ≡ item_of s o
 item_of-content s t None e = refl
@@ -121,7 +121,7 @@ pub stays_fate : (s t : State) (k : List ℕ) → Stays s t → fate t k ≡ fat
 stays_fate s t k h =
     ap (λ m. fate_at t (map.get m k)) h.index
     ∙ ap (life t.globals) (item_of-content s t (find s k) h.content)
-    ∙ life-same s.globals t.globals (item_of s (find s k)) h.clock h.mark
+    ∙ life-same s.globals t.globals (item_of s (find s k)) h.clock h.flush_limit
 
 pub stays_indexed : (s t : State) → Stays s t → Indexed s → Indexed t
 stays_indexed s t h d = record {
@@ -175,7 +175,7 @@ drops_other s t x i k d h e =
       go None f = refl
       go (Some z) f =
           ap (life t.globals) (drops_item s t x i z h ∙ ap (λ b. cond b None (item_at s z)) (other_chunk s k x z i d h.there f e))
-          ∙ life-same s.globals t.globals (item_at s z) h.clock h.mark
+          ∙ life-same s.globals t.globals (item_at s z) h.clock h.flush_limit
 
 -- what the item's key had
 pub drops_was : (s t : State) (x : ChunkRef) (i : PlainItem) (k : List ℕ) → Indexed s → Drops s t x i → same_key k i.key ≡ true → fate s k ≡ Some (not (is_dead s.globals i))
@@ -213,11 +213,11 @@ refreshes_item s t x i j z h = ap (λ m. map.get m z) h.content ∙ get_put s x 
 refreshes_at : (s t : State) (x : ChunkRef) (i j : PlainItem) (z : ChunkRef) → Refreshes s t x i j → life t.globals (item_at t z) ≡ life s.globals (item_at s z)
 refreshes_at s t x i j z h = ap (life t.globals) (refreshes_item s t x i j z h) ∙ go (same_chunk z x) refl where
   go : (b : Bool) → same_chunk z x ≡ b → life t.globals (cond b (Some j) (item_at s z)) ≡ life s.globals (item_at s z)
-  go false e = life-same s.globals t.globals (item_at s z) h.clock h.mark
+  go false e = life-same s.globals t.globals (item_at s z) h.clock h.flush_limit
   go true e =
-      life-same s.globals t.globals (Some j) h.clock h.mark
-      ∙ ap (λ m. Some (not (is_past s.globals.clock s.globals.mark m j.cas))) h.moment
-      ∙ ap (λ n. Some (not (is_past s.globals.clock s.globals.mark i.moment n))) h.cas
+      life-same s.globals t.globals (Some j) h.clock h.flush_limit
+      ∙ ap (λ m. Some (not (is_past s.globals.clock s.globals.flush_limit m j.cas))) h.moment
+      ∙ ap (λ n. Some (not (is_past s.globals.clock s.globals.flush_limit i.moment n))) h.cas
       ∙ ap (life s.globals) (sym h.there) ∙ ap (λ y. life s.globals (item_at s y)) (sym (tells_chunk.exact z x e))
 
 pub refreshes_fate : (s t : State) (x : ChunkRef) (i j : PlainItem) (k : List ℕ) → Refreshes s t x i j → fate t k ≡ fate s k
@@ -277,11 +277,11 @@ pub carries_fate : (s t : State) (x y : ChunkRef) (i : PlainItem) (k : List ℕ)
 carries_fate s t x y i k d h = ap (fate_at t) (carries_find s t x y i k h) ∙ go (same_key k i.key) refl where
   other : (o : Option ChunkRef) → find s k ≡ o → same_key k i.key ≡ false → fate_at t o ≡ fate_at s o
   other None f e = refl
-  other (Some z) f e = ap (life t.globals) (carries_other s t x y i k z d h e f) ∙ life-same s.globals t.globals (item_at s z) h.clock h.mark
+  other (Some z) f e = ap (life t.globals) (carries_other s t x y i k z d h e f) ∙ life-same s.globals t.globals (item_at s z) h.clock h.flush_limit
 
   go : (b : Bool) → same_key k i.key ≡ b → fate_at t (cond b (Some y) (find s k)) ≡ fate s k
   go true e =
-      ap (life t.globals) (carries_there s t x y i h) ∙ life-same s.globals t.globals (Some i) h.clock h.mark
+      ap (life t.globals) (carries_there s t x y i h) ∙ life-same s.globals t.globals (Some i) h.clock h.flush_limit
       ∙ sym (ap (fate s) (same_key-exact k i.key e) ∙ ap (fate_at s) (d.keyed x i h.there) ∙ ap (life s.globals) h.there)
   go false e = other (find s k) refl e
 

@@ -97,16 +97,16 @@ pub record Pulls (f : Bool → Cause) (m : PullMode) : Type 0 where
 
 module _ (f : Bool → Cause) (k : List ℕ) (s : State) (d : Indexed s) where
   warmed_goes : (c : ℕ) (q : Queue) (n : Counter) (x : ChunkRef) (i : PlainItem) → item_at s x ≡ Some i → Goes f k s (warmed c q n x i s) []
-  warmed_goes c q n x i e = goes_refreshes f k s (warmed c q n x i s) x i (inactive i) d record { there = e; content = refl; index = refl; clock = refl; mark = refl; key = refl; moment = refl; cas = refl }
+  warmed_goes c q n x i e = goes_refreshes f k s (warmed c q n x i s) x i (inactive i) d record { there = e; content = refl; index = refl; clock = refl; flush_limit = refl; key = refl; moment = refl; cas = refl }
 
   cooled_goes : (c : ℕ) (q : Queue) (x : ChunkRef) → Goes f k s (cooled c q x s) []
-  cooled_goes c q x = goes_stays f k s (cooled c q x s) d record { content = refl; index = refl; clock = refl; mark = refl }
+  cooled_goes c q x = goes_stays f k s (cooled c q x s) d record { content = refl; index = refl; clock = refl; flush_limit = refl }
 
   still_goes : Goes f k s s []
   still_goes = goes_stays f k s s d (stays s)
 
   dropped_goes : (c : ℕ) (q : Queue) (n : Counter) (x : ChunkRef) (i : PlainItem) (b : Cause) → item_at s x ≡ Some i → b ≡ f (not (is_dead s.globals i)) → Goes f k s (counted c n (dropped c q x i s)) (removal (Some i) (Some b))
-  dropped_goes c q n x i b e g = goes_drops f k s (counted c n (dropped c q x i s)) x i b d record { there = e; content = refl; index = refl; clock = refl; mark = refl } g
+  dropped_goes c q n x i b e g = goes_drops f k s (counted c n (dropped c q x i s)) x i b d record { there = e; content = refl; index = refl; clock = refl; flush_limit = refl } g
 
   live_goes : (c : ℕ) (q : Queue) (m : PullMode) (x : ChunkRef) (i : PlainItem) → Pulls f m → item_at s x ≡ Some i → is_dead s.globals i ≡ false → Goes f k s (pull_live s c q m x i).0 (live_removals q m i)
   live_goes c Hot m x i p e l =
@@ -154,13 +154,13 @@ fronted_stays : (s u : State) (c : ℕ) (l : List ChunkRef) (r : State × ChunkR
 fronted_stays s u c [] r h e = absurd (false≢true (ap is_some e))
 fronted_stays s u c (x ∷ xs) r h e =
     let same : (with_free u c xs, x) ≡ r = cc in
-    subst (λ (v : State × ChunkRef). Stays s v.0) same record { content = h.content; index = h.index; clock = h.clock; mark = h.mark }
+    subst (λ (v : State × ChunkRef). Stays s v.0) same record { content = h.content; index = h.index; clock = h.clock; flush_limit = h.flush_limit }
 
 carved_stays : (s : State) (c : ℕ) (o : Option (ℕ × Form)) → Stays s (carved s c o)
 carved_stays s c None = stays s
-carved_stays s c (Some (p, Fresh)) = record { content = refl; index = refl; clock = refl; mark = refl }
-carved_stays s c (Some (p, Pool)) = record { content = refl; index = refl; clock = refl; mark = refl }
-carved_stays s c (Some (p, Withdrawn)) = record { content = refl; index = refl; clock = refl; mark = refl }
+carved_stays s c (Some (p, Fresh)) = record { content = refl; index = refl; clock = refl; flush_limit = refl }
+carved_stays s c (Some (p, Pool)) = record { content = refl; index = refl; clock = refl; flush_limit = refl }
+carved_stays s c (Some (p, Withdrawn)) = record { content = refl; index = refl; clock = refl; flush_limit = refl }
 
 or_carved_stays : (s : State) (c : ℕ) (o : Option (State × ChunkRef)) (r : State × ChunkRef) → ((q : State × ChunkRef) → o ≡ Some q → Stays s q.0) → or_carved s c o ≡ Some r → Stays s r.0
 or_carved_stays s c (Some q) r h e = h r e
@@ -174,7 +174,7 @@ round_goes k s c rs later d None h g = g
 round_goes k s c rs later d (Some (t, x)) h g = goes_stays room_cause k s t d (h (t, x) refl)
 
 rounds_go : (n : ℕ) (k : List ℕ) (s : State) (c : ℕ) → Indexed s → Goes room_cause k s (room_by n s c).0 (room_removals_by n s c)
-rounds_go zero k s c d = goes_stays room_cause k s (counted c counter.OutOfMemory s) d record { content = refl; index = refl; clock = refl; mark = refl }
+rounds_go zero k s c d = goes_stays room_cause k s (counted c counter.OutOfMemory s) d record { content = refl; index = refl; clock = refl; flush_limit = refl }
 rounds_go (suc n) k s c d =
     let first : Goes room_cause k s (squeezed s c) (squeeze_removals s c) = squeeze_goes k s c d (tail (queue_of s c Cold)) in
     round_goes k s c (squeeze_removals s c ++ room_removals_by n (squeezed s c) c) (room_by n (squeezed s c) c) d (given s c) (given_stays s c)

@@ -23,7 +23,7 @@ module _ (k : List ℕ) (s : State) (d : Indexed s) where
   looked_goes x None e = goes_stays (cause_by ByLookup) k s s d (stays s)
   looked_goes x (Some i) e = go (is_dead s.globals i) where
     go : (b : Bool) → Goes (cause_by ByLookup) k s (cond {A = State × Option (ChunkRef × PlainItem)} b (dropped (owner_of s x.page) (queue_with s (owner_of s x.page) x) x i s, None) (s, Some (x, i))).0 (cond b (removal (Some i) (Some ReclaimedByHit)) [])
-    go true = goes_drops (cause_by ByLookup) k s (dropped (owner_of s x.page) (queue_with s (owner_of s x.page) x) x i s) x i ReclaimedByHit d record { there = e; content = refl; index = refl; clock = refl; mark = refl } refl
+    go true = goes_drops (cause_by ByLookup) k s (dropped (owner_of s x.page) (queue_with s (owner_of s x.page) x) x i s) x i ReclaimedByHit d record { there = e; content = refl; index = refl; clock = refl; flush_limit = refl } refl
     go false = goes_stays (cause_by ByLookup) k s s d (stays s)
 
   look_at_goes : (o : Option ChunkRef) → Goes (cause_by ByLookup) k s (looked_at s o).0 (looked_removals s o)
@@ -72,7 +72,7 @@ module _ (s : State) (l : List ℕ) (d : Indexed s) (x : ChunkRef) (i : PlainIte
 pub cleared_goes : (f : Bool → Cause) (c : Cause) (k : List ℕ) (s : State) → Indexed s → ((a : Bool) → c ≡ f a) → (o : Option (ChunkRef × PlainItem)) → ((x : ChunkRef) (i : PlainItem) → o ≡ Some (x, i) → item_at s x ≡ Some i) → Goes f k s (removed o s) (found_removals (Some c) o)
 cleared_goes f c k s d e None h = goes_stays f k s s d (stays s)
 cleared_goes f c k s d e (Some (x, i)) h =
-    goes_drops f k s (dropped (owner_of s x.page) (queue_with s (owner_of s x.page) x) x i s) x i c d record { there = h x i refl; content = refl; index = refl; clock = refl; mark = refl } (e (not (is_dead s.globals i)))
+    goes_drops f k s (dropped (owner_of s x.page) (queue_with s (owner_of s x.page) x) x i s) x i c d record { there = h x i refl; content = refl; index = refl; clock = refl; flush_limit = refl } (e (not (is_dead s.globals i)))
 
 -- ---- from parts to the cause
 

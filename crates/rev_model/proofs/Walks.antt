@@ -215,7 +215,7 @@ delete_end s (Some f) = refl
 
 flush_index : (s : State) (m : ℕ) → (flush_at s m).index ≡ s.index
 flush_index s m = go (nat_le m s.globals.clock) where
-  go : (b : Bool) → (cond b (record s { globals = record s.globals { mark = s.globals.last_cas; flush = None } }) (record s { globals = record s.globals { flush = Some m } })).index ≡ s.index
+  go : (b : Bool) → (cond b (record s { globals = record s.globals { flush_limit = s.globals.last_cas; flush = None } }) (record s { globals = record s.globals { flush = Some m } })).index ≡ s.index
   go true = refl
   go false = refl
 
@@ -246,11 +246,11 @@ crawl_item_goes k s d c q x (Some i) e =
     let dead : State × Outcome = (counted c counter.CrawlerReclaimed (dropped c q x i s), outcome.Reclaimed) in
     let live : State × Outcome = (passed s c q (Chunk x) (without same_entry Mark (queue_of s c q)), outcome.Passed) in
     goes_cond (cause_by ByCrawl) k s (removal (Some i) (Some ReclaimedByCrawler)) [] (is_dead s.globals i) dead live
-    (goes_drops (cause_by ByCrawl) k s dead.0 x i ReclaimedByCrawler d record { there = e; content = refl; index = refl; clock = refl; mark = refl } refl)
-    (goes_stays (cause_by ByCrawl) k s live.0 d record { content = refl; index = refl; clock = refl; mark = refl })
+    (goes_drops (cause_by ByCrawl) k s dead.0 x i ReclaimedByCrawler d record { there = e; content = refl; index = refl; clock = refl; flush_limit = refl } refl)
+    (goes_stays (cause_by ByCrawl) k s live.0 d record { content = refl; index = refl; clock = refl; flush_limit = refl })
 
 crawl_entry_goes : (k : List ℕ) (s : State) → Indexed s → (c : ℕ) (q : Queue) (o : Option Entry) → Goes (cause_by ByCrawl) k s (crawl_entry s c q o).0 (crawl_entry_removals s o)
-crawl_entry_goes k s d c q None = goes_stays (cause_by ByCrawl) k s (crawl_entry s c q None).0 d record { content = refl; index = refl; clock = refl; mark = refl }
+crawl_entry_goes k s d c q None = goes_stays (cause_by ByCrawl) k s (crawl_entry s c q None).0 d record { content = refl; index = refl; clock = refl; flush_limit = refl }
 crawl_entry_goes k s d c q (Some (Chunk x)) = crawl_item_goes k s d c q x (item_at s x) refl
 crawl_entry_goes k s d c q (Some Mark) = goes_stays (cause_by ByCrawl) k s s d (stays s)
 
@@ -288,16 +288,16 @@ spare_empty s well p c y e = empty_item (item_at s y) (λ h. false≢true (sym (
 
 rescue_goes : (k : List ℕ) (s : State) → Indexed s → (m : Mover) (c : ℕ) (x : ChunkRef) (i : PlainItem) → item_at s x ≡ Some i → is_dead s.globals i ≡ false → (o : Option ChunkRef) → ((y : ChunkRef) → o ≡ Some y → item_at s y ≡ None) → Goes (cause_by ByAdvance) k s (next_slot m (rescued s c x i o)).0 (rescue_removals i o)
 rescue_goes k s d m c x i e l None h =
-    goes_drops (cause_by ByAdvance) k s (next_slot m (rescued s c x i None)).0 x i EvictedByMover d record { there = e; content = refl; index = refl; clock = refl; mark = refl } (ap (λ b. cause_by ByAdvance (not b)) (sym l))
+    goes_drops (cause_by ByAdvance) k s (next_slot m (rescued s c x i None)).0 x i EvictedByMover d record { there = e; content = refl; index = refl; clock = refl; flush_limit = refl } (ap (λ b. cause_by ByAdvance (not b)) (sym l))
 rescue_goes k s d m c x i e l (Some y) h =
-    goes_carries (cause_by ByAdvance) k s (next_slot m (rescued s c x i (Some y))).0 x y i d record { there = e; empty = h y refl; content = refl; index = refl; clock = refl; mark = refl }
+    goes_carries (cause_by ByAdvance) k s (next_slot m (rescued s c x i (Some y))).0 x y i d record { there = e; empty = h y refl; content = refl; index = refl; clock = refl; flush_limit = refl }
 
 cleared_item_goes : (k : List ℕ) (s : State) → Indexed s → WellFormed s → (m : Mover) (c : ℕ) (x : ChunkRef) (o : Option PlainItem) → item_at s x ≡ o → Goes (cause_by ByAdvance) k s (next_slot m (cleared s c x o)).0 (cleared_removals s c x o)
-cleared_item_goes k s d well m c x None e = goes_stays (cause_by ByAdvance) k s (next_slot m (cleared s c x None)).0 d record { content = refl; index = refl; clock = refl; mark = refl }
+cleared_item_goes k s d well m c x None e = goes_stays (cause_by ByAdvance) k s (next_slot m (cleared s c x None)).0 d record { content = refl; index = refl; clock = refl; flush_limit = refl }
 cleared_item_goes k s d well m c x (Some i) e = go (is_dead s.globals i) refl where
   go : (b : Bool) → is_dead s.globals i ≡ b → Goes (cause_by ByAdvance) k s (next_slot m (cond b (counted c counter.Reclaimed (unlinked c (queue_with s c x) x i s), outcome.Reclaimed) (rescued s c x i (spare x.page (free_of s c))))).0 (cond b (removal (Some i) (Some ReclaimedByMover)) (rescue_removals i (spare x.page (free_of s c))))
   go true f =
-      goes_drops (cause_by ByAdvance) k s (next_slot m (counted c counter.Reclaimed (unlinked c (queue_with s c x) x i s), outcome.Reclaimed)).0 x i ReclaimedByMover d record { there = e; content = refl; index = refl; clock = refl; mark = refl } (ap (λ b. cause_by ByAdvance (not b)) (sym f))
+      goes_drops (cause_by ByAdvance) k s (next_slot m (counted c counter.Reclaimed (unlinked c (queue_with s c x) x i s), outcome.Reclaimed)).0 x i ReclaimedByMover d record { there = e; content = refl; index = refl; clock = refl; flush_limit = refl } (ap (λ b. cause_by ByAdvance (not b)) (sym f))
   go false f = rescue_goes k s d m c x i e f (spare x.page (free_of s c)) (λ y g. spare_empty s well x.page c y g)
 
 stays_either : (s t u : State) (b : Bool) → Stays s t → Stays s u → Stays s (cond b t u)
@@ -310,8 +310,8 @@ handed_stays s m =
     (record s { owner = slice_set s.owner m.page 0; globals = record s.globals { mover = None } })
     (record s { owner = slice_set s.owner m.page m.dst; free = slice_set s.free m.dst (falling m.page (per_page s.fixed m.dst) ++ free_of s m.dst); globals = record s.globals { mover = None } })
     (nat_eq m.dst 0)
-    record { content = refl; index = refl; clock = refl; mark = refl }
-    record { content = refl; index = refl; clock = refl; mark = refl }
+    record { content = refl; index = refl; clock = refl; flush_limit = refl }
+    record { content = refl; index = refl; clock = refl; flush_limit = refl }
 
 advance_goes : (k : List ℕ) (s : State) → Indexed s → WellFormed s → (o : Option Mover) → Goes (cause_by ByAdvance) k s (advance_of s o).0 (advance_removals_of s o)
 advance_goes k s d well None = goes_stays (cause_by ByAdvance) k s s d (stays s)

@@ -39,7 +39,7 @@ is_due (Some m) n = nat_le m n
 
 -- the globals with the clock at n: a flush that is due then covers all items stored so far
 abbrev pub at_clock : ℕ → Globals → Globals
-at_clock n g = cond (is_due g.flush n) (record g { clock = n; mark = g.last_cas; flush = None }) (record g { clock = n })
+at_clock n g = cond (is_due g.flush n) (record g { clock = n; flush_limit = g.last_cas; flush = None }) (record g { clock = n })
 
 -- the clock is set, and never back
 abbrev pub clock : State → ℕ → State × Outcome

@@ -247,7 +247,7 @@ flush_moment now (Some (negsuc n)) = 0
 
 -- a flush at a moment: at once where it is not after the clock, else it is pending
 abbrev pub flush_at : State → ℕ → State
-flush_at s m = cond (nat_le m s.globals.clock) (record s { globals = record s.globals { mark = s.globals.last_cas; flush = None } }) (record s { globals = record s.globals { flush = Some m } })
+flush_at s m = cond (nat_le m s.globals.clock) (record s { globals = record s.globals { flush_limit = s.globals.last_cas; flush = None } }) (record s { globals = record s.globals { flush = Some m } })
 
 -- flush_all
 abbrev pub flush_all : State → Option ℤ → State × Outcome

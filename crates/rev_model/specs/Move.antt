@@ -124,14 +124,14 @@ retouched t (Some i) = touched_of i
 -- the globals with this part
 abbrev pub with_part : GlobalPart → Globals → Globals
 with_part (LastCas n) g = record g { last_cas = n }
-with_part (Timing t) g = record g { clock = t.clock; mark = t.mark; flush = t.flush }
+with_part (Timing t) g = record g { clock = t.clock; flush_limit = t.flush_limit; flush = t.flush }
 with_part (Mover m) g = record g { mover = m }
 with_part (Settings w) g = record g { settings = w }
 
 -- the same part, as the globals have it
 abbrev pub part_like : GlobalPart → Globals → GlobalPart
 part_like (LastCas n) g = LastCas g.last_cas
-part_like (Timing t) g = Timing record { clock = g.clock; mark = g.mark; flush = g.flush }
+part_like (Timing t) g = Timing record { clock = g.clock; flush_limit = g.flush_limit; flush = g.flush }
 part_like (Mover m) g = Mover g.mover
 part_like (Settings w) g = Settings g.settings
 

@@ -33,7 +33,7 @@ abbrev pub away : Option Mover → Option ChunkRef → ChunkRef → ℕ
 away m h x = cond (is_withdrawn m x) 1 0 + cond (is_held h x) 1 0
 
 -- each chunk of an owned page stands in one list, or is withdrawn, or held
-pub record Placed (f : Fixed) (owner : List ℕ) (free : List (List ChunkRef)) (queues : List (List Entry)) (m : Option Mover) (h : Option ChunkRef) : Type 0 where
+pub record EachPlaced (f : Fixed) (owner : List ℕ) (free : List (List ChunkRef)) (queues : List (List Entry)) (m : Option Mover) (h : Option ChunkRef) : Type 0 where
   pub once : (x : ChunkRef) → IsChunkOf f owner (slice_index owner x.page) x → stands_in free queues x + away m h x ≡ 1
 
 -- a chunk with an item stands in a queue; the item's key leads to it, and its class is that of its footprint
@@ -75,7 +75,7 @@ pub record Kept (f : Fixed) (owner : List ℕ) (m : Option Mover) (g : Settings)
 -- sound, but for the chunk h, which a step holds
 pub record SoundBut (h : Option ChunkRef) (s : State) : Type 0 where
   pub well : WellFormed s
-  pub placed : Placed s.fixed s.owner s.free s.queues s.globals.mover h
+  pub placed : EachPlaced s.fixed s.owner s.free s.queues s.globals.mover h
   pub filed : Filed s.fixed s.owner s.queues s.content s.index
   pub kept : Kept s.fixed s.owner s.globals.mover s.globals.settings
 

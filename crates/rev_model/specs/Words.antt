@@ -27,7 +27,7 @@ class_of f n = class_from 1 f.sizes n
 
 -- a dead item: its moment is past, or a flush covers its cas number
 abbrev pub is_dead : Globals → PlainItem → Bool
-is_dead g i = is_past g.clock g.mark i.moment i.cas
+is_dead g i = is_past g.clock g.flush_limit i.moment i.cas
 
 -- what is read of an item at a time
 abbrev pub header_of : PlainItem → ItemHeader

@@ -100,22 +100,22 @@ pub struct Settings {
     pub temp_ttl: i32,
 }
 
-/// The clock (seconds), and what a flush goes by: the flush mark (items up to it are dead) and the moment of a pending
+/// The clock (seconds), and what a flush goes by: the flush limit (items up to it are dead) and the moment of a pending
 /// flush.
 #[derive(Clone, Copy, Debug, PartialEq, Eq)]
 pub struct Timing {
     pub clock: u32,
-    pub mark: u64,
+    pub flush_limit: u64,
     pub flush: Option<u64>,
 }
 
-/// What stands once in a store: the clock (seconds), the last cas number, the flush mark (items up to it are dead), the
+/// What stands once in a store: the clock (seconds), the last cas number, the flush limit (items up to it are dead), the
 /// moment of a pending flush, the page move under way and the settings.
 #[derive(Clone, Copy, Debug, PartialEq, Eq)]
 pub struct Globals {
     pub clock: u32,
     pub last_cas: u64,
-    pub mark: u64,
+    pub flush_limit: u64,
     pub flush: Option<u64>,
     pub mover: Option<Mover>,
     pub settings: Settings,
@@ -223,12 +223,12 @@ pub struct KeyChange {
     pub note: Option<Cause>,
 }
 
-/// Whether an item is dead: its moment is past, or its cas number is at most the flush mark.
+/// Whether an item is dead: its moment is past, or its cas number is at most the flush limit.
 pub fn is_dead(globals: Globals, item: ItemHeader) -> bool
-    ensures { result ≡ is_past globals.clock globals.mark item.moment item.cas }
+    ensures { result ≡ is_past globals.clock globals.flush_limit item.moment item.cas }
 {
     let expired = item.moment != 0 && item.moment <= globals.clock as u64;
-    expired || item.cas <= globals.mark
+    expired || item.cas <= globals.flush_limit
 }
 
 /// What a step did to a key (this project's own): the class and queue that its item entered, where the step stored it,

@@ -21,7 +21,7 @@ use Rattle.rev_model.specs.declared.ChunkRef.{ChunkRef}
 use Rattle.rev_model.specs.declared.Entry.{Entry}
 use Rattle.rev_model.specs.declared.Entry.TheVariants.{Chunk, Mark}
 use Rattle.rev_model.specs.declared.Queue.{Queue}
-use Rattle.rev_changes.proofs.Rest.{Rest}
+use Rattle.rev_edits.proofs.Rest.{Rest}
 
 some_inj : {X : Type 0} (x y : X) → Some x ≡ Some y → x ≡ y
 some_inj x y e = cc

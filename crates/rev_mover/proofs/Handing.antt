@@ -9,7 +9,7 @@ use Rattle.rev_model.specs.State.{State, Fixed, WellFormed, IsChunkOf, free_of, 
 use Rattle.rev_model.specs.Move.{Lays, Lifts, Ready, Possible, falling, laid, HoldsNoItem}
 use Rattle.rev_model.proofs.Undo.{sum_none, free_lacks, in_no_queue}
 use Rattle.rev_model.specs.Actor.{owned_pages, handed}
-use Rattle.rev_model.specs.Sound.{Sound, Placed, MoverSound, owning, is_withdrawn}
+use Rattle.rev_model.specs.Sound.{Sound, EachPlaced, MoverSound, owning, is_withdrawn}
 use Rattle.rev_model.proofs.Keeps.{keeps-sets}
 use Rattle.rev_model.specs.declared.GlobalPart.TheVariants as part
 use Rattle.rev_model.proofs.Laying.{GetsOne, gets, gets_one, keeps-lay, carved_sound}
@@ -30,8 +30,8 @@ module _ (s : State) (sound : Sound s) (m : Mover) (is : s.globals.mover ≡ Som
   mover : MoverSound s.fixed s.owner (Some m)
   mover = subst (MoverSound s.fixed s.owner) is sound.kept.mover
 
-  placed : Placed s.fixed s.owner s.free s.queues (Some m) None
-  placed = subst (λ o. Placed s.fixed s.owner s.free s.queues o None) is sound.placed
+  placed : EachPlaced s.fixed s.owner s.free s.queues (Some m) None
+  placed = subst (λ o. EachPlaced s.fixed s.owner s.free s.queues o None) is sound.placed
 
   -- each chunk of the page is withdrawn
   withdrawn : (x : ChunkRef) → x.page ≡ m.page → IsChunkOf s.fixed s.owner (owner_of s x.page) x → stands s x ≡ 0

@@ -13,8 +13,8 @@ use Rattle.rev_model.proofs.Keeps.{keeps-take_free}
 use Rattle.rev_model.specs.Sound.{Sound, SoundBut, Stands, Loose}
 use Rattle.rev_model.proofs.Places.{free_in}
 use Rattle.rev_model.specs.declared.ChunkRef.{ChunkRef}
-use Rattle.rev_changes.proofs.Rest.{sound_of, rest_of}
-use Rattle.rev_changes.proofs.Linking.{held_loose}
+use Rattle.rev_edits.proofs.Rest.{sound_of, rest_of}
+use Rattle.rev_edits.proofs.Linking.{held_loose}
 use Rattle.rev_mover.proofs.Slots.{rest-taken, chunk_stands}
 use Rattle.rev_mover.proofs.Carrying.{keeps-shift, carried_is, rest-carried}
 

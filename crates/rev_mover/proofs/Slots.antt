@@ -17,14 +17,14 @@ use Rattle.rev_model.specs.State.{State, Fixed, IsChunkOf, free_of, queue_of, qu
 use Rattle.rev_model.specs.Move.{with_free}
 use Rattle.rev_model.proofs.Undo.{tells_chunk, tells_entry, get-put_at, tied, count_none, sum_none}
 use Rattle.rev_model.specs.Words.{unlinked, queue_with}
-use Rattle.rev_model.specs.Sound.{Sound, Placed, Stands, MoverSound, is_withdrawn}
+use Rattle.rev_model.specs.Sound.{Sound, EachPlaced, Stands, MoverSound, is_withdrawn}
 use Rattle.rev_model.specs.declared.ChunkRef.{ChunkRef}
 use Rattle.rev_model.specs.declared.Entry.{Entry}
 use Rattle.rev_model.specs.declared.Entry.TheVariants.{Chunk}
 use Rattle.rev_model.specs.declared.Queue.{Queue}
 use Rattle.rev_model.specs.declared.Mover.{Mover}
-use Rattle.rev_changes.proofs.Rest.{Rest}
-use Rattle.rev_changes.proofs.Seats.{item_stands}
+use Rattle.rev_edits.proofs.Rest.{Rest}
+use Rattle.rev_edits.proofs.Seats.{item_stands}
 use Rattle.rev_mover.specs.Moving.{slot_chunk, next_mover, with_mover}
 
 some_inj : {X : Type 0} (x y : X) → Some x ≡ Some y → x ≡ y
@@ -130,7 +130,7 @@ withdrawn_more m y = elim (cases_Bool (nat_eq y.page m.page)) [
 -- the chunk that a step holds is the one at the slot: withdrawn, nothing is held any more
 pub rest-withdrawn : (t : State) (m : Mover) → t.globals.mover ≡ Some m → m.slot < per_page t.fixed m.src → Rest (Some (slot_chunk m)) t → Rest None (with_mover (Some (next_mover m)) t)
 rest-withdrawn t m e lt rest =
-    let placed : Placed t.fixed t.owner t.free t.queues (Some m) (Some (slot_chunk m)) = subst (λ o. Placed t.fixed t.owner t.free t.queues o (Some (slot_chunk m))) e rest.placed in
+    let placed : EachPlaced t.fixed t.owner t.free t.queues (Some m) (Some (slot_chunk m)) = subst (λ o. EachPlaced t.fixed t.owner t.free t.queues o (Some (slot_chunk m))) e rest.placed in
     let mover : MoverSound t.fixed t.owner (Some m) = subst (MoverSound t.fixed t.owner) e rest.kept.mover in
     record {
       placed = record { once = λ y k. omega (arith, placed.once y k, withdrawn_more m y) };
@@ -157,7 +157,7 @@ pub slot_is_free : (s : State) (m : Mover) → Sound s → s.globals.mover ≡ S
 slot_is_free s m sound e lt none =
     let x = slot_chunk m in
     let mover : MoverSound s.fixed s.owner (Some m) = subst (MoverSound s.fixed s.owner) e sound.kept.mover in
-    let placed : Placed s.fixed s.owner s.free s.queues (Some m) None = subst (λ o. Placed s.fixed s.owner s.free s.queues o None) e sound.placed in
+    let placed : EachPlaced s.fixed s.owner s.free s.queues (Some m) None = subst (λ o. EachPlaced s.fixed s.owner s.free s.queues o None) e sound.placed in
     let chunk = slot_of_source s.fixed s.owner m mover lt in
     let own : IsChunkOf s.fixed s.owner (owner_of s m.page) (slot_chunk m) = subst (λ k. IsChunkOf s.fixed s.owner k (slot_chunk m)) (sym chunk.owned) chunk in
     let once : stands s (slot_chunk m) + (0 + 0) ≡ 1 = rw (not_withdrawn m) at (placed.once (slot_chunk m) own) in

@@ -5,7 +5,7 @@ use Rattle.std.proofs.lemmas.Bool.{cases_Bool, true≢false, and_parts, ltb-true
 use Rattle.rev_model.specs.State.{State, owner_of}
 use Rattle.rev_model.specs.Pull.{page_from, lowest_page}
 use Rattle.rev_model.specs.Actor.{owned_pages}
-use Rattle.rev_model.specs.Sound.{Sound, Placed, MoverSound, is_withdrawn}
+use Rattle.rev_model.specs.Sound.{Sound, EachPlaced, MoverSound, is_withdrawn}
 use Rattle.rev_model.proofs.Keeps.{keeps-sets}
 use Rattle.rev_model.specs.declared.GlobalPart.TheVariants as part
 use Rattle.rev_model.specs.declared.ChunkRef.{ChunkRef}
@@ -61,7 +61,7 @@ none_withdrawn m x e = elim (cases_Bool (is_withdrawn (Some m) x)) [
 -- a move that starts at slot 0 has withdrawn nothing
 pub started_sound : (s : State) → Sound s → s.globals.mover ≡ None → (m : Mover) → m.slot ≡ 0 → MoverSound s.fixed s.owner (Some m) → Sound (with_mover (Some m) s)
 started_sound s sound none m start mover =
-    let placed : Placed s.fixed s.owner s.free s.queues None None = subst (λ o. Placed s.fixed s.owner s.free s.queues o None) none sound.placed in
+    let placed : EachPlaced s.fixed s.owner s.free s.queues None None = subst (λ o. EachPlaced s.fixed s.owner s.free s.queues o None) none sound.placed in
     record {
       well = (keeps-sets s sound.well (part.Mover (Some m))).after;
       placed = record { once = λ x k. rw (none_withdrawn m x start) (placed.once x k) };

@@ -5,17 +5,17 @@ ghost use Rattle.rev_model.specs.Actor.{cleared, next_slot, advance as advance_o
 ghost use Rattle.rev_model.specs.Causes.{cleared_removals, advance_removals};
 ghost use Rattle.rev_model.specs.Sound.{Sound, SoundBut};
 ghost use Rattle.rev_model.specs.Move.{LeadsBack};
-ghost use Rattle.rev_moves.specs.Leads.{Leads};
-ghost use Rattle.rev_changes.specs.Telling.{Tells, TellsAll};
+ghost use Rattle.rev_changes.specs.Leads.{Leads};
+ghost use Rattle.rev_edits.specs.Telling.{Tells, TellsAll};
 ghost use Rattle.rev_mover.specs.Moving.{slot_chunk, next_mover, with_mover, IsLeft};
 ghost use Rattle.rev_mover.specs.Clearing.{clearing_of, clearing_moves};
 
 use crate::clearing::{Plan, clear, plan_for};
 use crate::finishing::finish;
-use rev_changes::moving::change;
+use rev_changes::{Change, Record};
+use rev_edits::moving::change;
 use rev_inverse::Store;
 use rev_model::{ChunkRef, Mover, Outcome};
-use rev_moves::{Move, Record};
 use std::alloc::{AllocError, Allocator};
 
 /// The chunk at the mover's slot, which the step holds, is withdrawn: one move.
@@ -34,7 +34,7 @@ fn pass_slot<A: Allocator>(store: &mut Store<A>, mover: Mover, undo: &mut Record
         slot: mover.slot + 1,
         ..mover
     };
-    change(store, Move::Mover(Some(next)), undo);
+    change(store, Change::Mover(Some(next)), undo);
 }
 
 /// Does what was planned with the chunk at the mover's slot, and goes on to the next.

@@ -10,16 +10,16 @@ ghost use Rattle.rev_model.specs.Actor.{spare, shifted, cleared};
 ghost use Rattle.rev_model.specs.Causes.{cleared_removals};
 ghost use Rattle.rev_model.specs.Track.{removal};
 ghost use Rattle.rev_model.specs.Sound.{Sound, SoundBut};
-ghost use Rattle.rev_moves.specs.Leads.{Leads};
-ghost use Rattle.rev_changes.specs.Telling.{Tells};
+ghost use Rattle.rev_changes.specs.Leads.{Leads};
+ghost use Rattle.rev_edits.specs.Telling.{Tells};
 ghost use Rattle.rev_mover.specs.Clearing.{clearing_of, clearing_moves};
 
-use rev_changes::alter::raise;
-use rev_changes::leave::unlink;
-use rev_changes::moving::change;
+use rev_changes::{Change, Record};
+use rev_edits::alter::raise;
+use rev_edits::leave::unlink;
+use rev_edits::moving::change;
 use rev_inverse::Store;
 use rev_model::{Cause, ChunkRef, Counter, Listed, Outcome, is_dead};
-use rev_moves::{Move, Record};
 use std::alloc::Allocator;
 
 /// What an advance does with the chunk at the mover's slot.
@@ -98,7 +98,7 @@ fn hold<A: Allocator>(store: &mut Store<A>, class: usize, chunk: ChunkRef, undo:
     ensures made { length undo.new.moves ≡ length undo.old.moves + 1 }
     ensures told { Tells undo.old store.old undo.new store.new [] }
 {
-    change(store, Move::Take(Listed::InFree(class, chunk)), undo);
+    change(store, Change::Take(Listed::InFree(class, chunk)), undo);
 }
 
 /// The item of a chunk leaves, the chunk is then held by the step, and a counter is raised: four moves.
@@ -148,7 +148,7 @@ fn rescue<A: Allocator>(
     ensures told { Tells undo.old store.old undo.new store.new [] }
 {
     hold(store, class, to, undo);
-    change(store, Move::Shift(chunk, to), undo);
+    change(store, Change::Shift(chunk, to), undo);
 }
 
 /// Does what was planned with a chunk of the class, which is then held by the step: all the plan's moves but the last.

@@ -4,15 +4,15 @@ ghost use Rattle.rev_model.specs.State.{State, per_page};
 ghost use Rattle.rev_model.specs.Actor.{handed};
 ghost use Rattle.rev_model.specs.Sound.{Sound};
 ghost use Rattle.rev_model.specs.Move.{LeadsBack};
-ghost use Rattle.rev_moves.specs.Leads.{Leads};
-ghost use Rattle.rev_changes.specs.Telling.{Tells, TellsAll};
+ghost use Rattle.rev_changes.specs.Leads.{Leads};
+ghost use Rattle.rev_edits.specs.Telling.{Tells, TellsAll};
 ghost use Rattle.rev_mover.specs.Moving.{pooled, finished, IsDone};
 ghost use Rattle.rev_mover.specs.Parting.{AreParts, parts_moves};
 
-use rev_changes::moving::change;
+use rev_changes::{Change, Parts, Record, Shelf};
+use rev_edits::moving::change;
 use rev_inverse::Store;
 use rev_model::{Form, Mover, Outcome};
-use rev_moves::{Move, Parts, Record, Shelf};
 use std::alloc::{AllocError, Allocator};
 
 /// The move is over, and its page in the pool, what is left of it on the shelf: two moves.
@@ -27,8 +27,12 @@ fn release<A: Allocator>(store: &mut Store<A>, mover: Mover, shelf: Shelf<A>, un
     ensures made { length undo.new.moves ≡ length undo.old.moves + 2 }
     ensures told { Tells undo.old store.old undo.new store.new [] }
 {
-    change(store, Move::Lift(mover.page, Form::Withdrawn, shelf), undo);
-    change(store, Move::Mover(None), undo);
+    change(
+        store,
+        Change::Lift(mover.page, Form::Withdrawn, shelf),
+        undo,
+    );
+    change(store, Change::Mover(None), undo);
 }
 
 /// The slots for a page of the class; none where it goes to the pool.
@@ -83,7 +87,11 @@ fn hand_over<A: Allocator>(
         None => {}
         Some(parts) => {
             let class = usize::from(mover.dst);
-            change(store, Move::Lay(mover.page, class, parts, Form::Pool), undo);
+            change(
+                store,
+                Change::Lay(mover.page, class, parts, Form::Pool),
+                undo,
+            );
         }
     }
 }

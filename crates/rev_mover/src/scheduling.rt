@@ -4,13 +4,13 @@ ghost use Rattle.rev_model.specs.Actor.{owned_pages, schedule as schedule_of};
 ghost use Rattle.rev_model.specs.Sound.{Sound, MoverSound};
 ghost use Rattle.rev_model.specs.Move.{LeadsBack};
 ghost use Rattle.rev_model.specs.declared.Outcome.TheVariants as outcome;
-ghost use Rattle.rev_changes.specs.Telling.{TellsAll};
+ghost use Rattle.rev_edits.specs.Telling.{TellsAll};
 ghost use Rattle.rev_mover.specs.Moving.{with_mover};
 
-use rev_changes::moving::change;
+use rev_changes::{Change, Record};
+use rev_edits::moving::change;
 use rev_inverse::Store;
 use rev_model::{Mover, Outcome};
-use rev_moves::{Move, Record};
 use std::alloc::{AllocError, Allocator};
 
 /// How many pages a class owns, counted over the page table.
@@ -89,7 +89,7 @@ pub fn schedule<A: Allocator + Clone>(
         }
         Ok(mover) => {
             let mut undo = Record::with_room(store.alloc()?, 1)?;
-            change(store, Move::Mover(Some(mover)), &mut undo);
+            change(store, Change::Mover(Some(mover)), &mut undo);
             Ok((Outcome::Okay, undo))
         }
     }

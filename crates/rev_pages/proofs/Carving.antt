@@ -3,7 +3,7 @@ use Rattle.std.proofs.Common.{◌≡◌, ◌≢◌, ℕ, suc, zero, ◌+◌, ◌
 use Rattle.std.proofs.lemmas.Bool.{cases_eq, cases_lt, eq-eqb}
 use Rattle.std.proofs.lemmas.Bool.Decides.{nat_tests}
 use Rattle.std.proofs.lemmas.List.{get_or-set_same, get_or-set_other, get_or_past, length-set, set-set, set-get_or}
-use Rattle.rev_links.specs.declared.places.Place.TheVariants.{End}
+use Rattle.rev_links.specs.declared.places.RingPlace.TheVariants.{End}
 use Rattle.rev_links.specs.Rings.{In}
 use Rattle.rev_links.proofs.Rings.{Distinct, one_end, distinct_path}
 use Rattle.rev_model.specs.Chunk.{same_chunk, HasSlot}

@@ -4,7 +4,7 @@ use Rattle.std.proofs.lemmas.Bool.{cases_eq, cases_lt, eq-eqb}
 use Rattle.std.proofs.lemmas.Bool.Decides.{nat_tests}
 use Rattle.std.proofs.lemmas.List.{get_or-set_same, get_or-set_other, get_or_past, same_lists, length-set, length-map}
 use Rattle.std.proofs.lemmas.List.FromFn.{length-map-range_with_len, get_or-map-range_with_len}
-use Rattle.rev_links.specs.declared.places.Place.TheVariants.{End, At}
+use Rattle.rev_links.specs.declared.places.RingPlace.TheVariants.{End, At}
 use Rattle.rev_links.specs.Rings.{Path, In}
 use Rattle.rev_links.proofs.Members.{Tells}
 use Rattle.rev_links.proofs.Grids.{size_of_page, cell_from_size, size_from_cell}

@@ -1,7 +1,7 @@
 -- Reads and writes of the links of ends and chunks.
 use Rattle.std.proofs.Common.{◌≡◌, ◌≢◌, ℕ, slice_get, inl, inr, Option, Some, None, IsSome, List, length, set, refl, sym, ◌∙◌, ap, subst, option_map, map}
 use Rattle.std.proofs.lemmas.Bool.{cases_eq}
-use Rattle.rev_links.specs.declared.places.Place.TheVariants.{End, At}
+use Rattle.rev_links.specs.declared.places.RingPlace.TheVariants.{End, At}
 use Rattle.rev_pages.specs.declared.places.FreeList.{FreeList}
 use Rattle.rev_model.specs.declared.ChunkRef.{ChunkRef}
 use Rattle.rev_links.proofs.Rings.{opened_by_writes}

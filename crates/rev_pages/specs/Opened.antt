@@ -1,7 +1,7 @@
 -- Ends of empty lists.
 -- Rule of this project: how the free lists of a new store lie in their table.
 use Rattle.std.specs.Prelude.{◌≡◌, ℕ, ◌<◌, Some, List, length, slice_get}
-use Rattle.rev_links.specs.declared.places.Place.TheVariants.{End}
+use Rattle.rev_links.specs.declared.places.RingPlace.TheVariants.{End}
 use Rattle.rev_pages.specs.Tables.{FreeLink}
 
 -- each end stands before and behind itself

@@ -3,7 +3,7 @@
 -- Rule of this project: how these lie in the tables of the page table.
 use Rattle.std.specs.Prelude.{◌≡◌, ℕ, ◌∷◌, ◌++◌, ◌<◌, ◌≤◌, List, [], length, map, nat_eq, take, replicate, slice_index, slice_index_or, slice_set}
 use Rattle.std.specs.List.{count_by, range_with_len}
-use Rattle.rev_links.specs.declared.places.Place.TheVariants.{End}
+use Rattle.rev_links.specs.declared.places.RingPlace.TheVariants.{End}
 use Rattle.rev_links.specs.Rings.{walk, Path, In}
 use Rattle.rev_model.specs.declared.ChunkRef.{ChunkRef}
 use Rattle.rev_model.specs.Move.{falling}

@@ -2,15 +2,15 @@
 -- Rule of this project: the tables of the free lists, place by place.
 use Rattle.std.specs.Prelude.{◌≡◌, Option, List, [], length, map, slice_get, slice_index_or, option_map}
 use Rattle.rev_links.specs.Rings.{Closed, Opened}
-use Rattle.rev_links.specs.declared.places.Place.{Place}
-use Rattle.rev_links.specs.declared.places.Place.TheVariants.{End, At}
+use Rattle.rev_links.specs.declared.places.RingPlace.{RingPlace}
+use Rattle.rev_links.specs.declared.places.RingPlace.TheVariants.{End, At}
 use Rattle.rev_links.specs.declared.places.Link.{Link}
 use Rattle.rev_pages.specs.declared.places.FreeList.{FreeList}
 use Rattle.rev_model.specs.declared.ChunkRef.{ChunkRef}
 
 -- a place of a free list: a class's end, or a chunk
 abbrev pub FreePlace : Type 0
-FreePlace = Place FreeList ChunkRef
+FreePlace = RingPlace FreeList ChunkRef
 
 -- what stands behind and before a place
 abbrev pub FreeLink : Type 0

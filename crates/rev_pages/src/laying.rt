@@ -1,3 +1,4 @@
+//! Pages are laid and lifted.
 ghost use Rattle.std.specs.Prelude.{◌≡◌, ℕ, ◌+◌, ◌<◌, length, slice_index, drop};
 ghost use Rattle.rev_pages.specs.Lays.{laid, CanLay, lifted, CanLift};
 ghost use Rattle.rev_pages.specs.State.{free_of, with_free, IsClear, carved, with_new_page, with_page, without_last_page};

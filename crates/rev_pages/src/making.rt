@@ -1,3 +1,4 @@
+//! New tables and slots.
 ghost use Rattle.std.specs.Prelude.{◌≡◌, ◌≤◌, ◌+◌, ℕ, IfOk, length};
 ghost use Rattle.rev_pages.specs.Opened.{AreEmpty};
 ghost use Rattle.rev_pages.specs.State.{no_pages};
@@ -7,14 +8,14 @@ use crate::parts::Slots;
 use crate::places::{FreeLink, FreeList};
 use crate::table::Table;
 use rev_classes::{ClassTable, Config, MAX_CLASSES};
-use rev_links::{Cells, CountedGrid, Link, Place};
+use rev_links::{Cells, CountedGrid, Link, RingPlace};
 use std::alloc::{AllocError, Allocator};
 
 /// Slots of a page, with links that lead nowhere. A want of memory is the only error.
 pub fn slots<A: Allocator + Drop>(alloc: A, n: u16) -> Result<Slots<A>, AllocError>
     ensures { IfOk result (λ s. s ≡ n) }
 {
-    let place = Place::End(FreeList { class: 0 });
+    let place = RingPlace::End(FreeList { class: 0 });
     let link = Link {
         previous: place,
         next: place,
@@ -31,7 +32,7 @@ fn empty_ends<A: Allocator + Drop>(alloc: A, lists: u16) -> Result<Vec<FreeLink,
 {
     let mut ends = Vec::with_capacity(alloc, usize::from(lists))?;
     for class in 0..lists {
-        let place = Place::End(FreeList { class });
+        let place = RingPlace::End(FreeList { class });
         ends.push(Link {
             previous: place,
             next: place,

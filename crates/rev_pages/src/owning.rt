@@ -1,3 +1,4 @@
+//! Which class owns a page.
 ghost use Rattle.std.specs.Prelude.{◌≡◌, ◌+◌, ◌-◌, ◌<◌, ◌++◌, ◌∷◌, [], length, slice_set, take};
 ghost use Rattle.rev_pages.specs.State.{with_owner};
 

@@ -1,3 +1,4 @@
+//! The pages with their owners, and the free list of each class.
 ghost use Rattle.std.specs.Prelude.{◌≡◌, ℕ, ◌+◌, ◌<◌, ◌≤◌, Some, true, false, length, nat_eq, slice_index, slice_set};
 ghost use Rattle.std.specs.List.{list_any};
 ghost use Rattle.rev_links.specs.Rings.{member_of};
@@ -10,7 +11,7 @@ ghost use Rattle.rev_pages.specs.State.{free_of};
 
 use crate::places::{FreeList, FreePlace};
 use crate::table::Table;
-use rev_links::{Place, Ticks};
+use rev_links::{RingPlace, Ticks};
 use rev_model::ChunkRef;
 use std::alloc::Allocator;
 use std::marker::Model;
@@ -21,8 +22,8 @@ fn chunk_at(place: FreePlace) -> Option<ChunkRef>
     ensures { result ≡ member_of (Some place) }
 {
     match place {
-        Place::End(_) => None,
-        Place::At(chunk) => Some(chunk),
+        RingPlace::End(_) => None,
+        RingPlace::At(chunk) => Some(chunk),
     }
 }
 
@@ -32,10 +33,10 @@ fn place_behind(class: usize, after: Option<ChunkRef>) -> FreePlace
     ensures { result ≡ place_behind (record { class = class }) after }
 {
     match after {
-        None => Place::End(FreeList {
+        None => RingPlace::End(FreeList {
             class: class as u16,
         }),
-        Some(chunk) => Place::At(chunk),
+        Some(chunk) => RingPlace::At(chunk),
     }
 }
 
@@ -122,7 +123,7 @@ impl<A: Allocator> Pages<A> {
         ensures behind { result ≡ behind_of same_chunk chunk (free_of self.now class) }
         ensures cost { ticks.new ≤ ticks.old + 16 }
     {
-        chunk_at(self.table.link(Place::At(chunk), ticks).next)
+        chunk_at(self.table.link(RingPlace::At(chunk), ticks).next)
     }
 
     /// Takes a chunk out of a class's free list, and tells the one that stood before it, none where it was in front.

@@ -1,3 +1,4 @@
+//! A page's slots of the free lists while the page is away.
 ghost use Rattle.std.specs.Prelude.{◌≡◌, ℕ, ◌<◌, length};
 
 use crate::places::FreeLink;

@@ -1,4 +1,5 @@
-use rev_links::{Link, Place};
+//! Places of a free list.
+use rev_links::{Link, RingPlace};
 use rev_model::ChunkRef;
 
 /// The end of a class's free list: it stands before the first chunk and behind the last one.
@@ -8,6 +9,6 @@ pub struct FreeList {
 }
 
 /// A place of a free list, and a place's neighbours in 12 bytes.
-pub type FreePlace = Place<FreeList, ChunkRef>;
+pub type FreePlace = RingPlace<FreeList, ChunkRef>;
 
 pub type FreeLink = Link<FreeList, ChunkRef>;

@@ -1,10 +1,11 @@
+//! The links of free lists.
 ghost use Rattle.std.specs.Prelude.{◌≡◌, ◌≢◌, ℕ, ◌+◌, Some, IsSome};
 ghost use Rattle.rev_links.specs.Rings.{SetsNext, SetsPrevious, Between, Gap};
-ghost use Rattle.rev_links.specs.declared.places.Place.TheVariants.{At};
+ghost use Rattle.rev_links.specs.declared.places.RingPlace.TheVariants.{At};
 ghost use Rattle.rev_pages.specs.Tables.{FreePlace, link_at, next_in, previous_in, SameShape, Closes, Opens};
 
 use crate::places::{FreeLink, FreePlace};
-use rev_links::{Cells, CountedGrid, Link, Place, Ticks};
+use rev_links::{Cells, CountedGrid, Link, RingPlace, Ticks};
 use rev_model::ChunkRef;
 use std::alloc::Allocator;
 use std::sync::ledger::Ledger;
@@ -24,8 +25,8 @@ impl<A: Allocator> Table<A> {
         ensures cost { ticks.new ≡ ticks.old + 1 }
     {
         match place {
-            Place::End(list) => self.ends.get(usize::from(list.class), ticks),
-            Place::At(chunk) => self.links.read(chunk.page, chunk.slot, ticks),
+            RingPlace::End(list) => self.ends.get(usize::from(list.class), ticks),
+            RingPlace::At(chunk) => self.links.read(chunk.page, chunk.slot, ticks),
         }
     }
 
@@ -39,8 +40,8 @@ impl<A: Allocator> Table<A> {
         ensures cost { ticks.new ≡ ticks.old + 1 }
     {
         match place {
-            Place::End(list) => self.ends.set(usize::from(list.class), link, ticks),
-            Place::At(chunk) => self.links.write(chunk.page, chunk.slot, link, ticks),
+            RingPlace::End(list) => self.ends.set(usize::from(list.class), link, ticks),
+            RingPlace::At(chunk) => self.links.write(chunk.page, chunk.slot, link, ticks),
         }
     }
 
@@ -53,8 +54,8 @@ impl<A: Allocator> Table<A> {
         ensures cost { ticks.new ≡ ticks.old + 2 }
     {
         match place {
-            Place::End(list) => self.ends.edit(usize::from(list.class), ticks).next = next,
-            Place::At(chunk) => self.links.edit(chunk.page, chunk.slot, ticks).next = next,
+            RingPlace::End(list) => self.ends.edit(usize::from(list.class), ticks).next = next,
+            RingPlace::At(chunk) => self.links.edit(chunk.page, chunk.slot, ticks).next = next,
         }
     }
 
@@ -72,8 +73,10 @@ impl<A: Allocator> Table<A> {
         ensures cost { ticks.new ≡ ticks.old + 2 }
     {
         match place {
-            Place::End(list) => self.ends.edit(usize::from(list.class), ticks).previous = previous,
-            Place::At(chunk) => self.links.edit(chunk.page, chunk.slot, ticks).previous = previous,
+            RingPlace::End(list) => self.ends.edit(usize::from(list.class), ticks).previous =
+                previous,
+            RingPlace::At(chunk) => self.links.edit(chunk.page, chunk.slot, ticks).previous =
+                previous,
         }
     }
 
@@ -85,7 +88,7 @@ impl<A: Allocator> Table<A> {
         ensures shape { SameShape self.old.ends self.old.links self.new.ends self.new.links }
         ensures cost { ticks.new ≡ ticks.old + 5 }
     {
-        let link = self.link(Place::At(chunk), ticks);
+        let link = self.link(RingPlace::At(chunk), ticks);
         self.set_next(link.previous, link.next, ticks);
         self.set_previous(link.next, link.previous, ticks);
         link.previous
@@ -102,14 +105,14 @@ impl<A: Allocator> Table<A> {
     {
         let next = self.link(after, ticks).next;
         self.set_link(
-            Place::At(chunk),
+            RingPlace::At(chunk),
             Link {
                 previous: after,
                 next,
             },
             ticks,
         );
-        self.set_next(after, Place::At(chunk), ticks);
-        self.set_previous(next, Place::At(chunk), ticks);
+        self.set_next(after, RingPlace::At(chunk), ticks);
+        self.set_previous(next, RingPlace::At(chunk), ticks);
     }
 }

@@ -94,7 +94,7 @@ pub record IsPlayed {A : Type 0} (scripts : List (Vec (Step A))) (log : List Log
   pub legal : IsLegalLog log session
   pub settles : Settles back log session
 
--- a row for each play of the log, the lines of the actors that a limit stopped, and the end
+-- a row for each play of the log, the lines of the players that a limit stopped, and the end
 abbrev pub recording_text : List LogRow → SessionState → List ℕ → List ℕ
 recording_text log session stopped = rows_text session 0 log ++ (stopped ++ output (codes "END"))
 

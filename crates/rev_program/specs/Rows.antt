@@ -1,5 +1,5 @@
 -- The text of a recording.
--- Rule of this project: a row for each play, and a line for each actor that stopped.
+-- Rule of this project: a row for each play, and a line for each player that stopped.
 use Rattle.std.specs.Prelude.{ℕ, suc, List, [], ◌∷◌, ◌++◌, Option, None, Some, Result, Ok, Err, codes, decimal}
 use Rattle.rev_model.specs.Actor.{Step}
 use Rattle.rev_model.specs.declared.Outcome.{Outcome}
@@ -15,41 +15,41 @@ use Rattle.rev_recorder.specs.Hands.{PlainHand}
 use Rattle.rev_shell.specs.Texts.{output}
 use Rattle.rev_shell.specs.Words.{step_word, outcome_word}
 
--- the row of a play: its place in the log, its actor, its node, its step and what that was answered
+-- the row of a play: its place in the log, its player, its node, its step and what that was answered
 abbrev pub play_text : ℕ → ℕ → ℕ → Step → Outcome → List ℕ
-play_text place actor node step outcome =
-    output (decimal place ++ codes " " ++ decimal actor ++ codes " play " ++ decimal node ++ codes " " ++ step_word step ++ codes " " ++ outcome_word outcome)
+play_text place player node step outcome =
+    output (decimal place ++ codes " " ++ decimal player ++ codes " play " ++ decimal node ++ codes " " ++ step_word step ++ codes " " ++ outcome_word outcome)
 
 -- the row of a node that the session has
 abbrev pub node_text : SessionState → ℕ → ℕ → ℕ → Option Row → List ℕ
-node_text m place actor node None = []
-node_text m place actor node (Some r) = play_text place actor node r.step (outcome_of (at m.root m.rows r.parent) r.step)
+node_text m place player node None = []
+node_text m place player node (Some r) = play_text place player node r.step (outcome_of (at m.root m.rows r.parent) r.step)
 
 -- the row of a call; only a play has one
 abbrev pub call_text : SessionState → ℕ → ℕ → Call → List ℕ
-call_text m place actor (call.Play n) = node_text m place actor n.0 (row_of m.rows n.0)
-call_text m place actor (call.Go n) = []
-call_text m place actor call.Many = []
-call_text m place actor call.Deep = []
-call_text m place actor (call.Lost n) = []
+call_text m place player (call.Play n) = node_text m place player n.0 (row_of m.rows n.0)
+call_text m place player (call.Go n) = []
+call_text m place player call.Many = []
+call_text m place player call.Deep = []
+call_text m place player (call.Lost n) = []
 
 -- the rows of a log whose first call has the given place
 abbrev pub rows_text : SessionState → ℕ → List LogRow → List ℕ
 rows_text m place [] = []
-rows_text m place (row ∷ log) = call_text m place row.actor row.call ++ rows_text m (suc place) log
+rows_text m place (row ∷ log) = call_text m place row.player row.call ++ rows_text m (suc place) log
 
--- the line of an actor that a limit stopped
+-- the line of a player that a limit stopped
 abbrev pub stopped_text : ℕ → List ℕ → List ℕ
-stopped_text actor limit = output (codes "STOPPED " ++ decimal actor ++ limit)
+stopped_text player limit = output (codes "STOPPED " ++ decimal player ++ limit)
 
--- how an actor's script ended: only a limit of the tree has a line
+-- how a player's script ended: only a limit of the tree has a line
 abbrev pub end_text : ℕ → Result (Unit {0}) RecordFault → List ℕ
-end_text actor (Ok done) = []
-end_text actor (Err TooManyNodes) = stopped_text actor (codes " too many nodes")
-end_text actor (Err TooDeep) = stopped_text actor (codes " too many nested forks")
-end_text actor (Err Memory) = []
-end_text actor (Err StrangerHand) = []
-end_text actor (Err NoNode) = []
+end_text player (Ok done) = []
+end_text player (Err TooManyNodes) = stopped_text player (codes " too many nodes")
+end_text player (Err TooDeep) = stopped_text player (codes " too many nested forks")
+end_text player (Err Memory) = []
+end_text player (Err StrangerHand) = []
+end_text player (Err NoNode) = []
 
 -- the script was played to its end, or a limit of the tree stopped it
 abbrev pub IsEnd : Result (Unit {0}) RecordFault → Type 0
@@ -60,7 +60,7 @@ IsEnd (Err Memory) = ⊥
 IsEnd (Err StrangerHand) = ⊥
 IsEnd (Err NoNode) = ⊥
 
--- the lines of these actors, in order
+-- the lines of these players, in order
 abbrev pub ends_text : List (PlainHand × Result (Unit {0}) RecordFault) → List ℕ
 ends_text [] = []
-ends_text (e ∷ es) = end_text e.0.actor e.1 ++ ends_text es
+ends_text (e ∷ es) = end_text e.0.player e.1 ++ ends_text es

@@ -20,7 +20,7 @@ pub enum RecordingFault {
     TooLong,
     Memory,
     CannotWrite,
-    /// What the actors were answered is not what the log says.
+    /// What the players were answered is not what the log says.
     LogDiffers,
 }
 

@@ -31,17 +31,17 @@ use std::thread::Threads;
 // The one recorder of the program needs no seal of its own.
 const SEAL: u64 = 1;
 
-/// A gate that lets every actor pass at once.
+/// A gate that lets every player pass at once.
 #[derive(Clone, Copy)]
 struct Open;
 
 impl Gate for Open {
-    fn before(&self, _actor: usize, _index: usize) {}
+    fn before(&self, _player: usize, _index: usize) {}
 
-    fn after(&self, _actor: usize, _index: usize) {}
+    fn after(&self, _player: usize, _index: usize) {}
 }
 
-// A recording that is over, with the lines of the actors that a limit stopped.
+// A recording that is over, with the lines of the players that a limit stopped.
 #[derive(Drop)]
 struct Played {
     settled: Settled,
@@ -84,21 +84,21 @@ fn read_files<F: Read + Drop>(
     Ok(scripts)
 }
 
-// A recorder of an empty store, with a hand for each actor.
+// A recorder of an empty store, with a hand for each player.
 fn open_recorder(
     alloc: Global,
     config: &Config,
-    actors: usize,
+    players: usize,
 ) -> Result<(Recorder, Vec<Hand>), RecordingFault>
-    requires actors { (1 ≤ actors) × (actors ≤ 8) }
+    requires players { (1 ≤ players) × (players ≤ 8) }
     requires limits { IsWithinLimits config.now }
-    ensures ok { IfOk result (λ r. (r.0.seal ≡ 1) × AreNew 1 actors r.1.items) }
+    ensures ok { IfOk result (λ r. (r.0.seal ≡ 1) × AreNew 1 players r.1.items) }
     ensures err { IfErr result (λ e. IsOfPlay e) }
 {
     let Some(session) = open_session(&alloc, config) else {
         return Err(RecordingFault::Memory);
     };
-    match Recorder::open(alloc, session, actors, SEAL) {
+    match Recorder::open(alloc, session, players, SEAL) {
         Ok(opened) => Ok(opened),
         Err(refused) => {
             drop(refused);
@@ -126,7 +126,7 @@ fn paired(
     Ok(work)
 }
 
-// The hands again, with a line for each actor that a limit stopped.
+// The hands again, with a line for each player that a limit stopped.
 fn parted(
     alloc: Global,
     done: Vec<(Hand, Result<(), RecordFault>)>,
@@ -140,7 +140,7 @@ fn parted(
     let mut hands = Vec::new(alloc);
     let mut rest = VecDeque::from_vec(done);
     while let Some((hand, end)) = rest.pop_front() {
-        put_end(stopped, hand.actor() as u64, end)?;
+        put_end(stopped, hand.player() as u64, end)?;
         if hands.push(hand).is_err() {
             return Err(RecordingFault::Memory);
         }
@@ -184,14 +184,14 @@ fn settled(recorder: Recorder, hands: Vec<Hand>, stopped: Vec<u8>) -> Result<Pla
     }
 }
 
-// Plays the scripts, each an actor's, on an empty store.
+// Plays the scripts, each a player's, on an empty store.
 fn play_scripts<R: Threads + Wait + Sync>(
     rt: &R,
     alloc: Global,
     config: &Config,
     scripts: Vec<Vec<Step<Global>>>,
 ) -> Result<Played, RecordingFault>
-    requires actors { (1 ≤ length scripts.items) × (length scripts.items ≤ 8) }
+    requires players { (1 ≤ length scripts.items) × (length scripts.items ≤ 8) }
     requires limits { IsWithinLimits config.now }
     ensures ok { IfOk result (λ played. IsPlayed scripts.items played.settled.log.items played.settled.session played.stopped.items) }
     ensures err { IfErr result (λ e. IsOfPlay e) }
@@ -250,7 +250,7 @@ fn record<R: Threads + Wait + Sync + AllocGlobal, F: Read + Drop, W: Write>(
 }
 
 /// `lrudb record` once its files are open, each a name and a reader: reads them in order and line by line, plays them at
-/// once, the i-th file from 0 as actor i, and writes the rows to `writer`. A file that is not steps from its first line to
+/// once, the i-th file from 0 as player i, and writes the rows to `writer`. A file that is not steps from its first line to
 /// its last ends it before anything is played. Answers the exit status, 0, 3, 4, 5 or 6. At status 0 nothing goes to
 /// `errors`; at any other the text of the reason does, whole where no write to `errors` has failed, and nothing is written
 /// to `writer` but where a write to it failed. Threads may wait for one another.

@@ -136,7 +136,7 @@ fn all_opened<R: Files>(
     Ok(files)
 }
 
-// Plays the scripts of the files at once, each as an actor, and writes the rows. A configuration at fault is told before
+// Plays the scripts of the files at once, each as a player, and writes the rows. A configuration at fault is told before
 // a file is opened, and a file that cannot be opened before one is read. Answers the exit status, and tells as
 // `play_files` does.
 fn record_files<R: Files + Threads + Wait + Sync + AllocGlobal, O: Write, E: Sink>(
@@ -165,7 +165,7 @@ fn record_files<R: Files + Threads + Wait + Sync + AllocGlobal, O: Write, E: Sin
 /// The whole program: does what the words behind its name ask for, and answers its exit status, 0 or 2 to 6.
 ///
 /// Answers go to `writer`. At status 0 nothing goes to `errors`; at any other the text of the reason does, whole where no
-/// write to `errors` has failed. The actors of a recording wait for one another.
+/// write to `errors` has failed. The players of a recording wait for one another.
 pub fn program<
     R: Files + Threads + Wait + Sync + AllocGlobal,
     S: AsStr,

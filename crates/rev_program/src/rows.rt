@@ -1,4 +1,4 @@
-//! The text of a recording: a row for each play, a line for each actor that a limit stopped, and the end.
+//! The text of a recording: a row for each play, a line for each player that a limit stopped, and the end.
 ghost use Rattle.std.specs.Prelude.{◌≡◌, ◌++◌, codes, OnOk, IfOk, IfErr};
 ghost use Rattle.rev_requests.specs.Plain.{plain_step};
 ghost use Rattle.rev_shell.specs.Texts.{output};
@@ -14,19 +14,19 @@ use rev_shell::words::{outcome_word, step_word};
 use rev_undotree::Session;
 use std::alloc::{AllocError, Global};
 
-// Writes the row of a play: place, actor, node, and the words of its step and its outcome.
+// Writes the row of a play: place, player, node, and the words of its step and its outcome.
 fn put_play(
     text: &mut Vec<u8>,
     place: u64,
-    actor: u64,
+    player: u64,
     node: u32,
     step: &Step<Global>,
     outcome: Outcome,
 ) -> Result<(), AllocError>
-    ensures { OnOk result (text.new.items ≡ text.old.items ++ play_text place actor node (plain_step step.now) outcome) }
+    ensures { OnOk result (text.new.items ≡ text.old.items ++ play_text place player node (plain_step step.now) outcome) }
 {
     put_number(text, place)?;
-    put_field(text, b" ", actor)?;
+    put_field(text, b" ", player)?;
     put_field(text, b" play ", node as u64)?;
     text.extend_from_slice(b" ")?;
     text.extend_from_slice(step_word(step))?;
@@ -41,12 +41,12 @@ fn put_call(
     row: LogRow,
     session: &Session<Global>,
 ) -> Result<(), AllocError>
-    ensures { OnOk result (text.new.items ≡ text.old.items ++ call_text session.now place row.actor row.call) }
+    ensures { OnOk result (text.new.items ≡ text.old.items ++ call_text session.now place row.player row.call) }
 {
     match row.call {
         Call::Play(node) => match session.row(node) {
             Some((step, outcome)) => {
-                put_play(text, place, row.actor as u64, node.0, step, outcome)
+                put_play(text, place, row.player as u64, node.0, step, outcome)
             }
             None => Ok(()),
         },
@@ -68,28 +68,28 @@ pub fn put_rows(
     Ok(())
 }
 
-// Writes the line of an actor that a limit stopped.
-fn put_stopped(text: &mut Vec<u8>, actor: u64, limit: &[u8]) -> Result<(), AllocError>
-    ensures { OnOk result (text.new.items ≡ text.old.items ++ stopped_text actor limit.now) }
+// Writes the line of a player that a limit stopped.
+fn put_stopped(text: &mut Vec<u8>, player: u64, limit: &[u8]) -> Result<(), AllocError>
+    ensures { OnOk result (text.new.items ≡ text.old.items ++ stopped_text player limit.now) }
 {
-    put_field(text, b"STOPPED ", actor)?;
+    put_field(text, b"STOPPED ", player)?;
     put_output(text, limit)
 }
 
-/// Writes for an actor that a limit stopped a line that says so. Any other refusal ends the recording.
+/// Writes for a player that a limit stopped a line that says so. Any other refusal ends the recording.
 pub fn put_end(
     text: &mut Vec<u8>,
-    actor: u64,
+    player: u64,
     end: Result<(), RecordFault>,
 ) -> Result<(), RecordingFault>
-    ensures ok { OnOk result (text.new.items ≡ text.old.items ++ end_text actor end) }
+    ensures ok { OnOk result (text.new.items ≡ text.old.items ++ end_text player end) }
     ensures limit { OnOk result (IsEnd end) }
     ensures err { IfErr result (λ e. IsOfPlay e) }
 {
     let put = match end {
         Ok(()) => Ok(()),
-        Err(RecordFault::TooManyNodes) => put_stopped(text, actor, b" too many nodes"),
-        Err(RecordFault::TooDeep) => put_stopped(text, actor, b" too many nested forks"),
+        Err(RecordFault::TooManyNodes) => put_stopped(text, player, b" too many nodes"),
+        Err(RecordFault::TooDeep) => put_stopped(text, player, b" too many nested forks"),
         Err(RecordFault::Memory) => Err(AllocError),
         // True hands are never answered so.
         Err(RecordFault::StrangerHand | RecordFault::NoNode) => {
@@ -102,7 +102,7 @@ pub fn put_end(
     }
 }
 
-/// The whole text: the rows, the lines of the actors that a limit stopped, and the end.
+/// The whole text: the rows, the lines of the players that a limit stopped, and the end.
 pub fn text_of(
     log: &[LogRow],
     session: &Session<Global>,

@@ -4,7 +4,7 @@ use Rattle.std.proofs.lemmas.Bool.{cases_eq, cases_lt}
 use Rattle.std.proofs.lemmas.List.{get_or-set_same, get_or-set_other, get_or_past, same_lists, length-set, length-map}
 use Rattle.std.proofs.lemmas.List.FromFn.{length-map-range_with_len, get_or-map-range_with_len}
 use Rattle.std.specs.List.{range_with_len}
-use Rattle.rev_links.specs.declared.places.Place.TheVariants.{End, At}
+use Rattle.rev_links.specs.declared.places.RingPlace.TheVariants.{End, At}
 use Rattle.rev_links.specs.Rings.{Path, In}
 use Rattle.rev_links.proofs.Rings.{walk_path, rest, distinct_path, first_step, length_at_most}
 use Rattle.rev_links.proofs.Grids.{some_within, size_of_page}

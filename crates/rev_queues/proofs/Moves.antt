@@ -2,7 +2,7 @@
 use Rattle.std.proofs.Common.{◌≡◌, ◌≢◌, ℕ, suc, zero, ◌+◌, ◌-◌, ◌*◌, ◌<◌, ◌≤◌, Bool, true, false, cond, not, ◌&&◌, ◌||◌, Option, Some, None, IsSome, IfSome, List, [], ◌∷◌, length, get_or, set, slice_get, ◌⊎◌, inl, inr, refl, sym, ◌∙◌, ap, subst, arith, map, option_map}
 use Rattle.std.proofs.lemmas.Bool.{cases_Bool, cases_eq, false≢true}
 use Rattle.std.specs.List.{sum_by}
-use Rattle.rev_links.specs.declared.places.Place.TheVariants.{End, At}
+use Rattle.rev_links.specs.declared.places.RingPlace.TheVariants.{End, At}
 use Rattle.rev_links.specs.Rings.{Path, In, Between, Gap, Opened}
 use Rattle.rev_links.proofs.Members.{without, insert, insert_behind}
 use Rattle.rev_links.proofs.Rings.{distinct_path, In-without, not_In-without, length-without, length-insert_behind}

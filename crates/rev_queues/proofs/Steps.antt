@@ -2,7 +2,7 @@
 use Rattle.std.proofs.Common.{◌≡◌, ◌≢◌, ℕ, zero, suc, ◌+◌, ◌<◌, Option, None, Some, IsSome, List, [], ◌∷◌, ◌++◌, length, slice_get, set, option_map, inl, inr, refl, sym, ◌∙◌, ap, subst, arith}
 use Rattle.std.proofs.lemmas.Bool.{cases_eq, cases_lt}
 use Rattle.std.proofs.lemmas.List.{length-append, length-set}
-use Rattle.rev_links.specs.declared.places.Place.TheVariants.{End, At}
+use Rattle.rev_links.specs.declared.places.RingPlace.TheVariants.{End, At}
 use Rattle.rev_links.specs.Grids.{cell_at, with_cell}
 use Rattle.rev_links.proofs.Grids.{slice_get-set_same, slice_get-set_other, some_within, cell_written, part_kept, sizes_written}
 use Rattle.rev_model.specs.declared.ChunkRef.{ChunkRef}

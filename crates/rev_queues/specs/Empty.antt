@@ -1,7 +1,7 @@
 -- The tables of a store without pages.
 -- Rule of this project: how the queues of a new store lie in their tables.
 use Rattle.std.specs.Prelude.{◌≡◌, ◌<◌, Some, List, length, slice_get}
-use Rattle.rev_links.specs.declared.places.Place.TheVariants.{End}
+use Rattle.rev_links.specs.declared.places.RingPlace.TheVariants.{End}
 use Rattle.rev_queues.specs.declared.members.QueueId.{QueueId}
 use Rattle.rev_queues.specs.Positions.{PositionLink}
 

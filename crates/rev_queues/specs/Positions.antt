@@ -1,8 +1,8 @@
 -- Where the link and the standing of each place of a queue lie.
 -- Rule of this project: the tables of the queues, place by place.
 use Rattle.std.specs.Prelude.{◌≡◌, ◌≢◌, ℕ, Option, Some, None, List, length, map, slice_get, option_map}
-use Rattle.rev_links.specs.declared.places.Place.{Place}
-use Rattle.rev_links.specs.declared.places.Place.TheVariants.{End, At}
+use Rattle.rev_links.specs.declared.places.RingPlace.{RingPlace}
+use Rattle.rev_links.specs.declared.places.RingPlace.TheVariants.{End, At}
 use Rattle.rev_links.specs.declared.places.Link.{Link}
 use Rattle.rev_links.specs.Rings.{Closed, Opened}
 use Rattle.rev_links.specs.Grids.{cell_at}
@@ -15,7 +15,7 @@ use Rattle.rev_queues.specs.declared.members.Standing.{Standing}
 
 -- a place of a queue: a queue's end, or a member
 abbrev pub Position : Type 0
-Position = Place QueueId Member
+Position = RingPlace QueueId Member
 
 -- what stands behind and before a place
 abbrev pub PositionLink : Type 0

@@ -3,7 +3,7 @@
 -- Rule of this project: how these lie in the tables, with sums beside them.
 use Rattle.std.specs.Prelude.{◌≡◌, ℕ, ◌<◌, ◌≤◌, ◌*◌, ◌+◌, Bool, true, false, Option, Some, None, List, [], length, map, option_map, replicate, slice_get, slice_index, slice_index_or}
 use Rattle.std.specs.List.{range_with_len, sum_by}
-use Rattle.rev_links.specs.declared.places.Place.TheVariants.{End, At}
+use Rattle.rev_links.specs.declared.places.RingPlace.TheVariants.{End, At}
 use Rattle.rev_links.specs.Rings.{walk, Path, In}
 use Rattle.rev_model.specs.Chunk.{same_entry}
 use Rattle.rev_model.specs.Lists.{has}

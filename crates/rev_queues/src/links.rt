@@ -1,10 +1,11 @@
+//! The links of ends, marks and chunks.
 ghost use Rattle.std.specs.Prelude.{◌≡◌, ◌≢◌, ℕ, ◌+◌, ◌<◌, ◌≤◌, Some, IsSome};
 ghost use Rattle.rev_links.specs.Rings.{SetsNext, SetsPrevious, Between, Gap};
-ghost use Rattle.rev_links.specs.declared.places.Place.TheVariants.{At};
+ghost use Rattle.rev_links.specs.declared.places.RingPlace.TheVariants.{At};
 ghost use Rattle.rev_queues.specs.Positions.{Position, link_at, next_in, previous_in, told, Closes, Opens, Tells, SameShape, SameStanding};
 
 use crate::members::{Member, Position, PositionLink, QueueSlot, Standing};
-use rev_links::{Cells, CountedGrid, Link, Place, Ticks};
+use rev_links::{Cells, CountedGrid, Link, RingPlace, Ticks};
 use std::alloc::Allocator;
 use std::sync::ledger::Ledger;
 
@@ -24,9 +25,12 @@ impl<A: Allocator> Links<A> {
         ensures cost { ticks.new ≡ ticks.old + 1 }
     {
         match position {
-            Place::End(queue) => self.ends.get(usize::from(queue.number), ticks),
-            Place::At(Member::Mark(queue)) => self.marks.get(usize::from(queue.number), ticks),
-            Place::At(Member::Chunk(chunk)) => self.slots.read(chunk.page, chunk.slot, ticks).link,
+            RingPlace::End(queue) => self.ends.get(usize::from(queue.number), ticks),
+            RingPlace::At(Member::Mark(queue)) => self.marks.get(usize::from(queue.number), ticks),
+            RingPlace::At(Member::Chunk(chunk)) => self
+                .slots
+                .read(chunk.page, chunk.slot, ticks)
+                .link,
         }
     }
 
@@ -56,7 +60,7 @@ impl<A: Allocator> Links<A> {
         ensures shape { SameShape self.old.ends self.old.marks self.old.slots self.new.ends self.new.marks self.new.slots }
         ensures cost { ticks.new ≡ ticks.old + 5 }
     {
-        let link = self.link(Place::At(member), ticks);
+        let link = self.link(RingPlace::At(member), ticks);
         self.set_next(link.previous, link.next, ticks);
         self.set_previous(link.next, link.previous, ticks);
         link.previous
@@ -75,15 +79,15 @@ impl<A: Allocator> Links<A> {
     {
         let next = self.link(after, ticks).next;
         self.set_link(
-            Place::At(member),
+            RingPlace::At(member),
             Link {
                 previous: after,
                 next,
             },
             ticks,
         );
-        self.set_next(after, Place::At(member), ticks);
-        self.set_previous(next, Place::At(member), ticks);
+        self.set_next(after, RingPlace::At(member), ticks);
+        self.set_previous(next, RingPlace::At(member), ticks);
     }
 
     /// Notes of a chunk in which queue it stands and how many bytes it counts; of a mark there is nothing to note.
@@ -113,8 +117,8 @@ impl<A: Allocator> Links<A> {
         ensures cost { ticks.new ≤ ticks.old + 2 }
     {
         match position {
-            Place::End(queue) => self.ends.set(usize::from(queue.number), link, ticks),
-            Place::At(member) => match member {
+            RingPlace::End(queue) => self.ends.set(usize::from(queue.number), link, ticks),
+            RingPlace::At(member) => match member {
                 Member::Mark(queue) => self.marks.set(usize::from(queue.number), link, ticks),
                 Member::Chunk(chunk) => {
                     self.slots.edit(chunk.page, chunk.slot, ticks).link = link;
@@ -133,8 +137,8 @@ impl<A: Allocator> Links<A> {
         ensures cost { ticks.new ≡ ticks.old + 2 }
     {
         match position {
-            Place::End(queue) => self.ends.edit(usize::from(queue.number), ticks).next = next,
-            Place::At(member) => match member {
+            RingPlace::End(queue) => self.ends.edit(usize::from(queue.number), ticks).next = next,
+            RingPlace::At(member) => match member {
                 Member::Mark(queue) => {
                     self.marks.edit(usize::from(queue.number), ticks).next = next;
                 }
@@ -160,9 +164,9 @@ impl<A: Allocator> Links<A> {
         ensures cost { ticks.new ≡ ticks.old + 2 }
     {
         match position {
-            Place::End(queue) => self.ends.edit(usize::from(queue.number), ticks).previous =
+            RingPlace::End(queue) => self.ends.edit(usize::from(queue.number), ticks).previous =
                 previous,
-            Place::At(member) => match member {
+            RingPlace::At(member) => match member {
                 Member::Mark(queue) => {
                     self.marks.edit(usize::from(queue.number), ticks).previous = previous;
                 }

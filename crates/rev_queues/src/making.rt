@@ -1,9 +1,10 @@
+//! New tables and slots.
 ghost use Rattle.std.specs.Prelude.{◌≡◌, ◌≤◌, IfOk, length};
 ghost use Rattle.rev_queues.specs.Empty.{AreEnds};
 
 use crate::members::{PositionLink, QueueId, QueueSlot, Standing};
 use crate::parts::Slots;
-use rev_links::{Link, Place};
+use rev_links::{Link, RingPlace};
 use std::alloc::{AllocError, Allocator};
 
 /// So many slots of a page. This and `Queues::open` are all that takes memory; the only error is that there is none.
@@ -12,7 +13,7 @@ pub fn slots<A: Allocator>(alloc: A, n: u16) -> Result<Slots<A>, AllocError>
 {
     // of a chunk in no queue these say nothing
     let queue = QueueId { number: 0 };
-    let place = Place::End(queue);
+    let place = RingPlace::End(queue);
     let link = Link {
         previous: place,
         next: place,
@@ -32,7 +33,7 @@ pub fn empty_ends<A: Allocator>(alloc: A, n: u16) -> Result<Vec<PositionLink, A>
 {
     let mut ends = Vec::with_capacity(alloc, usize::from(n))?;
     for number in 0..n {
-        let place = Place::End(QueueId { number });
+        let place = RingPlace::End(QueueId { number });
         ends.push(Link {
             previous: place,
             next: place,

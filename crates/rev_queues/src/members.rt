@@ -1,7 +1,8 @@
+//! Who stands in a queue: a chunk, or the mark of the crawler.
 ghost use Rattle.std.specs.Prelude.{◌≡◌, ◌-◌, ◌+◌, ◌&&◌, ◌||◌, ◌<◌, ◌≤◌, ◌^◌, not};
 ghost use Rattle.rev_queues.specs.QueueState.{bytes_told, chunk_at, member_of_entry, entry_at, is_mark, position_of};
 
-use rev_links::{Link, Place};
+use rev_links::{Link, RingPlace};
 use rev_model::{ChunkRef, Entry};
 
 /// The number of a queue in the tables: four for each class.
@@ -18,7 +19,7 @@ pub enum Member {
 }
 
 /// A place in a queue: its end, or a member.
-pub type Position = Place<QueueId, Member>;
+pub type Position = RingPlace<QueueId, Member>;
 
 /// The places before and behind a place in a queue.
 pub type PositionLink = Link<QueueId, Member>;
@@ -97,8 +98,8 @@ pub fn position_in(queue: QueueId, entry: Option<Entry>) -> Position
     ensures { result ≡ position_of queue entry }
 {
     match entry {
-        None => Place::End(queue),
-        Some(found) => Place::At(member_in(queue, found)),
+        None => RingPlace::End(queue),
+        Some(found) => RingPlace::At(member_in(queue, found)),
     }
 }
 
@@ -107,9 +108,9 @@ pub fn entry_at(position: Position) -> Option<Entry>
     ensures { result ≡ entry_at position }
 {
     match position {
-        Place::End(_) => None,
-        Place::At(Member::Chunk(chunk)) => Some(Entry::Chunk(chunk)),
-        Place::At(Member::Mark(_)) => Some(Entry::Mark),
+        RingPlace::End(_) => None,
+        RingPlace::At(Member::Chunk(chunk)) => Some(Entry::Chunk(chunk)),
+        RingPlace::At(Member::Mark(_)) => Some(Entry::Mark),
     }
 }
 
@@ -118,9 +119,9 @@ pub fn chunk_at(position: Position) -> Option<ChunkRef>
     ensures { result ≡ chunk_at position }
 {
     match position {
-        Place::End(_) => None,
-        Place::At(Member::Chunk(chunk)) => Some(chunk),
-        Place::At(Member::Mark(_)) => None,
+        RingPlace::End(_) => None,
+        RingPlace::At(Member::Chunk(chunk)) => Some(chunk),
+        RingPlace::At(Member::Mark(_)) => None,
     }
 }
 

@@ -1,3 +1,4 @@
+//! A page's slots of the queues while the page is away.
 use crate::members::QueueSlot;
 use std::alloc::Allocator;
 use std::marker::Model;

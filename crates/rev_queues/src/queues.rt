@@ -1,3 +1,4 @@
+//! The queues of all classes, with their bytes and counts.
 ghost use Rattle.std.specs.Prelude.{◌≡◌, ℕ, ◌+◌, ◌*◌, ◌<◌, ◌≤◌, ◌^◌, [], true, false, Some, length, map, slice_get, slice_index, slice_index_or, slice_set, IfOk};
 ghost use Rattle.rev_model.specs.Chunk.{same_entry, EntryHasSlot};
 ghost use Rattle.rev_model.specs.Lists.{has, before, has_after};
@@ -16,7 +17,7 @@ use crate::members::{
 };
 use crate::parts::Slots;
 use rev_classes::{ClassTable, Config};
-use rev_links::{Cells, CountedGrid, Place, Ticks};
+use rev_links::{Cells, CountedGrid, RingPlace, Ticks};
 use rev_model::{ChunkRef, Entry, Queue};
 use std::alloc::{AllocError, Allocator};
 use std::marker::{Brand, Model};
@@ -70,12 +71,12 @@ impl<A: Allocator> Queues<A> {
         ensures value { result ≡ tail (line self.now class queue) }
         ensures cost { ticks.new ≤ ticks.old + 16 }
     {
-        let end = Place::End(self.id(class, queue));
+        let end = RingPlace::End(self.id(class, queue));
         match self.links.link(end, ticks).previous {
-            Place::End(_) => None,
-            Place::At(member) => match member {
+            RingPlace::End(_) => None,
+            RingPlace::At(member) => match member {
                 Member::Chunk(chunk) => Some(chunk),
-                Member::Mark(_) => chunk_at(self.links.link(Place::At(member), ticks).previous),
+                Member::Mark(_) => chunk_at(self.links.link(RingPlace::At(member), ticks).previous),
             },
         }
     }
@@ -86,7 +87,7 @@ impl<A: Allocator> Queues<A> {
         ensures value { result ≡ last_of (line self.now class queue) }
         ensures cost { ticks.new ≤ ticks.old + 16 }
     {
-        let end = Place::End(self.id(class, queue));
+        let end = RingPlace::End(self.id(class, queue));
         entry_at(self.links.link(end, ticks).previous)
     }
 
@@ -96,7 +97,7 @@ impl<A: Allocator> Queues<A> {
         ensures value { result ≡ slice_get (line self.now class queue) 0 }
         ensures cost { ticks.new ≤ ticks.old + 16 }
     {
-        let end = Place::End(self.id(class, queue));
+        let end = RingPlace::End(self.id(class, queue));
         entry_at(self.links.link(end, ticks).next)
     }
 
@@ -114,7 +115,7 @@ impl<A: Allocator> Queues<A> {
         ensures cost { ticks.new ≤ ticks.old + 16 }
     {
         let member = member_in(self.id(class, queue), entry);
-        entry_at(self.links.link(Place::At(member), ticks).previous)
+        entry_at(self.links.link(RingPlace::At(member), ticks).previous)
     }
 
     /// What stands behind an entry of a queue; nothing behind the last.
@@ -131,7 +132,7 @@ impl<A: Allocator> Queues<A> {
         ensures cost { ticks.new ≤ ticks.old + 16 }
     {
         let member = member_in(self.id(class, queue), entry);
-        entry_at(self.links.link(Place::At(member), ticks).next)
+        entry_at(self.links.link(RingPlace::At(member), ticks).next)
     }
 
     /// The bytes of a queue: the sum of the footprints that its chunks were put in with.

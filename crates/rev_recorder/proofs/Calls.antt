@@ -19,25 +19,25 @@ abbrev pub with_parts : PlainRecording → SessionState → List LogRow → Plai
 with_parts old session log = record { session = session; log = log; opening = old.opening }
 
 -- a play that was not refused
-pub played_is : (old : PlainRecording) (step : Step) (new : SessionState) (log : List LogRow) (actor place : ℕ) (n : NodeId) (outcome : Outcome)
+pub played_is : (old : PlainRecording) (step : Step) (new : SessionState) (log : List LogRow) (player place : ℕ) (n : NodeId) (outcome : Outcome)
     → new ≡ record { root = old.session.root; rows = old.session.rows ++ Some (row old.session.current step (not (is_continued old.session.rows old.session.current))) ∷ []; current = n.0 }
     → n.0 ≡ length old.session.rows + 1 → outcome ≡ outcome_of (at old.session.root old.session.rows old.session.current) step → place ≡ length old.log
-    → log ≡ old.log ++ record { actor = actor; call = Play n } ∷ []
+    → log ≡ old.log ++ record { player = player; call = Play n } ∷ []
     → (receipt_at place (Play n) outcome ≡ receipt_at (length old.log) (Play (node (length old.session.rows + 1))) (outcome_of (at old.session.root old.session.rows old.session.current) step))
-    × (with_parts old new log ≡ logged old (played old.session step) actor (Play (node (length old.session.rows + 1))))
-played_is old step new log actor place n outcome is number gives at_end more =
+    × (with_parts old new log ≡ logged old (played old.session step) player (Play (node (length old.session.rows + 1))))
+played_is old step new log player place n outcome is number gives at_end more =
     let same : n ≡ node (length old.session.rows + 1) = ap (λ k. node k) number in
     let there : ℕ → SessionState = λ k. record { root = old.session.root; rows = old.session.rows ++ Some (row old.session.current step (not (is_continued old.session.rows old.session.current))) ∷ []; current = k } in (
       ap (λ p. receipt_at p (Play n) outcome) at_end ∙ (ap (λ m. receipt_at (length old.log) (Play m) outcome) same ∙ ap (λ o. receipt_at (length old.log) (Play (node (length old.session.rows + 1))) o) gives),
       ap (λ s. with_parts old s log) is ∙ (ap (λ k. with_parts old (there k) log) number
-          ∙ ap (λ l. with_parts old (there (length old.session.rows + 1)) l) (more ∙ ap (λ m. old.log ++ record { actor = actor; call = Play m } ∷ []) same)),
+          ∙ ap (λ l. with_parts old (there (length old.session.rows + 1)) l) (more ∙ ap (λ m. old.log ++ record { player = player; call = Play m } ∷ []) same)),
     )
 
 -- a call that was logged, and left the session as it was
-pub refused_is : (old : PlainRecording) (new : SessionState) (log : List LogRow) (actor place : ℕ) (call : Call)
-    → new ≡ old.session → place ≡ length old.log → log ≡ old.log ++ record { actor = actor; call = call } ∷ []
-    → (Some (okay_at place call) ≡ Some (okay_at (length old.log) call)) × (with_parts old new log ≡ logged old old.session actor call)
-refused_is old new log actor place call is at_end more = (
+pub refused_is : (old : PlainRecording) (new : SessionState) (log : List LogRow) (player place : ℕ) (call : Call)
+    → new ≡ old.session → place ≡ length old.log → log ≡ old.log ++ record { player = player; call = call } ∷ []
+    → (Some (okay_at place call) ≡ Some (okay_at (length old.log) call)) × (with_parts old new log ≡ logged old old.session player call)
+refused_is old new log player place call is at_end more = (
   ap (λ p. Some (okay_at p call)) at_end,
   ap (λ s. with_parts old s log) is ∙ ap (λ l. with_parts old old.session l) more,
 )

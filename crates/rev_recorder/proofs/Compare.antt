@@ -16,21 +16,21 @@ use Rattle.rev_undotree.specs.Positions.{SessionState}
 use Rattle.rev_recorder.specs.declared.hand.Call.TheVariants.{Play}
 use Rattle.rev_recorder.specs.declared.hand.Call.{Call}
 use Rattle.rev_recorder.specs.declared.hand.LogRow.{LogRow}
-use Rattle.rev_recorder.specs.Hands.{PlainEntry, PlainHand, told, calls_from, calls_of, has_actor, Agrees, HasActors, IsHeldBy, IsTrueEntry, IsTrueOf}
+use Rattle.rev_recorder.specs.Hands.{PlainEntry, PlainHand, told, calls_from, calls_of, has_player, Agrees, HasPlayers, IsHeldBy, IsTrueEntry, IsTrueOf}
 
--- from a row of the actor on
-pub calls-here : (actor place : ℕ) (log : List LogRow) (d : LogRow) → place < length log → (get_or log place d).actor ≡ actor
-    → calls_from actor place (drop place log) ≡ (place, (get_or log place d).call) ∷ calls_from actor (place + 1) (drop (place + 1) log)
-calls-here actor place log d within is =
-    let same : ((get_or log place d).actor == actor) ≡ true = grind (arith, nat_tests) in
+-- from a row of the player on
+pub calls-here : (player place : ℕ) (log : List LogRow) (d : LogRow) → place < length log → (get_or log place d).player ≡ player
+    → calls_from player place (drop place log) ≡ (place, (get_or log place d).call) ∷ calls_from player (place + 1) (drop (place + 1) log)
+calls-here player place log d within is =
+    let same : ((get_or log place d).player == player) ≡ true = grind (arith, nat_tests) in
     let split : drop place log ≡ get_or log place d ∷ drop (place + 1) log = rw add-one (drop-cons log place d within) in
     rw (split, same) refl
 
--- from a row of another actor on
-pub calls-other : (actor place : ℕ) (log : List LogRow) (d : LogRow) → place < length log → ((get_or log place d).actor ≡ actor → ⊥)
-    → calls_from actor place (drop place log) ≡ calls_from actor (place + 1) (drop (place + 1) log)
-calls-other actor place log d within not =
-    let other : ((get_or log place d).actor == actor) ≡ false = grind (arith, nat_tests) in
+-- from a row of another player on
+pub calls-other : (player place : ℕ) (log : List LogRow) (d : LogRow) → place < length log → ((get_or log place d).player ≡ player → ⊥)
+    → calls_from player place (drop place log) ≡ calls_from player (place + 1) (drop (place + 1) log)
+calls-other player place log d within not =
+    let other : ((get_or log place d).player == player) ≡ false = grind (arith, nat_tests) in
     let split : drop place log ≡ get_or log place d ∷ drop (place + 1) log = rw add-one (drop-cons log place d within) in
     rw (split, other) refl
 
@@ -56,36 +56,36 @@ later : (b : Bool) (x y : ℕ × Call) (calls : List (ℕ × Call)) → (j : ℕ
 later true x y calls found = (suc found.0, found.1)
 later false x y calls found = found
 
--- a row of the log is among its actor's calls
-pub calls-has : (actor base : ℕ) (log : List LogRow) (place : ℕ) (row : LogRow) → slice_get log place ≡ Some row → row.actor ≡ actor
-    → (j : ℕ) × (slice_get (calls_from actor base log) j ≡ Some (base + place, row.call))
-calls-has actor base [] place row at is = absurd (let P : Option LogRow → Type 0 = elim [ None ↦ Unit {0} | Some r ↦ ⊥ ] in subst P at tt)
-calls-has actor base (r ∷ log) zero row at is =
+-- a row of the log is among its player's calls
+pub calls-has : (player base : ℕ) (log : List LogRow) (place : ℕ) (row : LogRow) → slice_get log place ≡ Some row → row.player ≡ player
+    → (j : ℕ) × (slice_get (calls_from player base log) j ≡ Some (base + place, row.call))
+calls-has player base [] place row at is = absurd (let P : Option LogRow → Type 0 = elim [ None ↦ Unit {0} | Some r ↦ ⊥ ] in subst P at tt)
+calls-has player base (r ∷ log) zero row at is =
     let eq : r ≡ row = cc in
-    let same : (r.actor == actor) ≡ true = let k : r.actor ≡ actor = ap (λ (q : LogRow). q.actor) eq ∙ is in grind (arith, nat_tests) in
+    let same : (r.player == player) ≡ true = let k : r.player ≡ player = ap (λ (q : LogRow). q.player) eq ∙ is in grind (arith, nat_tests) in
     let here : Some (base, r.call) ≡ Some (base + 0, row.call) = let n : base + 0 ≡ base = omega arith in rw n (ap (λ (q : LogRow). Some (base, q.call)) eq) in
     (0, rw same here)
-calls-has actor base (r ∷ log) (suc place) row at is =
-    let rest = calls-has actor (base + 1) log place row at is in
+calls-has player base (r ∷ log) (suc place) row at is =
+    let rest = calls-has player (base + 1) log place row at is in
     let number : base + 1 + place ≡ base + suc place = omega arith in
-    let found : (j : ℕ) × (slice_get (calls_from actor (base + 1) log) j ≡ Some (base + suc place, row.call)) = (rest.0, rest.1 ∙ ap (λ (n : ℕ). Some (n, row.call)) number) in
-    later (r.actor == actor) (base, r.call) (base + suc place, row.call) (calls_from actor (base + 1) log) found
+    let found : (j : ℕ) × (slice_get (calls_from player (base + 1) log) j ≡ Some (base + suc place, row.call)) = (rest.0, rest.1 ∙ ap (λ (n : ℕ). Some (n, row.call)) number) in
+    later (r.player == player) (base, r.call) (base + suc place, row.call) (calls_from player (base + 1) log) found
 
 -- an entry behind what it tells
 mapped : (found : Option PlainEntry) (y : ℕ × Call) → option_map told found ≡ Some y → (entry : PlainEntry) × (found ≡ Some entry) × (told entry ≡ y)
 mapped None y is = absurd (let P : Option (ℕ × Call) → Type 0 = elim [ None ↦ Unit {0} | Some r ↦ ⊥ ] in subst P is tt)
 mapped (Some entry) y is = (entry, refl, cc)
 
--- where every hand agrees, and each row's actor has a hand, each row is some hand's entry
-pub held-from : (hands : List PlainHand) (log : List LogRow) (session : SessionState) → All (Agrees log session) hands → HasActors hands log
+-- where every hand agrees, and each row's player has a hand, each row is some hand's entry
+pub held-from : (hands : List PlainHand) (log : List LogRow) (session : SessionState) → All (Agrees log session) hands → HasPlayers hands log
     → (place : ℕ) (row : LogRow) → slice_get log place ≡ Some row → IsHeldBy hands place row
 held-from hands log session agree has place row at =
-    let found = Any-from_list_any (λ (hand : PlainHand). hand.actor == row.actor) hands (has place row at) in
+    let found = Any-from_list_any (λ (hand : PlainHand). hand.player == row.player) hands (has place row at) in
     let hand : PlainHand = found.1 in
-    let whose : hand.actor ≡ row.actor = let test = found.4 in grind (arith, nat_tests) in
+    let whose : hand.player ≡ row.player = let test = found.4 in grind (arith, nat_tests) in
     let true_hand : Agrees log session hand = subst (Agrees log session) found.3 (agree found.0 hand found.2) in
-    let call = calls-has row.actor 0 log place row at refl in
-    let listed : slice_get (calls_of hand.actor log) call.0 ≡ Some (place, row.call) =
+    let call = calls-has row.player 0 log place row at refl in
+    let listed : slice_get (calls_of hand.player log) call.0 ≡ Some (place, row.call) =
     let number : 0 + place ≡ place = omega arith in
     rw whose (call.1 ∙ ap (λ (n : ℕ). Some (n, row.call)) number) in
     let told_there : option_map told (slice_get hand.entries call.0) ≡ Some (place, row.call) =
@@ -94,13 +94,13 @@ held-from hands log session agree has place row at =
     let there : slice_get hands found.0 ≡ Some hand = slice_get-get_or hands found.0 hand found.2 ∙ ap (λ (h : PlainHand). Some h) found.3 in
     (found.0, hand, call.0, entry.0, there, whose, entry.1, entry.2)
 
--- a row whose actor has no hand is no hand's entry
-pub lost : (hands : List PlainHand) (place : ℕ) (row : LogRow) → has_actor row.actor hands ≡ false → IsHeldBy hands place row → ⊥
+-- a row whose player has no hand is no hand's entry
+pub lost : (hands : List PlainHand) (place : ℕ) (row : LogRow) → has_player row.player hands ≡ false → IsHeldBy hands place row → ⊥
 lost hands place row none held =
-    let test : PlainHand → Bool = λ hand. hand.actor == row.actor in
+    let test : PlainHand → Bool = λ hand. hand.player == row.player in
     let hand : PlainHand = held.1 in
     let is : get_or hands held.0 hand ≡ hand = get_or_from_slice_get hands held.0 hand hand held.4 in
-    let same : (hand.actor == row.actor) ≡ true = let e : hand.actor ≡ row.actor = held.5 in grind (arith, nat_tests) in
+    let same : (hand.player == row.player) ≡ true = let e : hand.player ≡ row.player = held.5 in grind (arith, nat_tests) in
     let some : list_any test hands ≡ true = list_any_at test hands held.0 hand (slice_get_within hands held.0 hand held.4) (rw is same) in
     cc
 
@@ -115,19 +115,19 @@ one-more {X} P xs n x within is each here k d lt =
       | inr less ↦ each k d less
     ]
 
--- the same of hands whose actor an earlier hand has
+-- the same of hands whose player an earlier hand has
 pub second-more : (hands : List PlainHand) (n : ℕ) (hand : PlainHand) → n < length hands → hand ≡ get_or hands n hand
-    → ((k : ℕ) (h : PlainHand) → k < n → slice_get hands k ≡ Some h → has_actor h.actor (take k hands) ≡ true → h.entries ≡ [])
-    → (has_actor hand.actor (take n hands) ≡ true → hand.entries ≡ [])
-    → (k : ℕ) (h : PlainHand) → k < n + 1 → slice_get hands k ≡ Some h → has_actor h.actor (take k hands) ≡ true → h.entries ≡ []
+    → ((k : ℕ) (h : PlainHand) → k < n → slice_get hands k ≡ Some h → has_player h.player (take k hands) ≡ true → h.entries ≡ [])
+    → (has_player hand.player (take n hands) ≡ true → hand.entries ≡ [])
+    → (k : ℕ) (h : PlainHand) → k < n + 1 → slice_get hands k ≡ Some h → has_player h.player (take k hands) ≡ true → h.entries ≡ []
 second-more hands n hand within is each here k h lt found earlier =
     let split : (k ≡ n) ⊎ (k < n) = eq-or-lt_of_le (omega (arith, lt)) in
     elim split as (λ _. h.entries ≡ []) [
       | inl same ↦
           let there : slice_get hands n ≡ Some h = subst (λ (m : ℕ). slice_get hands m ≡ Some h) same found in
-          let before : has_actor h.actor (take n hands) ≡ true = subst (λ (m : ℕ). has_actor h.actor (take m hands) ≡ true) same earlier in
+          let before : has_player h.player (take n hands) ≡ true = subst (λ (m : ℕ). has_player h.player (take m hands) ≡ true) same earlier in
           let one : hand ≡ h = is ∙ get_or_from_slice_get hands n h hand there in
-          let P : PlainHand → Type 0 = λ x. has_actor x.actor (take n hands) ≡ true in
+          let P : PlainHand → Type 0 = λ x. has_player x.player (take n hands) ≡ true in
           sym (ap (λ (x : PlainHand). x.entries) one) ∙ here (subst P (sym one) before)
       | inr less ↦ each k h less found earlier
     ]

@@ -22,20 +22,20 @@ none-some receipt e = cc
 
 -- a hand of these parts
 abbrev pub hand_of : ℕ → ℕ → List PlainEntry → PlainHand
-hand_of actor seal entries = record { actor = actor; seal = seal; entries = entries }
+hand_of player seal entries = record { player = player; seal = seal; entries = entries }
 
 -- of a play
-pub left-by-play : (old new : PlainRecording) (actor seal : ℕ) (entries entries' : List PlainEntry) (fault : RecordFault) (receipt : Receipt) → PlayRefusedAs old actor fault (Some receipt) new → entries' ≡ entries ++ record { receipt = receipt; step = None } ∷ [] → LeftByPlay (hand_of actor seal entries) fault (hand_of actor seal entries')
-left-by-play old new actor seal entries entries' TooManyNodes receipt h is = enters (hand_of actor seal entries) (hand_of actor seal entries') receipt (length old.log) Many h.1 (ap (hand_of actor seal) is)
-left-by-play old new actor seal entries entries' TooDeep receipt h is = enters (hand_of actor seal entries) (hand_of actor seal entries') receipt (length old.log) Deep h.2 (ap (hand_of actor seal) is)
-left-by-play old new actor seal entries entries' Memory receipt h is = absurd (none-some receipt h.0)
-left-by-play old new actor seal entries entries' StrangerHand receipt h is = absurd h
-left-by-play old new actor seal entries entries' NoNode receipt h is = absurd h
+pub left-by-play : (old new : PlainRecording) (player seal : ℕ) (entries entries' : List PlainEntry) (fault : RecordFault) (receipt : Receipt) → PlayRefusedAs old player fault (Some receipt) new → entries' ≡ entries ++ record { receipt = receipt; step = None } ∷ [] → LeftByPlay (hand_of player seal entries) fault (hand_of player seal entries')
+left-by-play old new player seal entries entries' TooManyNodes receipt h is = enters (hand_of player seal entries) (hand_of player seal entries') receipt (length old.log) Many h.1 (ap (hand_of player seal) is)
+left-by-play old new player seal entries entries' TooDeep receipt h is = enters (hand_of player seal entries) (hand_of player seal entries') receipt (length old.log) Deep h.2 (ap (hand_of player seal) is)
+left-by-play old new player seal entries entries' Memory receipt h is = absurd (none-some receipt h.0)
+left-by-play old new player seal entries entries' StrangerHand receipt h is = absurd h
+left-by-play old new player seal entries entries' NoNode receipt h is = absurd h
 
 -- of a go
-pub left-by-go : (old new : PlainRecording) (actor seal : ℕ) (entries entries' : List PlainEntry) (n : NodeId) (fault : RecordFault) (receipt : Receipt) → GoRefusedAs old actor n fault (Some receipt) new → entries' ≡ entries ++ record { receipt = receipt; step = None } ∷ [] → LeftByGo (hand_of actor seal entries) n fault (hand_of actor seal entries')
-left-by-go old new actor seal entries entries' n TooManyNodes receipt h is = absurd h
-left-by-go old new actor seal entries entries' n TooDeep receipt h is = absurd h
-left-by-go old new actor seal entries entries' n Memory receipt h is = absurd (none-some receipt h.0)
-left-by-go old new actor seal entries entries' n StrangerHand receipt h is = absurd h
-left-by-go old new actor seal entries entries' n NoNode receipt h is = enters (hand_of actor seal entries) (hand_of actor seal entries') receipt (length old.log) (Lost n) h.1 (ap (hand_of actor seal) is)
+pub left-by-go : (old new : PlainRecording) (player seal : ℕ) (entries entries' : List PlainEntry) (n : NodeId) (fault : RecordFault) (receipt : Receipt) → GoRefusedAs old player n fault (Some receipt) new → entries' ≡ entries ++ record { receipt = receipt; step = None } ∷ [] → LeftByGo (hand_of player seal entries) n fault (hand_of player seal entries')
+left-by-go old new player seal entries entries' n TooManyNodes receipt h is = absurd h
+left-by-go old new player seal entries entries' n TooDeep receipt h is = absurd h
+left-by-go old new player seal entries entries' n Memory receipt h is = absurd (none-some receipt h.0)
+left-by-go old new player seal entries entries' n StrangerHand receipt h is = absurd h
+left-by-go old new player seal entries entries' n NoNode receipt h is = enters (hand_of player seal entries) (hand_of player seal entries') receipt (length old.log) (Lost n) h.1 (ap (hand_of player seal) is)

@@ -7,7 +7,7 @@ use Rattle.rev_undotree.specs.Positions.{SessionState}
 use Rattle.rev_recorder.specs.declared.hand.Call.{Call}
 use Rattle.rev_recorder.specs.declared.hand.Call.TheVariants.{Play, Go, Many, Deep, Lost}
 use Rattle.rev_recorder.specs.declared.hand.LogRow.{LogRow}
-use Rattle.rev_recorder.specs.Log.{Opening, MayStand, LeadsTo, IsLegal, count_after, node_after}
+use Rattle.rev_recorder.specs.Log.{Opening, MayStand, NodesLeadTo, IsLegal, count_after, node_after}
 
 -- a test that is not true is false
 pub refuted : (b : Bool) → (b ≡ true → ⊥) → b ≡ false
@@ -15,7 +15,7 @@ refuted true h = absurd (h refl)
 refuted false h = refl
 
 -- a log that leads to all rows began with no more of them
-leads-bound : (rows : List (Option Row)) (count node : ℕ) (log : List LogRow) (last : ℕ) → LeadsTo rows count node log last → count ≤ length rows
+leads-bound : (rows : List (Option Row)) (count node : ℕ) (log : List LogRow) (last : ℕ) → NodesLeadTo rows count node log last → count ≤ length rows
 leads-bound rows count node [] last h = omega (arith, h.0)
 leads-bound rows count node (entry ∷ log) last h =
     let rest = leads-bound rows (count_after count entry.call) (node_after node entry.call) log last h.1 in
@@ -25,8 +25,8 @@ leads-bound rows count node (entry ∷ log) last h =
 
 -- a call that leaves the rows as they are
 leads-snoc : (rows : List (Option Row)) (count node : ℕ) (log : List LogRow) (last : ℕ) (entry : LogRow)
-    → LeadsTo rows count node log last → MayStand rows (length rows) last entry.call → count_after (length rows) entry.call ≡ length rows
-    → LeadsTo rows count node (log ++ entry ∷ []) (node_after last entry.call)
+    → NodesLeadTo rows count node log last → MayStand rows (length rows) last entry.call → count_after (length rows) entry.call ≡ length rows
+    → NodesLeadTo rows count node (log ++ entry ∷ []) (node_after last entry.call)
 leads-snoc rows count node [] last entry h may same =
     let P : ℕ → ℕ → Type 0 = λ c n. MayStand rows c n entry.call × ((count_after c entry.call ≡ length rows) × (node_after n entry.call ≡ node_after last entry.call)) in
     subst (λ c. P c node) (sym h.0) (subst (λ n. P (length rows) n) (sym h.1) (may, (same, refl)))
@@ -54,33 +54,33 @@ stands-more rows o count node Deep le h = rw (take-append-le count rows (o ∷ [
 stands-more rows o count node (Lost n) le h = rw (take-append-le count rows (o ∷ []) le) h
 
 -- a play adds a row
-leads-play : (rows : List (Option Row)) (row : Row) (count node : ℕ) (log : List LogRow) (last actor : ℕ) (n : NodeId)
-    → LeadsTo rows count node log last → n.0 ≡ length rows + 1 → row.parent ≡ last
-    → LeadsTo (rows ++ Some row ∷ []) count node (log ++ record { actor = actor; call = Play n } ∷ []) n.0
-leads-play rows row count node [] last actor n h is parent =
+leads-play : (rows : List (Option Row)) (row : Row) (count node : ℕ) (log : List LogRow) (last player : ℕ) (n : NodeId)
+    → NodesLeadTo rows count node log last → n.0 ≡ length rows + 1 → row.parent ≡ last
+    → NodesLeadTo (rows ++ Some row ∷ []) count node (log ++ record { player = player; call = Play n } ∷ []) n.0
+leads-play rows row count node [] last player n h is parent =
     let number : n.0 ≡ suc (length rows) = is ∙ add-one (length rows) in
     let found : parent_of (rows ++ Some row ∷ []) n.0 ≡ Some row.parent = rw number (parent_of-last rows row) in
     let from : Some row.parent ≡ Some node = ap (λ (k : ℕ). Some k) (parent ∙ sym h.1) in
     ((is ∙ ap (λ k. k + 1) (sym h.0), found ∙ from), (omega (arith, h.0, length-append rows (Some row ∷ [])), refl))
-leads-play rows row count node (e ∷ log) last actor n h is parent =
+leads-play rows row count node (e ∷ log) last player n h is parent =
     let bound = leads-bound rows count node (e ∷ log) last h in (
       stands-more rows (Some row) count node e.call bound h.0,
-      leads-play rows row (count_after count e.call) (node_after node e.call) log last actor n h.1 is parent,
+      leads-play rows row (count_after count e.call) (node_after node e.call) log last player n h.1 is parent,
     )
 
 -- the log after a play
-pub legal-play : (opening : Opening) (log log' : List LogRow) (session session' : SessionState) (actor : ℕ) (row : Row) (n : NodeId)
+pub legal-play : (opening : Opening) (log log' : List LogRow) (session session' : SessionState) (player : ℕ) (row : Row) (n : NodeId)
     → IsLegal opening log session → session'.rows ≡ session.rows ++ Some row ∷ [] → session'.current ≡ n.0 → n.0 ≡ length session.rows + 1 → row.parent ≡ session.current
-    → log' ≡ log ++ record { actor = actor; call = Play n } ∷ []
+    → log' ≡ log ++ record { player = player; call = Play n } ∷ []
     → IsLegal opening log' session'
-legal-play opening log log' session session' actor row n h rows current number parent more =
-    rw (rows, current, more) (leads-play session.rows row opening.count opening.node log session.current actor n h number parent)
+legal-play opening log log' session session' player row n h rows current number parent more =
+    rw (rows, current, more) (leads-play session.rows row opening.count opening.node log session.current player n h number parent)
 
 -- the log after a call that leaves the rows as they are
-pub legal-call : (opening : Opening) (log log' : List LogRow) (session session' : SessionState) (actor : ℕ) (call : Call)
+pub legal-call : (opening : Opening) (log log' : List LogRow) (session session' : SessionState) (player : ℕ) (call : Call)
     → IsLegal opening log session → session'.rows ≡ session.rows → session'.current ≡ node_after session.current call
     → MayStand session.rows (length session.rows) session.current call
-    → count_after (length session.rows) call ≡ length session.rows → log' ≡ log ++ record { actor = actor; call = call } ∷ []
+    → count_after (length session.rows) call ≡ length session.rows → log' ≡ log ++ record { player = player; call = call } ∷ []
     → IsLegal opening log' session'
-legal-call opening log log' session session' actor call h rows current may same more =
-    rw (rows, current, more) (leads-snoc session.rows opening.count opening.node log session.current (record { actor = actor; call = call }) h may same)
+legal-call opening log log' session session' player call h rows current may same more =
+    rw (rows, current, more) (leads-snoc session.rows opening.count opening.node log session.current (record { player = player; call = call }) h may same)

@@ -71,28 +71,28 @@ moved session n = record { root = session.root; rows = session.rows; current = n
 
 -- what lies under the lock after a call that led to the session
 abbrev pub logged : PlainRecording → SessionState → ℕ → Call → PlainRecording
-logged old session actor call = record {
+logged old session player call = record {
   session = session;
-  log = old.log ++ record { actor = actor; call = call } ∷ [];
+  log = old.log ++ record { player = player; call = call } ∷ [];
   opening = old.opening;
 }
 
 -- under the lock, a play was refused, for this cause and with this receipt: the tree's refusals are logged, and come
 -- just where the tree refuses; nothing is changed where memory ran out
 abbrev pub PlayRefusedAs : PlainRecording → ℕ → RecordFault → Option Receipt → PlainRecording → Type 0
-PlayRefusedAs old actor TooManyNodes receipt new =
-    (length old.session.rows ≡ 1048576) × (receipt ≡ Some (okay_at (length old.log) Many)) × (new ≡ logged old old.session actor Many)
-PlayRefusedAs old actor TooDeep receipt new =
-    (length old.session.rows < 1048576) × (64 < nesting_below old.session.rows old.session.current) × (receipt ≡ Some (okay_at (length old.log) Deep)) × (new ≡ logged old old.session actor Deep)
-PlayRefusedAs old actor Memory receipt new = (receipt ≡ None) × (new ≡ old)
-PlayRefusedAs old actor StrangerHand receipt new = ⊥
-PlayRefusedAs old actor NoNode receipt new = ⊥
+PlayRefusedAs old player TooManyNodes receipt new =
+    (length old.session.rows ≡ 1048576) × (receipt ≡ Some (okay_at (length old.log) Many)) × (new ≡ logged old old.session player Many)
+PlayRefusedAs old player TooDeep receipt new =
+    (length old.session.rows < 1048576) × (64 < nesting_below old.session.rows old.session.current) × (receipt ≡ Some (okay_at (length old.log) Deep)) × (new ≡ logged old old.session player Deep)
+PlayRefusedAs old player Memory receipt new = (receipt ≡ None) × (new ≡ old)
+PlayRefusedAs old player StrangerHand receipt new = ⊥
+PlayRefusedAs old player NoNode receipt new = ⊥
 
 -- under the lock, a go was refused, by the same rule
 abbrev pub GoRefusedAs : PlainRecording → ℕ → NodeId → RecordFault → Option Receipt → PlainRecording → Type 0
-GoRefusedAs old actor n TooManyNodes receipt new = ⊥
-GoRefusedAs old actor n TooDeep receipt new = ⊥
-GoRefusedAs old actor n Memory receipt new = (receipt ≡ None) × (new ≡ old)
-GoRefusedAs old actor n StrangerHand receipt new = ⊥
-GoRefusedAs old actor n NoNode receipt new =
-    (is_held old.session.rows n.0 ≡ false) × (receipt ≡ Some (okay_at (length old.log) (Lost n))) × (new ≡ logged old old.session actor (Lost n))
+GoRefusedAs old player n TooManyNodes receipt new = ⊥
+GoRefusedAs old player n TooDeep receipt new = ⊥
+GoRefusedAs old player n Memory receipt new = (receipt ≡ None) × (new ≡ old)
+GoRefusedAs old player n StrangerHand receipt new = ⊥
+GoRefusedAs old player n NoNode receipt new =
+    (is_held old.session.rows n.0 ≡ false) × (receipt ≡ Some (okay_at (length old.log) (Lost n))) × (new ≡ logged old old.session player (Lost n))

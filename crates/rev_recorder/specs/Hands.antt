@@ -1,5 +1,5 @@
 -- The entries of a hand, and when hands and a log agree.
--- Rule of this project: what an actor was told is what stands in the log and in the tree.
+-- Rule of this project: what a player was told is what stands in the log and in the tree.
 use Rattle.std.specs.Prelude.{◌≡◌, ℕ, ◌+◌, ◌<◌, ◌==◌, ◌&&◌, Bool, true, false, not, cond, List, [], ◌∷◌, ◌++◌, length, map, take, All, sum_by, slice_get, Option, Some}
 use Rattle.std.specs.List.{list_any}
 use Rattle.rev_model.specs.Actor.{Step}
@@ -13,10 +13,10 @@ use Rattle.rev_recorder.specs.declared.hand.Call.TheVariants.{Play, Go, Many, De
 use Rattle.rev_recorder.specs.declared.hand.LogRow.{LogRow}
 use Rattle.rev_recorder.specs.declared.hand.Receipt.{Receipt}
 
--- a recorder as plain data: whose hands it takes, and how many actors there are
+-- a recorder as plain data: whose hands it takes, and how many players there are
 pub record PlainRecorder : Type 0 where
   pub seal : ℕ
-  pub actors : ℕ
+  pub players : ℕ
 
 -- an entry as plain data: the receipt of a call, and the step that was handed in for a play
 pub record PlainEntry : Type 0 where
@@ -25,26 +25,26 @@ pub record PlainEntry : Type 0 where
 
 -- a hand as plain data
 pub record PlainHand : Type 0 where
-  pub actor : ℕ
+  pub player : ℕ
   pub seal : ℕ
   pub entries : List PlainEntry
 
 -- the hand with one entry more
 abbrev pub with_entry : PlainHand → Receipt → Option Step → PlainHand
 with_entry hand receipt step = record {
-  actor = hand.actor;
+  player = hand.player;
   seal = hand.seal;
   entries = hand.entries ++ record { receipt = receipt; step = step } ∷ [];
 }
 
--- the calls of an actor in a log whose first row has the given place, each with its place
+-- the calls of a player in a log whose first row has the given place, each with its place
 abbrev pub calls_from : ℕ → ℕ → List LogRow → List (ℕ × Call)
-calls_from actor place [] = []
-calls_from actor place (row ∷ log) = cond (row.actor == actor) ((place, row.call) ∷ calls_from actor (place + 1) log) (calls_from actor (place + 1) log)
+calls_from player place [] = []
+calls_from player place (row ∷ log) = cond (row.player == player) ((place, row.call) ∷ calls_from player (place + 1) log) (calls_from player (place + 1) log)
 
--- the calls of an actor in the log, each with its place, from 0
+-- the calls of a player in the log, each with its place, from 0
 abbrev pub calls_of : ℕ → List LogRow → List (ℕ × Call)
-calls_of actor log = calls_from actor 0 log
+calls_of player log = calls_from player 0 log
 
 -- the place and the call that an entry tells of
 abbrev pub told : PlainEntry → ℕ × Call
@@ -64,15 +64,15 @@ IsTrueOf session (Lost n) copy outcome = outcome ≡ Okay
 abbrev pub IsTrueEntry : SessionState → PlainEntry → Type 0
 IsTrueEntry session entry = IsTrueOf session entry.receipt.call entry.step entry.receipt.outcome
 
--- the hand's entries are, in order and each once, the log's of its actor, and each is true of the session
+-- the hand's entries are, in order and each once, the log's of its player, and each is true of the session
 pub record Agrees (log : List LogRow) (session : SessionState) (hand : PlainHand) : Type 0 where
-  pub calls : map told hand.entries ≡ calls_of hand.actor log
+  pub calls : map told hand.entries ≡ calls_of hand.player log
   pub entries : All (IsTrueEntry session) hand.entries
 
--- the log's row at the place is an entry of one of the hands, which is its actor's
+-- the log's row at the place is an entry of one of the hands, which is its player's
 abbrev pub IsHeldBy : List PlainHand → ℕ → LogRow → Type 0
 IsHeldBy hands place row =
-    (k : ℕ) × (hand : PlainHand) × (j : ℕ) × (entry : PlainEntry) × (slice_get hands k ≡ Some hand) × (hand.actor ≡ row.actor) × (slice_get hand.entries j ≡ Some entry) × (told entry ≡ (place, row.call))
+    (k : ℕ) × (hand : PlainHand) × (j : ℕ) × (entry : PlainEntry) × (slice_get hands k ≡ Some hand) × (hand.player ≡ row.player) × (slice_get hand.entries j ≡ Some entry) × (told entry ≡ (place, row.call))
 
 -- hands, log and session agree: each hand does, each row of the log is some hand's entry, and the log is as long as the
 -- entries of all hands together
@@ -81,38 +81,38 @@ pub record Settles (hands : List PlainHand) (log : List LogRow) (session : Sessi
   pub held : (place : ℕ) (row : LogRow) → slice_get log place ≡ Some row → IsHeldBy hands place row
   pub count : length log ≡ sum_by (λ hand. length hand.entries) hands
 
--- some hand is this actor's and has this seal
+-- some hand is this player's and has this seal
 abbrev pub has_hand : ℕ → ℕ → List PlainHand → Bool
-has_hand seal actor hands = list_any (λ hand. (hand.actor == actor) && (hand.seal == seal)) hands
+has_hand seal player hands = list_any (λ hand. (hand.player == player) && (hand.seal == seal)) hands
 
--- an actor has no hand of the seal
+-- a player has no hand of the seal
 abbrev pub LacksHand : ℕ → ℕ → List PlainHand → Type 0
-LacksHand seal actors hands = (actor : ℕ) × (actor < actors) × (has_hand seal actor hands ≡ false)
+LacksHand seal players hands = (player : ℕ) × (player < players) × (has_hand seal player hands ≡ false)
 
--- each actor has a hand of the seal
+-- each player has a hand of the seal
 abbrev pub HasHands : ℕ → ℕ → List PlainHand → Type 0
-HasHands seal actors hands = (actor : ℕ) → actor < actors → has_hand seal actor hands ≡ true
+HasHands seal players hands = (player : ℕ) → player < players → has_hand seal player hands ≡ true
 
 -- some hand has another seal
 abbrev pub has_stranger : ℕ → List PlainHand → Bool
 has_stranger seal hands = list_any (λ hand. not (hand.seal == seal)) hands
 
--- some hand is this actor's
-abbrev pub has_actor : ℕ → List PlainHand → Bool
-has_actor actor hands = list_any (λ hand. hand.actor == actor) hands
+-- some hand is this player's
+abbrev pub has_player : ℕ → List PlainHand → Bool
+has_player player hands = list_any (λ hand. hand.player == player) hands
 
--- each row of the log has a hand of its actor
-abbrev pub HasActors : List PlainHand → List LogRow → Type 0
-HasActors hands log = (place : ℕ) (row : LogRow) → slice_get log place ≡ Some row → has_actor row.actor hands ≡ true
+-- each row of the log has a hand of its player
+abbrev pub HasPlayers : List PlainHand → List LogRow → Type 0
+HasPlayers hands log = (place : ℕ) (row : LogRow) → slice_get log place ≡ Some row → has_player row.player hands ≡ true
 
--- some row of the log has no hand of its actor
-abbrev pub LacksActor : List PlainHand → List LogRow → Type 0
-LacksActor hands log = (place : ℕ) × (row : LogRow) × (slice_get log place ≡ Some row) × (has_actor row.actor hands ≡ false)
+-- some row of the log has no hand of its player
+abbrev pub LacksPlayer : List PlainHand → List LogRow → Type 0
+LacksPlayer hands log = (place : ℕ) × (row : LogRow) × (slice_get log place ≡ Some row) × (has_player row.player hands ≡ false)
 
--- no hand with entries is of an actor whom an earlier hand is of
+-- no hand with entries is of a player whom an earlier hand is of
 abbrev pub HasOneEach : List PlainHand → Type 0
-HasOneEach hands = (k : ℕ) (hand : PlainHand) → slice_get hands k ≡ Some hand → has_actor hand.actor (take k hands) ≡ true → hand.entries ≡ []
+HasOneEach hands = (k : ℕ) (hand : PlainHand) → slice_get hands k ≡ Some hand → has_player hand.player (take k hands) ≡ true → hand.entries ≡ []
 
--- some hand with entries is of an actor whom an earlier hand is of
+-- some hand with entries is of a player whom an earlier hand is of
 abbrev pub IsSecond : List PlainHand → Type 0
-IsSecond hands = (k : ℕ) × (hand : PlainHand) × (slice_get hands k ≡ Some hand) × (has_actor hand.actor (take k hands) ≡ true) × (0 < length hand.entries)
+IsSecond hands = (k : ℕ) × (hand : PlainHand) × (slice_get hands k ≡ Some hand) × (has_player hand.player (take k hands) ≡ true) × (0 < length hand.entries)

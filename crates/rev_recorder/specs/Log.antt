@@ -41,14 +41,14 @@ node_after node Deep = node
 node_after node (Lost n) = node
 
 -- from the first count of the rows and the node, call by call, the log leads to exactly these rows and the last node
-abbrev pub LeadsTo : List (Option Row) → ℕ → ℕ → List LogRow → ℕ → Type 0
-LeadsTo rows count node [] last = (count ≡ length rows) × (node ≡ last)
-LeadsTo rows count node (entry ∷ log) last =
-    MayStand rows count node entry.call × LeadsTo rows (count_after count entry.call) (node_after node entry.call) log last
+abbrev pub NodesLeadTo : List (Option Row) → ℕ → ℕ → List LogRow → ℕ → Type 0
+NodesLeadTo rows count node [] last = (count ≡ length rows) × (node ≡ last)
+NodesLeadTo rows count node (entry ∷ log) last =
+    MayStand rows count node entry.call × NodesLeadTo rows (count_after count entry.call) (node_after node entry.call) log last
 
 -- the log is legal for the session: it leads from its opening to the session's rows and current node
 abbrev pub IsLegal : Opening → List LogRow → SessionState → Type 0
-IsLegal opening log session = LeadsTo session.rows opening.count opening.node log session.current
+IsLegal opening log session = NodesLeadTo session.rows opening.count opening.node log session.current
 
 -- what lies under the lock, as plain data
 pub record PlainRecording : Type 0 where

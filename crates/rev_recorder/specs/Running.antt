@@ -1,5 +1,5 @@
 -- What `run_actors` leaves of each hand.
--- Rule of this project: an actor's steps are played in its order, up to the first refusal.
+-- Rule of this project: a player's steps are played in its order, up to the first refusal.
 use Rattle.std.specs.Prelude.{◌⊎◌, ◌≡◌, ◌≢◌, ℕ, List, [], ◌∷◌, ◌++◌, length, map, Some, None, Result, Ok, Err}
 use Rattle.std.specs.Global.{Vec}
 use Rattle.rev_model.specs.Actor.{Step}
@@ -41,7 +41,7 @@ EndsWith seal old steps plays rest (Err NoNode) = ⊥
 pub record Ran (seal : ℕ) (steps : List Step) (old : PlainHand) (result : Result (Unit {0}) RecordFault) (new : PlainHand) : Type 0 where
   pub plays : List PlainEntry
   pub rest : List PlainEntry
-  pub actor : new.actor ≡ old.actor
+  pub player : new.player ≡ old.player
   pub seal_kept : new.seal ≡ old.seal
   pub entries : new.entries ≡ old.entries ++ (plays ++ rest)
   pub prefix : ArePlays steps plays

@@ -9,10 +9,10 @@ use Rattle.rev_recorder.specs.declared.settle.SettleFault.TheVariants.{MissingHa
 use Rattle.rev_recorder.specs.Log.{Opening, IsLegal}
 use Rattle.rev_recorder.specs.Hands.{PlainHand, PlainRecorder, Settles, LacksHand, HasHands, has_stranger}
 
--- one hand for each actor, in order, without entries
-pub record AreNew (seal actors : ℕ) (hands : List PlainHand) : Type 0 where
-  pub count : length hands ≡ actors
-  pub each : (k : ℕ) (d : PlainHand) → k < actors → slice_index_or hands k d ≡ record { actor = k; seal = seal; entries = [] }
+-- one hand for each player, in order, without entries
+pub record AreNew (seal players : ℕ) (hands : List PlainHand) : Type 0 where
+  pub count : length hands ≡ players
+  pub each : (k : ℕ) (d : PlainHand) → k < players → slice_index_or hands k d ≡ record { player = k; seal = seal; entries = [] }
 
 -- the log is legal for the session, from some opening
 abbrev pub IsLegalLog : List LogRow → SessionState → Type 0
@@ -21,14 +21,14 @@ IsLegalLog log session = (opening : Opening) × IsLegal opening log session
 -- session and log of a recorder whose hands all came back, and no others
 abbrev pub IsFinished : PlainRecorder → List PlainHand → Settled → Type 0
 IsFinished recorder hands settled =
-    HasHands recorder.seal recorder.actors hands × (has_stranger recorder.seal hands ≡ false) × IsLegalLog settled.log.items settled.session
+    HasHands recorder.seal recorder.players hands × (has_stranger recorder.seal hands ≡ false) × IsLegalLog settled.log.items settled.session
 
 -- what a refusal to settle tells, and what it hands back
 abbrev pub TellsFault : PlainRecorder → List PlainHand → SettleFault → Type 0
-TellsFault recorder hands (MissingHand same given) = (same ≡ recorder) × (given.items ≡ hands) × LacksHand recorder.seal recorder.actors hands
+TellsFault recorder hands (MissingHand same given) = (same ≡ recorder) × (given.items ≡ hands) × LacksHand recorder.seal recorder.players hands
 TellsFault recorder hands (StrangerHand same given) =
-    (same ≡ recorder) × (given.items ≡ hands) × HasHands recorder.seal recorder.actors hands × (has_stranger recorder.seal hands ≡ true)
-TellsFault recorder hands (Differs actor place settled given) =
+    (same ≡ recorder) × (given.items ≡ hands) × HasHands recorder.seal recorder.players hands × (has_stranger recorder.seal hands ≡ true)
+TellsFault recorder hands (Differs player place settled given) =
     (given.items ≡ hands) × IsFinished recorder hands settled × (Settles hands settled.log.items settled.session → ⊥)
 
 -- a recording settles where the hands, the log and the session agree, and else is refused with its fault

@@ -1,4 +1,4 @@
-//! What an actor holds: its number, its recorder's seal and all that it was told.
+//! What a player holds: its number, its recorder's seal and all that it was told.
 ghost use Rattle.std.specs.Prelude.{◌≡◌};
 
 use rev_model::Outcome;
@@ -25,12 +25,12 @@ pub enum Call {
 /// A row of the log: who called, and what the call did.
 #[derive(Clone, Copy, Debug, PartialEq, Eq)]
 pub struct LogRow {
-    /// The actor, from 0.
-    pub actor: usize,
+    /// The player, from 0.
+    pub player: usize,
     pub call: Call,
 }
 
-/// What an actor is told of a call.
+/// What a player is told of a call.
 #[derive(Clone, Copy, Debug, PartialEq, Eq)]
 pub struct Receipt {
     /// Where the call stands in the log, from 0.
@@ -58,10 +58,10 @@ impl Model for Entry {
     ghost view = { λ e. record { receipt = e.receipt; step = option_map plain_step e.step } };
 }
 
-/// What lets one actor call a recorder, and keeps what it was told there.
+/// What lets one player call a recorder, and keeps what it was told there.
 #[derive(Drop)]
 pub struct Hand {
-    pub(crate) actor: usize,
+    pub(crate) player: usize,
     pub(crate) seal: u64,
     pub(crate) entries: Vec<Entry>,
 }
@@ -71,15 +71,15 @@ impl Model for Hand {
 
     ghost Value = { PlainHand };
 
-    ghost view = { λ h. record { actor = h.actor; seal = h.seal; entries = h.entries.items } };
+    ghost view = { λ h. record { player = h.player; seal = h.seal; entries = h.entries.items } };
 }
 
 impl Hand {
     /// Whose hand it is, from 0.
-    pub fn actor(&self) -> usize
-        ensures { result ≡ self.now.actor }
+    pub fn player(&self) -> usize
+        ensures { result ≡ self.now.player }
     {
-        self.actor
+        self.player
     }
 
     /// Whose recorder's hand it is.

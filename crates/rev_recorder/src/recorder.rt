@@ -17,8 +17,8 @@ use std::marker::Model;
 use std::sync::{Mutex, Wait};
 use thiserror::Error;
 
-/// The most actors of a recorder.
-pub const MAX_ACTORS: usize = 8;
+/// The most players of a recorder.
+pub const MAX_PLAYERS: usize = 8;
 
 /// Why a call of a recorder was refused.
 #[derive(Clone, Copy, Debug, PartialEq, Eq, Drop, Error)]
@@ -40,12 +40,12 @@ pub enum RecordFault {
     NoNode,
 }
 
-/// A session that actors play on in turn, each with a hand of its own, and the log of their calls.
+/// A session that players play on in turn, each with a hand of its own, and the log of their calls.
 #[derive(Drop)]
 pub struct Recorder {
     pub(crate) shared: Mutex<Recording>,
     pub(crate) seal: u64,
-    pub(crate) actors: usize,
+    pub(crate) players: usize,
 }
 
 impl Model for Recorder {
@@ -53,31 +53,31 @@ impl Model for Recorder {
 
     ghost Value = { PlainRecorder };
 
-    ghost view = { λ r. record { seal = r.seal; actors = r.actors } };
+    ghost view = { λ r. record { seal = r.seal; players = r.players } };
 }
 
 impl Recorder {
-    /// A recorder of a session, and a hand for each of its actors, in order. Give each recorder a seal of its own: by it
+    /// A recorder of a session, and a hand for each of its players, in order. Give each recorder a seal of its own: by it
     /// a recorder knows its hands. The log begins where the session stands.
     ///
     /// Err: a growth was refused, and the session is handed back.
     pub fn open(
         alloc: Global,
         session: Session<Global>,
-        actors: usize,
+        players: usize,
         seal: u64,
     ) -> Result<(Recorder, Vec<Hand>), (AllocError, Session<Global>)>
-        requires { (1 ≤ actors) × (actors ≤ 8) }
-        ensures ok { IfOk result (λ r. (r.0 ≡ record { seal = seal; actors = actors }) × AreNew seal actors r.1.items) }
+        requires { (1 ≤ players) × (players ≤ 8) }
+        ensures ok { IfOk result (λ r. (r.0 ≡ record { seal = seal; players = players }) × AreNew seal players r.1.items) }
         ensures err { IfErr result (λ e. e.1 ≡ session) }
     {
-        let Ok(hands) = new_hands(alloc, actors, seal) else {
+        let Ok(hands) = new_hands(alloc, players, seal) else {
             return Err((AllocError, session));
         };
         let recorder = Recorder {
             shared: Mutex::new(Recording::new(alloc, session)),
             seal,
-            actors,
+            players,
         };
         Ok((recorder, hands))
     }
@@ -108,7 +108,7 @@ impl Recorder {
             drop(copy);
             return Err((RecordFault::Memory, step));
         }
-        let answer = self.shared.lock(rt).play(hand.actor, step);
+        let answer = self.shared.lock(rt).play(hand.player, step);
         match answer {
             Ok(receipt) => {
                 hand.entries.push_reserved(Entry {
@@ -148,7 +148,7 @@ impl Recorder {
         if hand.entries.reserve(1).is_err() {
             return Err(RecordFault::Memory);
         }
-        let answer = self.shared.lock(rt).go(hand.actor, node);
+        let answer = self.shared.lock(rt).go(hand.player, node);
         match answer {
             Ok(receipt) => {
                 hand.entries.push_reserved(Entry {
@@ -171,14 +171,14 @@ impl Recorder {
     }
 }
 
-/// A hand for each actor, in order.
-fn new_hands(alloc: Global, actors: usize, seal: u64) -> Result<Vec<Hand>, AllocError>
-    ensures { IfOk result (λ hands. AreNew seal actors hands.items) }
+/// A hand for each player, in order.
+fn new_hands(alloc: Global, players: usize, seal: u64) -> Result<Vec<Hand>, AllocError>
+    ensures { IfOk result (λ hands. AreNew seal players hands.items) }
 {
-    let mut hands = Vec::with_capacity(alloc, actors)?;
-    for actor in 0..actors {
+    let mut hands = Vec::with_capacity(alloc, players)?;
+    for player in 0..players {
         hands.push_reserved(Hand {
-            actor,
+            player,
             seal,
             entries: Vec::new(alloc),
         });

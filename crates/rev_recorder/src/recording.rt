@@ -60,14 +60,14 @@ impl Recording {
         }
     }
 
-    /// Plays a step for an actor, and logs the call.
+    /// Plays a step for a player, and logs the call.
     pub(crate) fn play(
         &mut self,
-        actor: usize,
+        player: usize,
         step: Step<Global>,
     ) -> Result<Receipt, (Refusal, Step<Global>)>
-        ensures ok { IfOk result (λ r. let call = Play (node (length self.old.session.rows + 1)) in (r ≡ receipt_at (length self.old.log) call (outcome_of (at self.old.session.root self.old.session.rows self.old.session.current) (plain_step step))) × (self.new ≡ logged self.old (played self.old.session (plain_step step)) actor call)) }
-        ensures err { IfErr result (λ e. (plain_step e.1 ≡ plain_step step) × PlayRefusedAs self.old actor e.0.fault e.0.receipt self.new) }
+        ensures ok { IfOk result (λ r. let call = Play (node (length self.old.session.rows + 1)) in (r ≡ receipt_at (length self.old.log) call (outcome_of (at self.old.session.root self.old.session.rows self.old.session.current) (plain_step step))) × (self.new ≡ logged self.old (played self.old.session (plain_step step)) player call)) }
+        ensures err { IfErr result (λ e. (plain_step e.1 ≡ plain_step step) × PlayRefusedAs self.old player e.0.fault e.0.receipt self.new) }
     {
         if self.log.reserve(1).is_err() {
             return Err((
@@ -82,7 +82,7 @@ impl Recording {
         match self.session.play(step) {
             Ok(done) => {
                 let call = Call::Play(done.node);
-                self.log.push_reserved(LogRow { actor, call });
+                self.log.push_reserved(LogRow { player, call });
                 Ok(Receipt {
                     place,
                     call,
@@ -91,14 +91,14 @@ impl Recording {
             }
             Err((PlayFault::TooManyNodes, step)) => {
                 self.log.push_reserved(LogRow {
-                    actor,
+                    player,
                     call: Call::Many,
                 });
                 Err((refused(RecordFault::TooManyNodes, place, Call::Many), step))
             }
             Err((PlayFault::TooDeep, step)) => {
                 self.log.push_reserved(LogRow {
-                    actor,
+                    player,
                     call: Call::Deep,
                 });
                 Err((refused(RecordFault::TooDeep, place, Call::Deep), step))
@@ -115,10 +115,10 @@ impl Recording {
         }
     }
 
-    /// Goes to a node for an actor, and logs the call.
-    pub(crate) fn go(&mut self, actor: usize, node: NodeId) -> Result<Receipt, Refusal>
-        ensures ok { IfOk result (λ r. (is_held self.old.session.rows node.0 ≡ true) × (r ≡ okay_at (length self.old.log) (Go node)) × (self.new ≡ logged self.old (moved self.old.session node.0) actor (Go node))) }
-        ensures err { IfErr result (λ e. GoRefusedAs self.old actor node e.fault e.receipt self.new) }
+    /// Goes to a node for a player, and logs the call.
+    pub(crate) fn go(&mut self, player: usize, node: NodeId) -> Result<Receipt, Refusal>
+        ensures ok { IfOk result (λ r. (is_held self.old.session.rows node.0 ≡ true) × (r ≡ okay_at (length self.old.log) (Go node)) × (self.new ≡ logged self.old (moved self.old.session node.0) player (Go node))) }
+        ensures err { IfErr result (λ e. GoRefusedAs self.old player node e.fault e.receipt self.new) }
     {
         if self.log.reserve(1).is_err() {
             return Err(Refusal {
@@ -130,7 +130,7 @@ impl Recording {
         match self.session.go(node) {
             Ok(_) => {
                 let call = Call::Go(node);
-                self.log.push_reserved(LogRow { actor, call });
+                self.log.push_reserved(LogRow { player, call });
                 Ok(Receipt {
                     place,
                     call,
@@ -139,7 +139,7 @@ impl Recording {
             }
             Err(_) => {
                 let call = Call::Lost(node);
-                self.log.push_reserved(LogRow { actor, call });
+                self.log.push_reserved(LogRow { player, call });
                 Err(refused(RecordFault::NoNode, place, call))
             }
         }

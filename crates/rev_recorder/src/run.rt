@@ -1,4 +1,4 @@
-//! Each actor plays its steps on a thread of its own.
+//! Each player plays its steps on a thread of its own.
 ghost use Rattle.std.specs.Prelude.{◌≡◌, ◌≤◌, ◌<◌, ℕ, [], length, map, slice_index_or, vec_len, vec_capacity, IfOk, IfErr};
 ghost use Rattle.rev_requests.specs.Plain.{plain_step};
 ghost use Rattle.rev_recorder.specs.Running.{AllRan, JobRan, RunsTo, asks, asked, answers};
@@ -12,13 +12,13 @@ use std::sync::Wait;
 use std::thread;
 use std::thread::Threads;
 
-/// What is called round each step of an actor, by the actor's thread and outside the lock.
+/// What is called round each step of a player, by the player's thread and outside the lock.
 pub trait Gate {
-    /// Called before the actor plays step `index` of its steps, from 0.
-    fn before(&self, actor: usize, index: usize);
+    /// Called before the player plays step `index` of its steps, from 0.
+    fn before(&self, player: usize, index: usize);
 
     /// Called after that step was answered, a refusal too.
-    fn after(&self, actor: usize, index: usize);
+    fn after(&self, player: usize, index: usize);
 }
 
 /// A hand, the steps that it has not played, and how it ended.
@@ -128,13 +128,13 @@ fn play_all<R: Wait, G: Gate>(
 ) -> Result<(), RecordFault>
     ensures { RunsTo recorder.now.seal (map plain_step steps.old.items) hand.old result hand.new }
 {
-    let actor = hand.actor();
+    let player = hand.player();
     let count = steps.len();
     while let Some(step) = steps.pop_front() {
         let index = count - steps.len() - 1;
-        gate.before(actor, index);
+        gate.before(player, index);
         let answer = recorder.play(rt, hand, step);
-        gate.after(actor, index);
+        gate.after(player, index);
         if let Err((fault, _)) = answer {
             return Err(fault);
         }

@@ -1,6 +1,6 @@
 //! The end of a recording: the hands are compared with the log.
 ghost use Rattle.std.specs.Prelude.{◌≡◌, ◌≢◌, ◌↔◌, map, All, IsTrue, MatchBool, MatchOption};
-ghost use Rattle.rev_recorder.specs.Hands.{told, calls_of, has_hand, has_stranger, has_actor, LacksHand, HasHands, LacksActor, HasActors, IsTrueEntry, Agrees, Settles, HasOneEach, IsSecond};
+ghost use Rattle.rev_recorder.specs.Hands.{told, calls_of, has_hand, has_stranger, has_player, LacksHand, HasHands, LacksPlayer, HasPlayers, IsTrueEntry, Agrees, Settles, HasOneEach, IsSecond};
 ghost use Rattle.rev_recorder.specs.Log.{IsLegal};
 ghost use Rattle.rev_recorder.specs.Settling.{SettleGives};
 
@@ -21,7 +21,7 @@ pub struct Settled {
 /// Why a recording did not settle, and what is handed back.
 #[derive(Drop)]
 pub enum SettleFault {
-    /// Some actor has no hand of the recorder's seal among the hands.
+    /// Some player has no hand of the recorder's seal among the hands.
     MissingHand {
         recorder: Recorder,
         hands: Vec<Hand>,
@@ -31,9 +31,9 @@ pub enum SettleFault {
         recorder: Recorder,
         hands: Vec<Hand>,
     },
-    /// The hands and the log differ: for this actor, at this place of the log.
+    /// The hands and the log differ: for this player, at this place of the log.
     Differs {
-        actor: usize,
+        player: usize,
         place: usize,
         settled: Settled,
         hands: Vec<Hand>,
@@ -41,7 +41,7 @@ pub enum SettleFault {
 }
 
 impl Recorder {
-    /// Ends the recording, and compares the hands with the log: each hand must have been told just the calls of its actor,
+    /// Ends the recording, and compares the hands with the log: each hand must have been told just the calls of its player,
     /// in order, with the node's own step and outcome for a play, and each row of the log must be one entry of one hand.
     /// It waits for no lock.
     ///
@@ -49,7 +49,7 @@ impl Recorder {
     pub fn settle(self, hands: Vec<Hand>) -> Result<Settled, SettleFault>
         ensures { SettleGives self hands.items result }
     {
-        if lacks_hand(hands.as_slice(), self.seal, self.actors) {
+        if lacks_hand(hands.as_slice(), self.seal, self.players) {
             return Err(SettleFault::MissingHand {
                 recorder: self,
                 hands,
@@ -64,8 +64,8 @@ impl Recorder {
         let settled = self.shared.into_inner().finish();
         match difference(hands.as_slice(), settled.log.as_slice(), &settled.session) {
             None => Ok(settled),
-            Some((actor, place)) => Err(SettleFault::Differs {
-                actor,
+            Some((player, place)) => Err(SettleFault::Differs {
+                player,
                 place,
                 settled,
                 hands,
@@ -91,21 +91,21 @@ impl Recording {
     }
 }
 
-/// Whether some hand is this actor's and has this seal.
-fn has_hand(hands: &[Hand], seal: u64, actor: usize) -> bool
-    ensures { result ≡ has_hand seal actor hands.now }
+/// Whether some hand is this player's and has this seal.
+fn has_hand(hands: &[Hand], seal: u64, player: usize) -> bool
+    ensures { result ≡ has_hand seal player hands.now }
 {
     hands
         .iter()
-        .any(|hand| hand.actor() == actor && hand.seal() == seal)
+        .any(|hand| hand.player() == player && hand.seal() == seal)
 }
 
-/// Whether some actor has no hand of the seal.
-fn lacks_hand(hands: &[Hand], seal: u64, actors: usize) -> bool
-    ensures { MatchBool result (LacksHand seal actors hands.now) (HasHands seal actors hands.now) }
+/// Whether some player has no hand of the seal.
+fn lacks_hand(hands: &[Hand], seal: u64, players: usize) -> bool
+    ensures { MatchBool result (LacksHand seal players hands.now) (HasHands seal players hands.now) }
 {
-    for actor in 0..actors {
-        if !has_hand(hands, seal, actor) {
+    for player in 0..players {
+        if !has_hand(hands, seal, player) {
             return true;
         }
     }
@@ -119,7 +119,7 @@ fn has_stranger(hands: &[Hand], seal: u64) -> bool
     hands.iter().any(|hand| !(hand.seal() == seal))
 }
 
-/// An actor and a place at which hands and log differ.
+/// A player and a place at which hands and log differ.
 fn difference(hands: &[Hand], log: &[LogRow], session: &Session<Global>) -> Option<(usize, usize)>
     ensures { MatchOption result (Settles hands.now log.now session.now) (λ _. Settles hands.now log.now session.now → ⊥) }
 {
@@ -141,43 +141,43 @@ fn false_hand(hands: &[Hand], log: &[LogRow], session: &Session<Global>) -> Opti
 {
     for hand in hands {
         if let Some(place) = hand.difference(log, session) {
-            return Some((hand.actor(), place));
+            return Some((hand.player(), place));
         }
     }
     None
 }
 
-/// The first row whose actor has no hand.
+/// The first row whose player has no hand.
 fn lost_row(hands: &[Hand], log: &[LogRow]) -> Option<(usize, usize)>
-    ensures { MatchOption result (HasActors hands.now log.now) (λ _. LacksActor hands.now log.now) }
+    ensures { MatchOption result (HasPlayers hands.now log.now) (λ _. LacksPlayer hands.now log.now) }
 {
     for (place, row) in log.iter().enumerate() {
-        if !has_actor(hands, row.actor) {
-            return Some((row.actor, place));
+        if !has_player(hands, row.player) {
+            return Some((row.player, place));
         }
     }
     None
 }
 
-/// The first hand with entries whose actor an earlier hand has, and the place of its first entry.
+/// The first hand with entries whose player an earlier hand has, and the place of its first entry.
 fn second_hand(hands: &[Hand]) -> Option<(usize, usize)>
     ensures { MatchOption result (HasOneEach hands.now) (λ _. IsSecond hands.now) }
 {
     for (index, hand) in hands.iter().enumerate() {
-        if has_actor(&hands[..index], hand.actor()) {
+        if has_player(&hands[..index], hand.player()) {
             if let Some(entry) = hand.entries().first() {
-                return Some((hand.actor(), entry.receipt.place));
+                return Some((hand.player(), entry.receipt.place));
             }
         }
     }
     None
 }
 
-/// Whether some hand is this actor's.
-fn has_actor(hands: &[Hand], actor: usize) -> bool
-    ensures { result ≡ has_actor actor hands.now }
+/// Whether some hand is this player's.
+fn has_player(hands: &[Hand], player: usize) -> bool
+    ensures { result ≡ has_player player hands.now }
 {
-    hands.iter().any(|hand| hand.actor() == actor)
+    hands.iter().any(|hand| hand.player() == player)
 }
 
 impl Hand {
@@ -185,7 +185,7 @@ impl Hand {
     fn difference(&self, log: &[LogRow], session: &Session<Global>) -> Option<usize>
         ensures { MatchOption result (Agrees log.now session.now self.now) (λ _. Agrees log.now session.now self.now → ⊥) }
     {
-        if let Some(place) = other_call(self.actor, self.entries.as_slice(), log) {
+        if let Some(place) = other_call(self.player, self.entries.as_slice(), log) {
             return Some(place);
         }
         if let Some(place) = false_entry(self.entries.as_slice(), session) {
@@ -196,12 +196,12 @@ impl Hand {
 }
 
 /// The place of the first call that entries and log do not both have.
-fn other_call(actor: usize, entries: &[Entry], log: &[LogRow]) -> Option<usize>
-    ensures { MatchOption result (map told entries.now ≡ calls_of actor log.now) (λ _. map told entries.now ≢ calls_of actor log.now) }
+fn other_call(player: usize, entries: &[Entry], log: &[LogRow]) -> Option<usize>
+    ensures { MatchOption result (map told entries.now ≡ calls_of player log.now) (λ _. map told entries.now ≢ calls_of player log.now) }
 {
     let mut next = 0;
     for (place, row) in log.iter().enumerate() {
-        if row.actor == actor {
+        if row.player == player {
             if next == entries.len() {
                 return Some(place);
             }

@@ -200,9 +200,9 @@ abbrev pub mover_text : Option Mover → List ℕ
 mover_text None = codes "-"
 mover_text (Some m) = decimal m.src ++ codes "," ++ decimal m.dst ++ codes "," ++ decimal m.page ++ codes "," ++ decimal m.slot
 
--- the clock, the last cas number and the flush mark
+-- the clock, the last cas number and the flush limit
 abbrev pub clock_text : Globals → List ℕ
-clock_text g = codes " now " ++ decimal g.clock ++ codes " cas " ++ decimal g.last_cas ++ codes " mark " ++ decimal g.mark
+clock_text g = codes " now " ++ decimal g.clock ++ codes " cas " ++ decimal g.last_cas ++ codes " mark " ++ decimal g.flush_limit
 
 -- a pending flush, a page move, and the number of bump entries
 abbrev pub pending_text : Globals → ℕ → List ℕ

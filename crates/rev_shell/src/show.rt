@@ -289,7 +289,7 @@ pub fn put_counters<A: Allocator + Clone>(
     answer.extend_from_slice(b"\r\n")
 }
 
-/// Writes the clock, the last cas number, the flush mark, the pending flush, the page move and the
+/// Writes the clock, the last cas number, the flush limit, the pending flush, the page move and the
 /// number of bump entries on a line.
 pub fn put_globals<A: Allocator + Clone>(
     store: &Store<A>,

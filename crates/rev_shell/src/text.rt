@@ -224,13 +224,13 @@ pub fn put_mover<A: Allocator>(
     put_number(answer, mover.slot as u64)
 }
 
-/// Writes the clock, the last cas number and the flush mark.
+/// Writes the clock, the last cas number and the flush limit.
 pub fn put_clock<A: Allocator>(answer: &mut Vec<u8, A>, globals: Globals) -> Result<(), AllocError>
     ensures { OnOk result (answer.new.items ≡ answer.old.items ++ clock_text globals) }
 {
     put_field(answer, b" now ", globals.clock as u64)?;
     put_field(answer, b" cas ", globals.last_cas)?;
-    put_field(answer, b" mark ", globals.mark)
+    put_field(answer, b" mark ", globals.flush_limit)
 }
 
 /// Writes the pending flush, the page move and the number of bump entries.

@@ -17,4 +17,4 @@ exchanged p s = (with_globals (with_part p s.globals) s, Okay)
 
 -- the timing with the clock at n: a flush that is due then covers all items stored so far
 abbrev pub timing_at : ℕ → Globals → Timing
-timing_at n g = cond (is_due g.flush n) (record { clock = n; mark = g.last_cas; flush = None }) (record { clock = n; mark = g.mark; flush = g.flush })
+timing_at n g = cond (is_due g.flush n) (record { clock = n; flush_limit = g.last_cas; flush = None }) (record { clock = n; flush_limit = g.flush_limit; flush = g.flush })

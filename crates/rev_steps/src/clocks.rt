@@ -3,13 +3,13 @@ ghost use Rattle.std.specs.Prelude.{◌≡◌, ◌≤◌, length, IfOk, OnOk, On
 ghost use Rattle.rev_model.specs.Actor.{clock, is_due};
 ghost use Rattle.rev_model.specs.Sound.{Sound};
 ghost use Rattle.rev_model.specs.Move.{LeadsBack};
-ghost use Rattle.rev_changes.specs.Telling.{TellsAll};
+ghost use Rattle.rev_edits.specs.Telling.{TellsAll};
 ghost use Rattle.rev_steps.specs.Exchange.{timing_at};
 
 use crate::globals::{exchange, unchanged};
+use rev_changes::Record;
 use rev_inverse::Store;
 use rev_model::{GlobalPart, Globals, Outcome, Timing};
-use rev_moves::Record;
 use std::alloc::{AllocError, Allocator};
 
 /// Whether a flush of this moment is due.
@@ -29,13 +29,13 @@ fn at_clock(now: u32, globals: Globals) -> Timing
     if is_due(globals.flush, now) {
         Timing {
             clock: now,
-            mark: globals.last_cas,
+            flush_limit: globals.last_cas,
             flush: None,
         }
     } else {
         Timing {
             clock: now,
-            mark: globals.mark,
+            flush_limit: globals.flush_limit,
             flush: globals.flush,
         }
     }

@@ -2,14 +2,14 @@
 ghost use Rattle.std.specs.Prelude.{◌≡◌, ◌≤◌, length, IfOk, OnOk, OnErr, []};
 ghost use Rattle.rev_model.specs.Move.{with_part, Sets, LeadsBack};
 ghost use Rattle.rev_model.specs.Sound.{SettingsSound, Sound};
-ghost use Rattle.rev_moves.specs.Seen.{plain_move, IsSingle};
-ghost use Rattle.rev_changes.specs.Telling.{TellsAll};
+ghost use Rattle.rev_changes.specs.Seen.{plain_move, IsSingle};
+ghost use Rattle.rev_edits.specs.Telling.{TellsAll};
 ghost use Rattle.rev_steps.specs.Exchange.{exchanged};
 
-use rev_changes::moving::change;
+use rev_changes::{Change, Record};
+use rev_edits::moving::change;
 use rev_inverse::Store;
 use rev_model::{GlobalPart, Outcome};
-use rev_moves::{Move, Record};
 use std::alloc::{AllocError, Allocator};
 
 /// Nothing is done: the outcome, with a record that has no move.
@@ -28,15 +28,15 @@ pub fn unchanged<A: Allocator + Clone>(
 }
 
 /// The move that exchanges a part of the globals.
-fn exchanging<A: Allocator>(next: GlobalPart) -> Move<A>
+fn exchanging<A: Allocator>(next: GlobalPart) -> Change<A>
     ensures played { plain_move result ≡ Sets next }
     ensures single { IsSingle result }
 {
     match next {
-        GlobalPart::LastCas(cas) => Move::LastCas(cas),
-        GlobalPart::Timing(timing) => Move::Timing(timing),
-        GlobalPart::Mover(mover) => Move::Mover(mover),
-        GlobalPart::Settings(settings) => Move::Settings(settings),
+        GlobalPart::LastCas(cas) => Change::LastCas(cas),
+        GlobalPart::Timing(timing) => Change::Timing(timing),
+        GlobalPart::Mover(mover) => Change::Mover(mover),
+        GlobalPart::Settings(settings) => Change::Settings(settings),
     }
 }
 

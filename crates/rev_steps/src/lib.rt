@@ -6,7 +6,7 @@ ghost use Rattle.rev_model.specs.Actor.{step as step_of};
 ghost use Rattle.rev_model.specs.Causes.{step_removals};
 ghost use Rattle.rev_model.specs.Sound.{Sound};
 ghost use Rattle.rev_model.specs.Move.{LeadsBack};
-ghost use Rattle.rev_changes.specs.Telling.{TellsAll};
+ghost use Rattle.rev_edits.specs.Telling.{TellsAll};
 ghost use Rattle.rev_steps.specs.Plain.{plain_actor, plain_step};
 
 mod clocks;
@@ -14,13 +14,13 @@ mod globals;
 mod settings;
 
 use clocks::set_clock;
+use rev_changes::Record;
 use rev_commands::client;
 use rev_crawler::{crawl, start};
 use rev_inverse::Store;
-use rev_maintainer::{bump, pull_step};
+use rev_maintainer::{bump, pull};
 use rev_model::Outcome;
 use rev_mover::{advance, schedule};
-use rev_moves::Record;
 pub use rev_requests::{
     ActorStep, Arithmetic, BadTune, ClientStep, JoinSide, KeyCommand, Payload, Step, StoreVerb,
     Tune,
@@ -66,7 +66,7 @@ fn act<A: Allocator + Clone>(
     ensures told { IfOk result (λ p. TellsAll p.1 store.new (step_removals store.old (plain_actor step))) }
 {
     match step {
-        ActorStep::Pull { class, queue } => pull_step(store, class as usize, queue),
+        ActorStep::Pull { class, queue } => pull(store, class as usize, queue),
         ActorStep::Bump => bump(store),
         ActorStep::StartCrawl(classes) => start(store, classes),
         ActorStep::Crawl { class, queue } => crawl(store, class as usize, queue),

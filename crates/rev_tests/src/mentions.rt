@@ -58,7 +58,13 @@ fn set_at(order: Order, node: usize) -> usize {
             2 | 1027 => 3,
             _ => 4,
         },
-        Order::FarThenNear => { if node % 1100 == 0 || node > 2200 { 0 } else { 3 + node % 2 } }
+        Order::FarThenNear => {
+            if node % 1100 == 0 || node > 2200 {
+                0
+            } else {
+                3 + node % 2
+            }
+        }
     }
 }
 

@@ -11,7 +11,7 @@ fn look_at<R: Abort>(rt: &R, store: &Store<Global>) {
     let globals = Globals {
         clock: 1,
         last_cas: 0,
-        mark: 0,
+        flush_limit: 0,
         flush: None,
         mover: None,
         settings: Settings {

@@ -7,7 +7,7 @@ use Rattle.rev_undotree.specs.Ways.{reach}
 use Rattle.rev_undotree.specs.Rows.{Row, row_of, row, number_at, start_at, rows_of}
 use Rattle.rev_undotree.specs.Positions.{Proper}
 use Rattle.rev_undotree.specs.Paths.{IsPath}
-use Rattle.rev_undotree.specs.Finds.{head_number, bar, IsFirst, Fitted, is_held, IsMissing, Placed}
+use Rattle.rev_undotree.specs.Finds.{head_number, bar, IsFirst, Fitted, is_held, IsMissing, FoundAt}
 use Rattle.rev_undotree.specs.Machine.{is_child, children_from, children}
 use Rattle.rev_undotree.specs.Children.{before_rest, firsts, put_in, next_number, children_at}
 use Rattle.rev_undotree.proofs.Finds.{number_of, number_after-get, less_or_same}
@@ -385,7 +385,7 @@ missing_children issued b n i t l h =
     let u = parent_spot (rows_of issued b) b p.0 p.1 s.0 s.1 t s.3 p.2 p.5 (step_of p.0 p.1 p.3 p.4) in
     missing_held b issued n l h (path_held (rows_of issued b) b u.0 u.1 n u.2 u.3 t.known (u.4 ∙ s.4)))))
 
-pub placed_child : (issued : ℕ) (b : PlainBranch) (n i k : ℕ) (w x : List Junction) (o : Option ℕ) → Tree (rows_of issued b) b → Placed n b w k → x ≡ w → o ≡ slice_get (children_at (reach b x) k) i → o ≡ slice_get (children (rows_of issued b) n) i
+pub placed_child : (issued : ℕ) (b : PlainBranch) (n i k : ℕ) (w x : List Junction) (o : Option ℕ) → Tree (rows_of issued b) b → FoundAt n b w k → x ≡ w → o ≡ slice_get (children_at (reach b x) k) i → o ≡ slice_get (children (rows_of issued b) n) i
 placed_child issued b n i k w x o t p ex e =
     e ∙ ap (λ z. slice_get (children_at (reach b z) k) i) ex ∙ ap (λ z. slice_get z i) (children_at_children issued b w k t p.path p.proper) ∙ ap (λ z. slice_get (children (rows_of issued b) z) i) p.numbered
 

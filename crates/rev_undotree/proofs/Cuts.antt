@@ -3,12 +3,12 @@ use Rattle.std.specs.Prelude.{not}
 use Rattle.std.proofs.Common.{ℕ, zero, suc, ◌≡◌, ◌+◌, ◌-◌, ◌<◌, ◌≤◌, false, List, [], ◌∷◌, ◌++◌, length, map, take, drop, set, get_or, slice_range, refl, sym, ap, subst, ◌∙◌, arith}
 use Rattle.std.proofs.lemmas.List.{take-take, drop-take, drop-drop, take-map, drop-map, map-append, length-map, length-append, get_or-set_same, length-drop, length-take, take-append-le, drop-append-le}
 use Rattle.std.proofs.Math.Seq.{take-length, take-append_seam, drop-append_seam}
-use Rattle.rev_moves.specs.declared.moves.Move.{Move}
-use Rattle.rev_moves.specs.Record.{PlainRecord, Group, IsWhole, group_of, in_order, notes_in, whole, fitted, no_record}
+use Rattle.rev_changes.specs.declared.changes.Change.{Change}
+use Rattle.rev_changes.specs.Record.{PlainRecord, PlainChange, IsWhole, plain_change, in_order, notes_in, whole, fitted, no_record}
 use Rattle.rev_undotree.specs.declared.records.Extent.{Extent}
 use Rattle.rev_undotree.specs.Cuts.{first_of, cut_by, Tiles}
 
-pub length-cut : (es : List Extent) (gs : List Group) → length (cut_by es gs) ≡ length es
+pub length-cut : (es : List Extent) (gs : List PlainChange) → length (cut_by es gs) ≡ length es
 length-cut [] gs = refl
 length-cut (e ∷ es) gs = ap suc (length-cut es (drop e.count gs))
 
@@ -17,11 +17,11 @@ tiles_le s [] n t = omega (arith, t)
 tiles_le s (e ∷ es) n t = omega (arith, tiles_le (s + e.count) es n t.1)
 
 -- what is behind the first extent
-record Behind (s : ℕ) (x : Extent) (es : List Extent) (gs : List Group) : Type 0 where
+record Behind (s : ℕ) (x : Extent) (es : List Extent) (gs : List PlainChange) : Type 0 where
   pub few : x.count ≤ length gs
   pub rest : Tiles (s + x.count) es (s + x.count + length (drop x.count gs))
 
-behind : (s : ℕ) (x : Extent) (es : List Extent) (gs : List Group) → Tiles s (x ∷ es) (s + length gs) → Behind s x es gs
+behind : (s : ℕ) (x : Extent) (es : List Extent) (gs : List PlainChange) → Tiles s (x ∷ es) (s + length gs) → Behind s x es gs
 behind s x es gs t =
     let few : x.count ≤ length gs = omega (arith, tiles_le (s + x.count) es (s + length gs) t.1) in
     record {
@@ -31,13 +31,13 @@ behind s x es gs t =
 
 -- ---- one more
 
-first_whole : (e : Extent) (new : List Group) → e.count ≡ length new → e.is_turned ≡ false → first_of e new ≡ whole new
+first_whole : (e : Extent) (new : List PlainChange) → e.count ≡ length new → e.is_turned ≡ false → first_of e new ≡ whole new
 first_whole e new n f =
     ap (λ k. whole (in_order e.is_turned (take k new))) n
     ∙ ap (λ l. whole (in_order e.is_turned l)) (take-length new)
     ∙ ap (λ b. whole (in_order b new)) f
 
-pub cut_more : (s : ℕ) (es : List Extent) (gs new : List Group) (e : Extent) → Tiles s es (s + length gs) → e.count ≡ length new → e.is_turned ≡ false → cut_by (es ++ e ∷ []) (gs ++ new) ≡ cut_by es gs ++ whole new ∷ []
+pub cut_more : (s : ℕ) (es : List Extent) (gs new : List PlainChange) (e : Extent) → Tiles s es (s + length gs) → e.count ≡ length new → e.is_turned ≡ false → cut_by (es ++ e ∷ []) (gs ++ new) ≡ cut_by es gs ++ whole new ∷ []
 cut_more s [] [] new e t n f = ap (λ r. r ∷ []) (first_whole e new n f)
 cut_more s [] (g ∷ gs) new e t n f = absurd (omega (arith, t))
 cut_more s (x ∷ es) gs new e t n f =
@@ -57,7 +57,7 @@ start_ge s [] n k e t lt is = absurd (omega (arith, lt))
 start_ge s (x ∷ es) n zero e t lt is = omega (arith, ap (λ (y : Extent). y.start) is, t.0)
 start_ge s (x ∷ es) n (suc k) e t lt is = omega (arith, start_ge (s + x.count) es n k e t.1 (omega (arith, lt)) is)
 
-pub cut_take : (s : ℕ) (es : List Extent) (gs : List Group) (k : ℕ) (e : Extent) (off : ℕ) → Tiles s es (s + length gs) → k < length es → e ≡ get_or es k e → e.start ≡ s + off → cut_by (take k es) (take off gs) ≡ take k (cut_by es gs)
+pub cut_take : (s : ℕ) (es : List Extent) (gs : List PlainChange) (k : ℕ) (e : Extent) (off : ℕ) → Tiles s es (s + length gs) → k < length es → e ≡ get_or es k e → e.start ≡ s + off → cut_by (take k es) (take off gs) ≡ take k (cut_by es gs)
 cut_take s [] gs k e off t lt is at = absurd (omega (arith, lt))
 cut_take s (x ∷ es) gs zero e off t lt is at = refl
 cut_take s (x ∷ es) gs (suc k) e off t lt is at =
@@ -78,14 +78,14 @@ tiles_take s (x ∷ es) n (suc k) e t lt is = (t.0, tiles_take (s + x.count) es 
 -- ---- one that is written over
 
 -- a list with the entries from a place on written over
-abbrev pub over : ℕ → List Group → List Group → List Group
+abbrev pub over : ℕ → List PlainChange → List PlainChange → List PlainChange
 over i gs ws = take i gs ++ (ws ++ drop (length ws) (drop i gs))
 
 -- the extent the other way round
 abbrev pub flipped : Extent → Extent
 flipped e = record e { is_turned = not e.is_turned }
 
-over_first : (x : Extent) (es : List Extent) (gs ws : List Group) → length ws ≡ x.count → cut_by (flipped x ∷ es) (ws ++ drop (length ws) gs) ≡ whole (in_order (not x.is_turned) ws) ∷ cut_by es (drop x.count gs)
+over_first : (x : Extent) (es : List Extent) (gs ws : List PlainChange) → length ws ≡ x.count → cut_by (flipped x ∷ es) (ws ++ drop (length ws) gs) ≡ whole (in_order (not x.is_turned) ws) ∷ cut_by es (drop x.count gs)
 over_first x es gs ws n =
     ap (λ k. whole (in_order (not x.is_turned) (take k (ws ++ drop (length ws) gs))) ∷ cut_by es (drop k (ws ++ drop (length ws) gs))) (sym n)
     ∙ ap (λ l. whole (in_order (not x.is_turned) l) ∷ cut_by es (drop (length ws) (ws ++ drop (length ws) gs))) (take-append_seam ws (drop (length ws) gs))
@@ -93,26 +93,26 @@ over_first x es gs ws n =
     ∙ ap (λ k. whole (in_order (not x.is_turned) ws) ∷ cut_by es (drop k gs)) n
 
 -- the first entries of such a list, and the others
-over_take : (a b : ℕ) (gs ws : List Group) → a + b ≤ length gs → take a (over (a + b) gs ws) ≡ take a gs
+over_take : (a b : ℕ) (gs ws : List PlainChange) → a + b ≤ length gs → take a (over (a + b) gs ws) ≡ take a gs
 over_take a b gs ws le =
     let long : length (take (a + b) gs) ≡ a + b = omega (arith, le, length-take (a + b) gs) in
     take-append-le a (take (a + b) gs) (ws ++ drop (length ws) (drop (a + b) gs)) (omega (arith, long)) ∙ take-take a (a + b) gs (omega arith)
 
-over_drop : (a b : ℕ) (gs ws : List Group) → a + b ≤ length gs → drop a (over (a + b) gs ws) ≡ over b (drop a gs) ws
+over_drop : (a b : ℕ) (gs ws : List PlainChange) → a + b ≤ length gs → drop a (over (a + b) gs ws) ≡ over b (drop a gs) ws
 over_drop a b gs ws le =
     let long : length (take (a + b) gs) ≡ a + b = omega (arith, le, length-take (a + b) gs) in
     drop-append-le a (take (a + b) gs) (ws ++ drop (length ws) (drop (a + b) gs)) (omega (arith, long))
     ∙ ap (λ l. l ++ (ws ++ drop (length ws) (drop (a + b) gs))) (drop-take a b gs)
     ∙ ap (λ l. take b (drop a gs) ++ (ws ++ drop (length ws) l)) (sym (drop-drop b a gs))
 
--- what is known of the i-th record, whose groups begin `off` behind the first
-pub record At (s : ℕ) (es : List Extent) (gs : List Group) (i : ℕ) (e : Extent) (off : ℕ) : Type 0 where
+-- what is known of the i-th record, whose changes begin `off` behind the first
+pub record At (s : ℕ) (es : List Extent) (gs : List PlainChange) (i : ℕ) (e : Extent) (off : ℕ) : Type 0 where
   pub start : e.start ≡ s + off
   pub within : off + e.count ≤ length gs
   pub is : get_or (cut_by es gs) i no_record ≡ whole (in_order e.is_turned (take e.count (drop off gs)))
-  pub turned : (ws : List Group) → length ws ≡ e.count → cut_by (set es i (flipped e)) (over off gs ws) ≡ set (cut_by es gs) i (whole (in_order (not e.is_turned) ws))
+  pub turned : (ws : List PlainChange) → length ws ≡ e.count → cut_by (set es i (flipped e)) (over off gs ws) ≡ set (cut_by es gs) i (whole (in_order (not e.is_turned) ws))
 
-pub at : (s : ℕ) (es : List Extent) (gs : List Group) (i : ℕ) (e : Extent) → Tiles s es (s + length gs) → i < length es → e ≡ get_or es i e → At s es gs i e (e.start - s)
+pub at : (s : ℕ) (es : List Extent) (gs : List PlainChange) (i : ℕ) (e : Extent) → Tiles s es (s + length gs) → i < length es → e ≡ get_or es i e → At s es gs i e (e.start - s)
 at s [] gs i e t lt is = absurd (omega (arith, lt))
 at s (x ∷ es) gs zero e t lt is =
     let b = behind s x es gs t in
@@ -151,59 +151,59 @@ tiles_flip s (x ∷ es) n (suc i) e t is = (t.0, tiles_flip (s + x.count) es n i
 
 -- ---- as the fields have it
 
-whole_is : (r : PlainRecord) → IsWhole r → whole r.groups ≡ fitted r
+whole_is : (r : PlainRecord) → IsWhole r → whole r.changes ≡ fitted r
 whole_is r w =
-    ap (λ m. let z : PlainRecord = record { moves = m; notes = notes_in r.groups; room = length m; groups = r.groups } in z) (sym w.moves)
+    ap (λ m. let z : PlainRecord = record { moves = m; notes = notes_in r.changes; room = length m; changes = r.changes } in z) (sym w.moves)
     ∙ ap (λ n. record (fitted r) { notes = n }) (sym w.notes)
 
-pub tiles_top : {A : Type 0} (es : List Extent) (items : List (Move A)) → Tiles 0 es (length items) → Tiles 0 es (0 + length (map group_of items))
-tiles_top es items t = subst (λ m. Tiles 0 es m) (omega (arith, length-map items group_of)) t
+pub tiles_top : {A : Type 0} (es : List Extent) (items : List (Change A)) → Tiles 0 es (length items) → Tiles 0 es (0 + length (map plain_change items))
+tiles_top es items t = subst (λ m. Tiles 0 es m) (omega (arith, length-map items plain_change)) t
 
-pub pushed : {A : Type 0} (es : List Extent) (items : List (Move A)) (r : PlainRecord) (e : Extent) → Tiles 0 es (length items) → IsWhole r → e.count ≡ length r.groups → e.is_turned ≡ false → cut_by (es ++ e ∷ []) (map group_of items ++ r.groups) ≡ cut_by es (map group_of items) ++ fitted r ∷ []
+pub pushed : {A : Type 0} (es : List Extent) (items : List (Change A)) (r : PlainRecord) (e : Extent) → Tiles 0 es (length items) → IsWhole r → e.count ≡ length r.changes → e.is_turned ≡ false → cut_by (es ++ e ∷ []) (map plain_change items ++ r.changes) ≡ cut_by es (map plain_change items) ++ fitted r ∷ []
 pushed es items r e t w n f =
-    cut_more 0 es (map group_of items) r.groups e (tiles_top es items t) n f
-    ∙ ap (λ x. cut_by es (map group_of items) ++ x ∷ []) (whole_is r w)
+    cut_more 0 es (map plain_change items) r.changes e (tiles_top es items t) n f
+    ∙ ap (λ x. cut_by es (map plain_change items) ++ x ∷ []) (whole_is r w)
 
-pub found : {A : Type 0} (es : List Extent) (items : List (Move A)) (i : ℕ) (e : Extent) → Tiles 0 es (length items) → i < length es → e ≡ get_or es i e → At 0 es (map group_of items) i e e.start
+pub found : {A : Type 0} (es : List Extent) (items : List (Change A)) (i : ℕ) (e : Extent) → Tiles 0 es (length items) → i < length es → e ≡ get_or es i e → At 0 es (map plain_change items) i e e.start
 found es items i e t lt is =
     let none : e.start - 0 ≡ e.start = omega arith in
-    subst (λ o. At 0 es (map group_of items) i e o) none (at 0 es (map group_of items) i e (tiles_top es items t) lt is)
+    subst (λ o. At 0 es (map plain_change items) i e o) none (at 0 es (map plain_change items) i e (tiles_top es items t) lt is)
 
--- the groups of a part of the changes
-pub part_of : {A : Type 0} (items : List (Move A)) (a n : ℕ) → map group_of (take n (drop a items)) ≡ take n (drop a (map group_of items))
-part_of items a n = sym (take-map group_of n (drop a items)) ∙ ap (take n) (sym (drop-map group_of a items))
+-- the changes of a part of the changes
+pub part_of : {A : Type 0} (items : List (Change A)) (a n : ℕ) → map plain_change (take n (drop a items)) ≡ take n (drop a (map plain_change items))
+part_of items a n = sym (take-map plain_change n (drop a items)) ∙ ap (take n) (sym (drop-map plain_change a items))
 
-range_of : {A : Type 0} (items : List (Move A)) (a n : ℕ) → map group_of (slice_range items a (a + n)) ≡ take n (drop a (map group_of items))
+range_of : {A : Type 0} (items : List (Change A)) (a n : ℕ) → map plain_change (slice_range items a (a + n)) ≡ take n (drop a (map plain_change items))
 range_of items a n =
     let e : (a + n) - a ≡ n = omega arith in
-    ap (λ k. map group_of (take k (drop a items))) e ∙ part_of items a n
+    ap (λ k. map plain_change (take k (drop a items))) e ∙ part_of items a n
 
 -- the record that stands in a part of the changes
-pub there : {A : Type 0} (es : List Extent) (items : List (Move A)) (i : ℕ) (e : Extent) → Tiles 0 es (length items) → i < length es → e ≡ get_or es i e
-    → get_or (cut_by es (map group_of items)) i no_record ≡ whole (in_order e.is_turned (map group_of (slice_range items e.start (e.start + e.count))))
+pub there : {A : Type 0} (es : List Extent) (items : List (Change A)) (i : ℕ) (e : Extent) → Tiles 0 es (length items) → i < length es → e ≡ get_or es i e
+    → get_or (cut_by es (map plain_change items)) i no_record ≡ whole (in_order e.is_turned (map plain_change (slice_range items e.start (e.start + e.count))))
 there es items i e t lt is = (found es items i e t lt is).is ∙ ap (λ l. whole (in_order e.is_turned l)) (sym (range_of items e.start e.count))
 
 -- changes of which a part is written over
-abbrev pub with_part : {A : Type 0} → List (Move A) → ℕ → List (Move A) → List (Move A)
+abbrev pub with_part : {A : Type 0} → List (Change A) → ℕ → List (Change A) → List (Change A)
 with_part items i ws = take i items ++ (ws ++ drop (length ws) (drop i items))
 
-groups_over : {A : Type 0} (items ws : List (Move A)) (i : ℕ) → map group_of (with_part items i ws) ≡ over i (map group_of items) (map group_of ws)
-groups_over items ws i =
-    map-append group_of (take i items) (ws ++ drop (length ws) (drop i items))
-    ∙ ap (λ l. l ++ map group_of (ws ++ drop (length ws) (drop i items))) (sym (take-map group_of i items))
-    ∙ ap (λ l. take i (map group_of items) ++ l) (
-    map-append group_of ws (drop (length ws) (drop i items))
-    ∙ ap (λ l. map group_of ws ++ l) (
-    sym (drop-map group_of (length ws) (drop i items))
-    ∙ ap (drop (length ws)) (sym (drop-map group_of i items))
-    ∙ ap (λ n. drop n (drop i (map group_of items))) (sym (length-map ws group_of))
+changes_over : {A : Type 0} (items ws : List (Change A)) (i : ℕ) → map plain_change (with_part items i ws) ≡ over i (map plain_change items) (map plain_change ws)
+changes_over items ws i =
+    map-append plain_change (take i items) (ws ++ drop (length ws) (drop i items))
+    ∙ ap (λ l. l ++ map plain_change (ws ++ drop (length ws) (drop i items))) (sym (take-map plain_change i items))
+    ∙ ap (λ l. take i (map plain_change items) ++ l) (
+    map-append plain_change ws (drop (length ws) (drop i items))
+    ∙ ap (λ l. map plain_change ws ++ l) (
+    sym (drop-map plain_change (length ws) (drop i items))
+    ∙ ap (drop (length ws)) (sym (drop-map plain_change i items))
+    ∙ ap (λ n. drop n (drop i (map plain_change items))) (sym (length-map ws plain_change))
     )
     )
 
-pub long_part : {A : Type 0} (es : List Extent) (items : List (Move A)) (i : ℕ) (e : Extent) (ws : List (Move A)) → Tiles 0 es (length items) → i < length es → e ≡ get_or es i e → length ws ≡ e.count → length (with_part items e.start ws) ≡ length items
+pub long_part : {A : Type 0} (es : List Extent) (items : List (Change A)) (i : ℕ) (e : Extent) (ws : List (Change A)) → Tiles 0 es (length items) → i < length es → e ≡ get_or es i e → length ws ≡ e.count → length (with_part items e.start ws) ≡ length items
 long_part es items i e ws t lt is n =
     let f = found es items i e t lt is in
-    let within : e.start + length ws ≤ length items = omega (arith, f.within, n, length-map items group_of) in
+    let within : e.start + length ws ≤ length items = omega (arith, f.within, n, length-map items plain_change) in
     omega (
       arith,
       within,
@@ -215,17 +215,17 @@ long_part es items i e ws t lt is n =
     )
 
 -- what is left where the changes of a record are written over and its extent is flipped
-pub record Turns {A : Type 0} (es : List Extent) (items : List (Move A)) (i : ℕ) (e : Extent) (ws left : List (Move A)) : Type 0 where
-  pub all : cut_by (set es i (flipped e)) (map group_of left) ≡ set (cut_by es (map group_of items)) i (whole (in_order (not e.is_turned) (map group_of ws)))
-  pub here : get_or (cut_by (set es i (flipped e)) (map group_of left)) i no_record ≡ whole (in_order (not e.is_turned) (map group_of ws))
+pub record Turns {A : Type 0} (es : List Extent) (items : List (Change A)) (i : ℕ) (e : Extent) (ws left : List (Change A)) : Type 0 where
+  pub all : cut_by (set es i (flipped e)) (map plain_change left) ≡ set (cut_by es (map plain_change items)) i (whole (in_order (not e.is_turned) (map plain_change ws)))
+  pub here : get_or (cut_by (set es i (flipped e)) (map plain_change left)) i no_record ≡ whole (in_order (not e.is_turned) (map plain_change ws))
   pub tiles : Tiles 0 (set es i (flipped e)) (length left)
 
-pub turns : {A : Type 0} (es : List Extent) (items : List (Move A)) (i : ℕ) (e : Extent) (ws left : List (Move A)) → Tiles 0 es (length items) → i < length es → e ≡ get_or es i e → length ws ≡ e.count → left ≡ with_part items e.start ws → Turns es items i e ws left
+pub turns : {A : Type 0} (es : List Extent) (items : List (Change A)) (i : ℕ) (e : Extent) (ws left : List (Change A)) → Tiles 0 es (length items) → i < length es → e ≡ get_or es i e → length ws ≡ e.count → left ≡ with_part items e.start ws → Turns es items i e ws left
 turns es items i e ws left t lt is n same =
     let f = found es items i e t lt is in
-    let gs = map group_of items in
-    let new : PlainRecord = whole (in_order (not e.is_turned) (map group_of ws)) in
-    let all = ap (λ l. cut_by (set es i (flipped e)) (map group_of l)) same ∙ ap (cut_by (set es i (flipped e))) (groups_over items ws e.start) ∙ f.turned (map group_of ws) (length-map ws group_of ∙ n) in
+    let gs = map plain_change items in
+    let new : PlainRecord = whole (in_order (not e.is_turned) (map plain_change ws)) in
+    let all = ap (λ l. cut_by (set es i (flipped e)) (map plain_change l)) same ∙ ap (cut_by (set es i (flipped e))) (changes_over items ws e.start) ∙ f.turned (map plain_change ws) (length-map ws plain_change ∙ n) in
     record {
       all = all;
       here = ap (λ l. get_or l i no_record) all ∙ get_or-set_same (cut_by es gs) i new no_record (subst (λ k. i < k) (sym (length-cut es gs)) lt);

@@ -3,7 +3,7 @@ use Rattle.std.proofs.Common.{◌≡◌, ℕ, suc, zero, ◌<◌, ◌≤◌, Boo
 use Rattle.std.proofs.lemmas.Bool.Decides.{nat_tests}
 use Rattle.std.proofs.lemmas.Bool.{true≢false}
 use Rattle.rev_undotree.specs.Tree.{PlainNode, PlainBranch, fork_at, count}
-use Rattle.rev_undotree.specs.Places.{placed}
+use Rattle.rev_undotree.specs.Places.{with_place}
 use Rattle.rev_undotree.specs.Ways.{reach}
 use Rattle.rev_undotree.specs.Rows.{Row, row, number_after, start_at, find_run}
 use Rattle.rev_undotree.specs.Paths.{IsPath}
@@ -52,10 +52,10 @@ pub elsewhere_other_place : (n : ℕ) (b c : PlainBranch) (w : List Junction) (d
 elsewhere_other_place n b c w d o e h = at_first n b w d o (λ p at i q f. h (ap (λ z. z.from) e ∙ q.2))
 
 -- not in the fork either
-elsewhere_placed : (n k : ℕ) (b : PlainBranch) (w : List Junction) → IsElsewhere n b w → IsElsewhere n (placed k b) w
+elsewhere_placed : (n k : ℕ) (b : PlainBranch) (w : List Junction) → IsElsewhere n b w → IsElsewhere n (with_place k b) w
 elsewhere_placed n k b w h = λ p at i q e. h p at i (path_unplaced k b w at q) (sym (after_placed k p b w at) ∙ e)
 
-pub elsewhere_behind : (n k : ℕ) (b c : PlainBranch) (w : List Junction) (d : Junction) → 1 ≤ length w → placed k c ≡ fork_at b.forks (get_or w 0 d).fork → IsElsewhere n c (behind w) → IsElsewhere n b w
+pub elsewhere_behind : (n k : ℕ) (b c : PlainBranch) (w : List Junction) (d : Junction) → 1 ≤ length w → with_place k c ≡ fork_at b.forks (get_or w 0 d).fork → IsElsewhere n c (behind w) → IsElsewhere n b w
 elsewhere_behind n k b c w d o e h =
     let q : Junction = get_or w 0 d in
     at_first n b w d o (λ p at i y f.

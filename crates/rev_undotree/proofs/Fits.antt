@@ -6,7 +6,7 @@ use Rattle.rev_undotree.specs.Ways.{reach, IsWay, at_end, with_node, with_fork}
 use Rattle.rev_undotree.specs.Rows.{Row, row_of, row, RowsFall, number_after, Known, KnownRun, KnownForks, number_at}
 use Rattle.rev_undotree.specs.Positions.{wiped, erased_forks, Same, Proper, Inner}
 use Rattle.rev_undotree.specs.Paths.{IsPath}
-use Rattle.rev_undotree.specs.Finds.{RisesFrom, RisesForks, Rises, head_number, bar, IsFirst, Fitted, Found, Placed}
+use Rattle.rev_undotree.specs.Finds.{RisesFrom, RisesForks, Rises, head_number, bar, IsFirst, Fitted, Found, FoundAt}
 use Rattle.rev_undotree.proofs.Finds.{rises_tail, fitted_child}
 use Rattle.rev_undotree.specs.declared.junction.Junction.{Junction}
 
@@ -171,11 +171,11 @@ pub path_proper : (b : PlainBranch) (t : List Junction) (h : ℕ) → Fitted b.f
 path_proper b [] h f q l = tt
 path_proper b (p ∷ ps) h f q l = (path_node (fork_at b.forks p.fork) ps h (64 - 1) 1 (fitted_child b.forks b.run 64 0 0 p.fork f q.1).2 q.3 l (omega arith)).1
 
-pub found_placed : (n : ℕ) (b : PlainBranch) (w v : List Junction) (at : ℕ) → w ≡ [] → Fitted b.forks b.run 64 0 0 → Found n b w v at → Placed n b v at
+pub found_placed : (n : ℕ) (b : PlainBranch) (w v : List Junction) (at : ℕ) → w ≡ [] → Fitted b.forks b.run 64 0 0 → Found n b w v at → FoundAt n b v at
 found_placed n b w v at e f h =
     let m : v ≡ h.more = h.way ∙ ap (λ z. z ++ h.more) e in
     let q = subst (λ z. IsPath b z at) (sym m) h.path in
     record { path = q; proper = path_proper b v at f q h.inside; numbered = ap (λ z. number_at b z at) m ∙ h.numbered 0 }
 
-pub root_placed : (n : ℕ) (b : PlainBranch) (w : List Junction) → n ≡ 0 → w ≡ [] → Placed n b w 0
+pub root_placed : (n : ℕ) (b : PlainBranch) (w : List Junction) → n ≡ 0 → w ≡ [] → FoundAt n b w 0
 root_placed n b w e f = rw (e, f) (record { path = omega arith; proper = tt; numbered = refl })

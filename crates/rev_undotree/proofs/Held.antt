@@ -8,7 +8,7 @@ use Rattle.rev_undotree.specs.Rows.{Row, row_of, row, number_after, start_at, nu
 use Rattle.rev_undotree.proofs.Rows.{first_continues, Known-fork, or_else-none}
 use Rattle.rev_undotree.specs.Positions.{SessionState, Kept, Moved, Proper}
 use Rattle.rev_undotree.specs.Paths.{IsPath}
-use Rattle.rev_undotree.specs.Finds.{is_held, Rises, Placed, IsMissing}
+use Rattle.rev_undotree.specs.Finds.{is_held, Rises, FoundAt, IsMissing}
 use Rattle.rev_undotree.proofs.Positions.{Proper-zero, moved_state, number_at-same}
 use Rattle.rev_undotree.proofs.Growth.{row_of-last, row_of-older, rows_of-suc, length_rows, none_above}
 use Rattle.rev_undotree.proofs.Finds.{less_or_same}
@@ -73,7 +73,7 @@ pub path_held : (rows : List (Option Row)) (b : PlainBranch) (w : List Junction)
 path_held rows b w zero n q o k e = ap (λ z. is_held rows z) (sym e ∙ ap (λ z. number_at b z 0) (Proper-zero w o))
 path_held rows b w (suc h) n q o k e = ap (λ z. is_held rows z) (sym e) ∙ held_row rows (number_at b w (suc h)) _ (path_row rows b w h q k)
 
-pub placed_held : (root t : State) (b : PlainBranch) (w v : List Junction) (k at issued n : ℕ) → Kept root t b w k issued → Placed n b v at → is_held (rows_of issued b) n ≡ true
+pub placed_held : (root t : State) (b : PlainBranch) (w v : List Junction) (k at issued n : ℕ) → Kept root t b w k issued → FoundAt n b v at → is_held (rows_of issued b) n ≡ true
 placed_held root t b w v k at issued n h q = path_held (rows_of issued b) b v at n q.path q.proper h.known q.numbered
 
 pub missing_held : (b : PlainBranch) (issued n : ℕ) → 0 < n → IsMissing n b → is_held (rows_of issued b) n ≡ true → ⊥
@@ -87,7 +87,7 @@ pub kept_rises : (root t : State) (b : PlainBranch) (w : List Junction) (k issue
 kept_rises root t b w k issued h = rises_known (rows_of issued b) 0 true b h.falls h.known
 
 -- a session that went to a node
-pub went_state : (root t u : State) (b c : PlainBranch) (w v x y : List Junction) (j k at issued n : ℕ) → Moved root b u c v k → Placed n b y at → x ≡ y → v ≡ x → k ≡ at →
+pub went_state : (root t u : State) (b c : PlainBranch) (w v x y : List Junction) (j k at issued n : ℕ) → Moved root b u c v k → FoundAt n b y at → x ≡ y → v ≡ x → k ≡ at →
     ◌≡◌ {A = SessionState} (record { root = rewind c v k u; rows = rows_of issued c; current = number_at c v k }) (record { root = root; rows = rows_of issued b; current = n })
 went_state root t u b c w v x y j k at issued n m q ex ev ek =
     moved_state root t u b c w v j k issued n m (sym (number_at-same b c v k m.same ∙ ap (λ z. number_at b z k) (ev ∙ ex) ∙ ap (λ z. number_at b y z) ek ∙ q.numbered))

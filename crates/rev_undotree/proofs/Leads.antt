@@ -7,7 +7,7 @@ use Rattle.std.specs.List.{refill}
 use Rattle.std.specs.Bool.{◌==◌}
 use Rattle.rev_undotree.proofs.Finds.{less_or_same}
 use Rattle.rev_undotree.specs.Tree.{PlainBranch, count}
-use Rattle.rev_undotree.specs.Places.{placed}
+use Rattle.rev_undotree.specs.Places.{with_place}
 use Rattle.rev_undotree.specs.Forks.{next_fork}
 use Rattle.rev_undotree.specs.Index.{PlainIndex, branch_of, leaving_of, then_up, ups, way_to}
 use Rattle.rev_undotree.specs.declared.junction.Junction.{Junction}
@@ -73,12 +73,12 @@ eqb-apart n m h = grind (arith, nat_tests)
 abbrev off_at : PlainBranch → ℕ → Option Junction
 off_at b k = Some (record { taken = k; fork = count b.forks })
 
-pub asked_along : (a b : PlainBranch) (k n : ℕ) → a ≡ placed 0 b → n ≡ length a.run → k ≡ n → ◌≡◌ {A = Option Junction} None (next_fork b k)
+pub asked_along : (a b : PlainBranch) (k n : ℕ) → a ≡ with_place 0 b → n ≡ length a.run → k ≡ n → ◌≡◌ {A = Option Junction} None (next_fork b k)
 asked_along a b k n e l h =
     let t : eqb k (length b.run) ≡ true = eq-eqb k (length b.run) (h ∙ l ∙ ap (λ (z : PlainBranch). length z.run) e) in
     sym (ap (λ z. cond z None (off_at b k)) t)
 
-pub asked_off : (a b : PlainBranch) (k n m : ℕ) → a ≡ placed 0 b → n ≡ length a.run → (k ≡ n → ⊥) → m ≡ count a.forks → ◌≡◌ {A = Option Junction} (Some (record { taken = k; fork = m })) (next_fork b k)
+pub asked_off : (a b : PlainBranch) (k n m : ℕ) → a ≡ with_place 0 b → n ≡ length a.run → (k ≡ n → ⊥) → m ≡ count a.forks → ◌≡◌ {A = Option Junction} (Some (record { taken = k; fork = m })) (next_fork b k)
 asked_off a b k n m e l h f =
     let t : eqb k (length b.run) ≡ false = eqb-apart k (length b.run) (λ z. h (z ∙ sym (l ∙ ap (λ (y : PlainBranch). length y.run) e))) in
     ap (λ z. let y : Junction = record { taken = k; fork = z } in Some y) (f ∙ ap (λ (z : PlainBranch). count z.forks) e) ∙ sym (ap (λ z. cond z None (off_at b k)) t)

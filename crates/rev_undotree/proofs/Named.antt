@@ -8,7 +8,7 @@ use Rattle.rev_undotree.specs.declared.mention.Mention.{Mention}
 use Rattle.rev_undotree.specs.Mentions.{Holds, Within}
 use Rattle.rev_model.specs.Lists.{has}
 use Rattle.rev_model.specs.Move.{Move}
-use Rattle.rev_moves.specs.Record.{Group, PlainRecord, IsWhole, moves_in}
+use Rattle.rev_changes.specs.Record.{PlainChange, PlainRecord, IsWhole, moves_in}
 use Rattle.rev_undotree.specs.Steps.{State}
 use Rattle.rev_undotree.specs.Named.{named_by, named, stored_keys}
 use Rattle.rev_undotree.specs.Mentioned.{AreMentioned, Grows}
@@ -78,26 +78,26 @@ named-append t (m ∷ ms) more = ap (λ l. named_by t m ++ l) (named-append t ms
 
 -- ---- along a record: what it names is mentioned, or still to come
 
-abbrev pub IsSoFar : List Mention → State → List Group → ℕ → ℕ → Type 0
+abbrev pub IsSoFar : List Mention → State → List PlainChange → ℕ → ℕ → Type 0
 IsSoFar now t gs i n = (h : ℕ) → has nat_eq h (named t (moves_in gs)) ≡ true → Holds now h n ⊎ (has nat_eq h (named t (moves_in (drop i gs))) ≡ true)
 
-pub so_far_starts : (now : List Mention) (t : State) (gs : List Group) (n : ℕ) → IsSoFar now t gs 0 n
+pub so_far_starts : (now : List Mention) (t : State) (gs : List PlainChange) (n : ℕ) → IsSoFar now t gs 0 n
 so_far_starts now t gs n h e = inr e
 
-so_far_next : (t : State) (gs : List Group) (i h : ℕ) (g : Group) → i < length gs → g ≡ slice_index_or gs i g → has nat_eq h (named t (moves_in (drop i gs))) ≡ has nat_eq h (named t g.moves ++ named t (moves_in (drop (i + 1) gs)))
+so_far_next : (t : State) (gs : List PlainChange) (i h : ℕ) (g : PlainChange) → i < length gs → g ≡ slice_index_or gs i g → has nat_eq h (named t (moves_in (drop i gs))) ≡ has nat_eq h (named t g.moves ++ named t (moves_in (drop (i + 1) gs)))
 so_far_next t gs i h g lt e =
     at_drop_more (λ l. has nat_eq h (named t (moves_in l))) gs i g lt
     ∙ ap (λ z. has nat_eq h (named t (moves_in (z ∷ drop (i + 1) gs)))) (sym e)
     ∙ ap (has nat_eq h) (named-append t g.moves (moves_in (drop (i + 1) gs)))
 
-pub so_far_more : (now more : List Mention) (t : State) (gs : List Group) (i n : ℕ) (g : Group) → i < length gs → g ≡ slice_index_or gs i g → Grows now more n → AreMentioned more (named t g.moves) n → IsSoFar now t gs i n → IsSoFar more t gs (i + 1) n
+pub so_far_more : (now more : List Mention) (t : State) (gs : List PlainChange) (i n : ℕ) (g : PlainChange) → i < length gs → g ≡ slice_index_or gs i g → Grows now more n → AreMentioned more (named t g.moves) n → IsSoFar now t gs i n → IsSoFar more t gs (i + 1) n
 so_far_more now more t gs i n g lt e grown a s h f =
     ⊎_elim (λ x. inl (grown.kept h n x))
     (λ x. ⊎_elim (λ y. inl (a h y)) (λ y. inr y) (has_either h (named t g.moves) (named t (moves_in (drop (i + 1) gs))) (sym (so_far_next t gs i h g lt e) ∙ x)))
     (s h f)
 
-pub so_far_ends : (now : List Mention) (t : State) (r : PlainRecord) (i n : ℕ) → IsWhole r → length r.groups ≤ i → IsSoFar now t r.groups i n → AreMentioned now (named t r.moves) n
+pub so_far_ends : (now : List Mention) (t : State) (r : PlainRecord) (i n : ℕ) → IsWhole r → length r.changes ≤ i → IsSoFar now t r.changes i n → AreMentioned now (named t r.moves) n
 so_far_ends now t r i n whole le s h f =
     ⊎_elim (λ x. x)
-    (λ x. absurd (false≢true (sym (ap (λ l. has nat_eq h (named t (moves_in l))) (drop_all i r.groups le)) ∙ x)))
+    (λ x. absurd (false≢true (sym (ap (λ l. has nat_eq h (named t (moves_in l))) (drop_all i r.changes le)) ∙ x)))
     (s h (sym (ap (λ l. has nat_eq h (named t l)) whole.moves) ∙ f))

@@ -7,7 +7,7 @@ use Rattle.rev_undotree.specs.States.{after, RunHolds, AllAhead, AllBut, base_at
 use Rattle.rev_undotree.specs.Rows.{Row, row_of, RowsFall, number_after, start_at, number_at, rows_of, Known, at}
 use Rattle.rev_undotree.specs.Positions.{Kept}
 use Rattle.rev_undotree.specs.Paths.{IsPath}
-use Rattle.rev_undotree.specs.Finds.{Placed}
+use Rattle.rev_undotree.specs.Finds.{FoundAt}
 use Rattle.rev_undotree.proofs.Rows.{at-run, at-zero, Known-fork}
 use Rattle.rev_undotree.proofs.Spots.{path_less}
 use Rattle.rev_undotree.proofs.Held.{path_row}
@@ -67,7 +67,7 @@ at_path root s rows f p c b (x ∷ xs) k q e n =
     (subst (λ z. Known rows (number_after p z b.run) false (fork_at b.forks x.fork)) q.2 (Known-fork rows p b.run b.forks x.fork q.1 n.1))
 
 -- what row(n) shows
-pub placed_row : (root t : State) (b : PlainBranch) (w v x : List Junction) (here j k issued n : ℕ) (d : Step) (o : Outcome) → Kept root t b w here issued → Placed n b v j → j ≡ suc k → x ≡ v → d ≡ (get_or (reach b x).run k no_node).step → o ≡ (get_or (reach b x).run k no_node).outcome →
+pub placed_row : (root t : State) (b : PlainBranch) (w v x : List Junction) (here j k issued n : ℕ) (d : Step) (o : Outcome) → Kept root t b w here issued → FoundAt n b v j → j ≡ suc k → x ≡ v → d ≡ (get_or (reach b x).run k no_node).step → o ≡ (get_or (reach b x).run k no_node).outcome →
     (r : Row) × (row_of (rows_of issued b) n ≡ Some r) × (d ≡ r.step) × (o ≡ outcome_of (at root (rows_of issued b) r.parent) r.step)
 placed_row root t b w v x here j k issued n d o h p ej ex ed eo =
     let rows = rows_of issued b in

@@ -10,7 +10,7 @@ use Rattle.rev_undotree.specs.Rows.{Row, row, row_of, number_after, start_at, nu
 use Rattle.rev_undotree.specs.Positions.{SessionState, Kept, Proper, depth}
 use Rattle.rev_undotree.specs.Paths.{IsPath, IsOnWay}
 use Rattle.rev_undotree.specs.Order.{Fitted}
-use Rattle.rev_undotree.specs.Finds.{Placed, is_held}
+use Rattle.rev_undotree.specs.Finds.{FoundAt, is_held}
 use Rattle.rev_undotree.specs.Machine.{lineage}
 use Rattle.rev_undotree.specs.Trails.{cut}
 use Rattle.rev_undotree.specs.Prunes.{is_among, is_below, spared, pruned, cropped}
@@ -182,7 +182,7 @@ spared_rows rows n b c (suc k) h =
     ∙ ap (λ z. spared rows n 0 (rows_of k b) ++ cond (is_below rows n (suc z)) None (find_in (suc k) 0 true b) ∷ []) (sym l)
     ∙ sym (spared-push rows n 0 (rows_of k b) (find_in (suc k) 0 true b))
 
-module _ (root t : State) (b : PlainBranch) (w v : List Junction) (here j issued n : ℕ) (h : Kept root t b w here issued) (p : Placed n b v (suc j)) where
+module _ (root t : State) (b : PlainBranch) (w v : List Junction) (here j issued n : ℕ) (h : Kept root t b w here issued) (p : FoundAt n b v (suc j)) where
   abbrev rows : List (Option Row)
   rows = rows_of issued b
 
@@ -333,33 +333,33 @@ pub root_held : (rows : List (Option Row)) (n : ℕ) → n ≡ 0 → is_held row
 root_held rows n e = ap (λ z. is_held rows z) e
 
 -- as the code does it
-placed_at : (n : ℕ) (b : PlainBranch) (v : List Junction) (at : ℕ) → 0 < at → Placed n b v at → Placed n b v (suc (at - 1))
-placed_at n b v at l p = let e : at ≡ suc (at - 1) = omega (arith, l) in subst (λ z. Placed n b v z) e p
+placed_at : (n : ℕ) (b : PlainBranch) (v : List Junction) (at : ℕ) → 0 < at → FoundAt n b v at → FoundAt n b v (suc (at - 1))
+placed_at n b v at l p = let e : at ≡ suc (at - 1) = omega (arith, l) in subst (λ z. FoundAt n b v z) e p
 
 off_way : (v x w u : List Junction) (at here : ℕ) → 0 < at → x ≡ v → u ≡ w → (IsOnWay x at u here → ⊥) → IsOnWay v (suc (at - 1)) w here → ⊥
 off_way v x w u at here l ex eu f o =
     let e : suc (at - 1) ≡ at = omega (arith, l) in
     f (subst (λ z. IsOnWay z at u here) (sym ex) (subst (λ z. IsOnWay v at z here) (sym eu) (subst (λ z. IsOnWay v z w here) e o)))
 
-pub prune_kept : (root t : State) (b c : PlainBranch) (w v x y u : List Junction) (here at issued n : ℕ) → Kept root t b w here issued → Placed n b v at → 0 < at → x ≡ v → y ≡ v → u ≡ w → (IsOnWay x at u here → ⊥) → c ≡ at_end (cropped (at - 1)) b y → Kept (rewind c w here t) t c w here issued
+pub prune_kept : (root t : State) (b c : PlainBranch) (w v x y u : List Junction) (here at issued n : ℕ) → Kept root t b w here issued → FoundAt n b v at → 0 < at → x ≡ v → y ≡ v → u ≡ w → (IsOnWay x at u here → ⊥) → c ≡ at_end (cropped (at - 1)) b y → Kept (rewind c w here t) t c w here issued
 prune_kept root t b c w v x y u here at issued n h p l ex ey eu f ec =
     let k = pruned_kept root t b w v here (at - 1) issued n h (placed_at n b v at l p) (off_way v x w u at here l ex eu f) in
     let e : c ≡ at_end (cropped (at - 1)) b v = ec ∙ ap (λ z. at_end (cropped (at - 1)) b z) ey in
     subst (λ z. Kept (rewind z w here t) t z w here issued) (sym e) (subst (λ z. Kept z t (at_end (cropped (at - 1)) b v) w here issued) (sym (stands_root root t (at_end (cropped (at - 1)) b v) w here k.stands)) k)
 
-pub prune_state : (root t : State) (b c : PlainBranch) (w v x y u : List Junction) (here at issued n : ℕ) → Kept root t b w here issued → Placed n b v at → 0 < at → x ≡ v → y ≡ v → u ≡ w → (IsOnWay x at u here → ⊥) → c ≡ at_end (cropped (at - 1)) b y →
+pub prune_state : (root t : State) (b c : PlainBranch) (w v x y u : List Junction) (here at issued n : ℕ) → Kept root t b w here issued → FoundAt n b v at → 0 < at → x ≡ v → y ≡ v → u ≡ w → (IsOnWay x at u here → ⊥) → c ≡ at_end (cropped (at - 1)) b y →
     ◌≡◌ {A = SessionState} (record { root = rewind c w here t; rows = rows_of issued c; current = number_at c w here }) (record { root = root; rows = pruned (rows_of issued b) n; current = number_at b w here })
 prune_state root t b c w v x y u here at issued n h p l ex ey eu f ec =
     let e : c ≡ at_end (cropped (at - 1)) b v = ec ∙ ap (λ z. at_end (cropped (at - 1)) b z) ey in
     ap (λ z. let s : SessionState = record { root = rewind z w here t; rows = rows_of issued z; current = number_at z w here } in s) e
     ∙ pruned_state root t b w v here (at - 1) issued n h (placed_at n b v at l p) (off_way v x w u at here l ex eu f)
 
-pub on_path_below : (root t : State) (b : PlainBranch) (w v x u : List Junction) (here at issued n : ℕ) → Kept root t b w here issued → Placed n b v at → 0 < at → x ≡ v → u ≡ w → IsOnWay x at u here → is_below (rows_of issued b) n (number_at b w here) ≡ true
+pub on_path_below : (root t : State) (b : PlainBranch) (w v x u : List Junction) (here at issued n : ℕ) → Kept root t b w here issued → FoundAt n b v at → 0 < at → x ≡ v → u ≡ w → IsOnWay x at u here → is_below (rows_of issued b) n (number_at b w here) ≡ true
 on_path_below root t b w v x u here at issued n h p l ex eu o =
     ap (λ z. is_below (rows_of issued b) z (number_at b w here)) (sym p.numbered)
     ∙ on_below (rows_of issued b) b v w at here (kept_tree root t b w here issued h) l (kept_path root t b w here issued h) h.proper (subst (λ z. IsOnWay z at w here) ex (subst (λ z. IsOnWay x at z here) eu o))
 
-pub off_path_below : (root t : State) (b : PlainBranch) (w v x u : List Junction) (here at issued n : ℕ) → Kept root t b w here issued → Placed n b v at → x ≡ v → u ≡ w → (IsOnWay x at u here → ⊥) → is_below (rows_of issued b) n (number_at b w here) ≡ true → ⊥
+pub off_path_below : (root t : State) (b : PlainBranch) (w v x u : List Junction) (here at issued n : ℕ) → Kept root t b w here issued → FoundAt n b v at → x ≡ v → u ≡ w → (IsOnWay x at u here → ⊥) → is_below (rows_of issued b) n (number_at b w here) ≡ true → ⊥
 off_path_below root t b w v x u here at issued n h p ex eu f e =
     let o = below_on (rows_of issued b) b v w at here (kept_tree root t b w here issued h) p.path p.proper (kept_path root t b w here issued h) h.proper (ap (λ z. is_below (rows_of issued b) z (number_at b w here)) p.numbered ∙ e) in
     f (subst (λ z. IsOnWay z at u here) (sym ex) (subst (λ z. IsOnWay v at z here) (sym eu) o))

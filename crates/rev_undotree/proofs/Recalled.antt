@@ -32,8 +32,8 @@ use Rattle.rev_model.specs.declared.KeyPlace.{KeyPlace}
 use Rattle.rev_model.specs.declared.Listed.TheVariants.{InFree, InQueue}
 use Rattle.rev_model.specs.declared.Outcome.{Outcome}
 use Rattle.rev_model.specs.declared.Placed.TheVariants.{ToFree, ToQueue}
-use Rattle.rev_moves.specs.Record.{PlainRecord}
-use Rattle.rev_changes.proofs.Seats.{item_stands}
+use Rattle.rev_changes.specs.Record.{PlainRecord}
+use Rattle.rev_edits.proofs.Seats.{item_stands}
 use Rattle.rev_undotree.specs.Named.{hashed, named, step_keys, stored_keys, note_of}
 use Rattle.rev_undotree.proofs.Named.{is_named}
 

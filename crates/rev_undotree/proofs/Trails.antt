@@ -5,11 +5,11 @@ use Rattle.std.proofs.lemmas.Bool.Decides.{nat_tests}
 use Rattle.rev_model.specs.Actor.{step as played_step}
 use Rattle.rev_model.specs.Causes.{step_removals}
 use Rattle.rev_model.specs.Move.{LeadsBack}
-use Rattle.rev_moves.specs.Record.{flat}
-use Rattle.rev_changes.specs.Telling.{TellsAll}
+use Rattle.rev_changes.specs.Record.{flat}
+use Rattle.rev_edits.specs.Telling.{TellsAll}
 use Rattle.rev_undotree.specs.Steps.{State, PlainRecord, Step, Outcome, Sound, next, outcome_of, Undoes}
 use Rattle.rev_undotree.specs.Tree.{PlainNode, PlainBranch, fork_at}
-use Rattle.rev_undotree.specs.Places.{placed}
+use Rattle.rev_undotree.specs.Places.{with_place}
 use Rattle.rev_undotree.specs.Ways.{reach, undo_of, no_node}
 use Rattle.rev_undotree.specs.States.{after, RunHolds, base_at, Context, Ends, state_at}
 use Rattle.rev_undotree.specs.Rows.{Row, row, row_of, number_at, start_at, rows_of, at}
@@ -194,13 +194,13 @@ shown_from : (r : PlainRecord) (s t u : State) (e : Step) → s ≡ u → t ≡ 
 shown_from r s t u e es et h = subst (λ z. Shown r z t e) (sym es) (subst (λ z. Shown r u z e) (sym et) (shown_next r u e h))
 
 -- what trail(d) shows
-pub trailed : (root t : State) (b : PlainBranch) (w v x : List Junction) (k d i j issued : ℕ) (e : PlainNode) (c : PlainBranch) → Kept root t b w k issued → 0 < d → d ≤ depth w k → cut w d ≡ (v, i) → i ≡ suc j → x ≡ v → c ≡ placed 0 (reach b x) → e ≡ get_or c.run j no_node →
+pub trailed : (root t : State) (b : PlainBranch) (w v x : List Junction) (k d i j issued : ℕ) (e : PlainNode) (c : PlainBranch) → Kept root t b w k issued → 0 < d → d ≤ depth w k → cut w d ≡ (v, i) → i ≡ suc j → x ≡ v → c ≡ with_place 0 (reach b x) → e ≡ get_or c.run j no_node →
     Trailed (record { root = root; rows = rows_of issued b; current = number_at b w k }) d e.number e.step e.outcome e.undo
 trailed root t b w v x k d i j issued e c h low high ec ei ex er en =
     let rows = rows_of issued b in
     let tree = kept_tree root t b w k issued h in
     let path = kept_path root t b w k issued h in
-    let node : e ≡ get_or (reach b v).run j no_node = en ∙ ap (λ (z : PlainBranch). get_or z.run j no_node) (er ∙ ap (λ z. placed 0 (reach b z)) ex) in
+    let node : e ≡ get_or (reach b v).run j no_node = en ∙ ap (λ (z : PlainBranch). get_or z.run j no_node) (er ∙ ap (λ z. with_place 0 (reach b z)) ex) in
     let there : IsPath b v (suc j) = subst (λ z. IsPath b v z) ei (subst (λ (z : Position). IsPath b z.0 z.1) ec (cut_path b w k d path high)) in
     let above : IsPath b v j = path_less b v (suc j) j (omega arith) there in
     let number : number_at b v (suc j) ≡ e.number = number_after-get (start_at 0 b v) j (reach b v).run (path_within b v (suc j) there) ∙ sym (ap (λ (z : PlainNode). z.number) node) in
@@ -228,9 +228,9 @@ trailed root t b w v x k d i j issued e c h low high ec ei ex er en =
       told = all.told;
     }
 
--- the groups in which the moves are kept tell nothing more
-trailed_groups : (s : SessionState) (d n : ℕ) (e : Step) (o : Outcome) (r : PlainRecord) → Trailed s d n e o (flat r) → Trailed s d n e o r
-trailed_groups s d n e o r h = record {
+-- the changes in which the moves are kept tell nothing more
+trailed_changes : (s : SessionState) (d n : ℕ) (e : Step) (o : Outcome) (r : PlainRecord) → Trailed s d n e o (flat r) → Trailed s d n e o r
+trailed_changes s d n e o r h = record {
   row = h.row;
   numbered = h.numbered;
   known = h.known;
@@ -247,7 +247,7 @@ trailed_groups s d n e o r h = record {
 -- the same by the parts of the node, as they are read one by one
 pub trailed_parts : (s : SessionState) (d n : ℕ) (e : Step) (o : Outcome) (r : PlainRecord) (x : PlainNode) → n ≡ x.number → e ≡ x.step → o ≡ x.outcome → flat r ≡ x.undo → Trailed s d x.number x.step x.outcome x.undo → Trailed s d n e o r
 trailed_parts s d n e o r x en ee eo er h =
-    trailed_groups s d n e o r
+    trailed_changes s d n e o r
     (subst (λ z. Trailed s d z e o (flat r)) (sym en)
     (subst (λ z. Trailed s d x.number z o (flat r)) (sym ee)
     (subst (λ z. Trailed s d x.number x.step z (flat r)) (sym eo)
@@ -307,10 +307,10 @@ take_length (p ∷ ps) zero l = refl
 take_length (p ∷ ps) (suc i) l = ap suc (take_length ps i (omega (arith, l)))
 
 -- and the node is one of its run
-pub cut_place : (b : PlainBranch) (w v x : List Junction) (k d i : ℕ) (c : PlainBranch) → IsPath b w k → 0 < d → d ≤ depth w k → cut w d ≡ (v, i) → x ≡ v → c ≡ placed 0 (reach b x) → i - 1 < length c.run
+pub cut_place : (b : PlainBranch) (w v x : List Junction) (k d i : ℕ) (c : PlainBranch) → IsPath b w k → 0 < d → d ≤ depth w k → cut w d ≡ (v, i) → x ≡ v → c ≡ with_place 0 (reach b x) → i - 1 < length c.run
 cut_place b w v x k d i c q low high e ex ec =
     let n = cut_inside b w v k d i q low high e in
     let l = n.0 in
     let m = path_within b v i n.1 in
-    let r : length c.run ≡ length (reach b v).run = ap (λ (z : PlainBranch). length z.run) (ec ∙ ap (λ z. placed 0 (reach b z)) ex) in
+    let r : length c.run ≡ length (reach b v).run = ap (λ (z : PlainBranch). length z.run) (ec ∙ ap (λ z. with_place 0 (reach b z)) ex) in
     omega (arith, l, m, r)

@@ -15,7 +15,7 @@ use Rattle.rev_undotree.proofs.Fits.{row_of-within}
 use Rattle.rev_undotree.proofs.Growth.{length_rows}
 use Rattle.rev_undotree.proofs.Held.{path_row, row_found, option_case}
 use Rattle.rev_undotree.proofs.Machine.{kept_tree, kept_path}
-use Rattle.rev_undotree.specs.Finds.{Placed, IsMissing}
+use Rattle.rev_undotree.specs.Finds.{FoundAt, IsMissing}
 use Rattle.rev_undotree.specs.Steps.{State}
 use Rattle.rev_undotree.proofs.Moves.{depth_below}
 use Rattle.rev_undotree.proofs.Spots.{Along, Off, step_of, Tree, path_less, path_more, row_along, row_fork, same_spot, played_at}
@@ -197,7 +197,7 @@ pub path_le : (rows : List (Option Row)) (b : PlainBranch) (w : List Junction) (
 path_le rows b w zero t g o = let e = ap (λ z. number_at b z 0) (Proper-zero w o) in omega (arith, e)
 path_le rows b w (suc j) t g o = row_of-within rows (number_at b w (suc j)) _ (path_row rows b w j g t.known)
 
-pub depth_few : (root t : State) (b : PlainBranch) (w v : List Junction) (k j issued n : ℕ) → Kept root t b w k issued → Placed n b v j → depth w k + depth v j < 4294967296
+pub depth_few : (root t : State) (b : PlainBranch) (w v : List Junction) (k j issued n : ℕ) → Kept root t b w k issued → FoundAt n b v j → depth w k + depth v j < 4294967296
 depth_few root t b w v k j issued n h p =
     let a = kept_tree root t b w k issued h in
     let l = length_rows issued b in
@@ -208,18 +208,18 @@ depth_few root t b w v k j issued n h p =
     let v' = path_le (rows_of issued b) b v j a p.path p.proper in
     omega (arith, l, f, d, e, u, v')
 
-pub go_distance : (root t : State) (b : PlainBranch) (w v x : List Junction) (k j issued n s : ℕ) → Kept root t b w k issued → Placed n b v j → x ≡ v → Trip w k x j s → s ≡ distance (rows_of issued b) (number_at b w k) n
+pub go_distance : (root t : State) (b : PlainBranch) (w v x : List Junction) (k j issued n s : ℕ) → Kept root t b w k issued → FoundAt n b v j → x ≡ v → Trip w k x j s → s ≡ distance (rows_of issued b) (number_at b w k) n
 go_distance root t b w v x k j issued n s h p e r =
     let a = kept_tree root t b w k issued h in
     trip_distance (rows_of issued b) b w v k j s a (kept_path root t b w k issued h) h.proper p.path p.proper (subst (λ z. Trip w k z j s) e r)
     ∙ ap (λ z. distance (rows_of issued b) (number_at b w k) z) p.numbered
 
 -- the parent of a node
-pub placed_inside : (n : ℕ) (b : PlainBranch) (w : List Junction) (j : ℕ) → (n ≡ 0 → ⊥) → Placed n b w j → 0 < j
+pub placed_inside : (n : ℕ) (b : PlainBranch) (w : List Junction) (j : ℕ) → (n ≡ 0 → ⊥) → FoundAt n b w j → 0 < j
 placed_inside n b w zero h p = absurd (h (sym p.numbered ∙ ap (λ z. number_at b z 0) (Proper-zero w p.proper)))
 placed_inside n b w (suc j) h p = omega arith
 
-pub placed_parent : (rows : List (Option Row)) (n m : ℕ) (b : PlainBranch) (w v x : List Junction) (j k : ℕ) → Tree rows b → Placed n b w j → Below v k w j → Proper v k → x ≡ v → m ≡ number_at b x k → Some m ≡ parent_of rows n
+pub placed_parent : (rows : List (Option Row)) (n m : ℕ) (b : PlainBranch) (w v x : List Junction) (j k : ℕ) → Tree rows b → FoundAt n b w j → Below v k w j → Proper v k → x ≡ v → m ≡ number_at b x k → Some m ≡ parent_of rows n
 placed_parent rows n m b w v x j k t p l o ex e =
     let r = row_below rows b v w k j t l p.path o in
     ap Some (e ∙ ap (λ z. number_at b z k) ex ∙ sym r.2) ∙ sym (ap (λ z. option_parent z) (ap (λ z. row_of rows z) (sym p.numbered) ∙ r.1))

@@ -24,7 +24,7 @@ pub record Found (n : ℕ) (b : PlainBranch) (w v : List Junction) (at : ℕ) : 
   pub numbered : (p : ℕ) → number_after (start_at p b more) at (reach b more).run ≡ n
 
 -- the node n stands at a position
-pub record Placed (n : ℕ) (b : PlainBranch) (w : List Junction) (at : ℕ) : Type 0 where
+pub record FoundAt (n : ℕ) (b : PlainBranch) (w : List Junction) (at : ℕ) : Type 0 where
   pub path : IsPath b w at
   pub proper : Proper w at
   pub numbered : number_at b w at ≡ n

@@ -6,8 +6,8 @@ use Rattle.rev_undotree.specs.Tree.{PlainBranch, forks_of, size_of}
 use denote.Param.Weighed.{most}
 
 -- a branch that leaves its parent's run behind the first k nodes
-abbrev pub placed : ℕ → PlainBranch → PlainBranch
-placed k b = record { from = k; run = b.run; forks = b.forks }
+abbrev pub with_place : ℕ → PlainBranch → PlainBranch
+with_place k b = record { from = k; run = b.run; forks = b.forks }
 
 -- no fork is deeper than all of them together
 pub most_le-forks : {X : Type 0} (deep : X → ℕ) (v : X → PlainBranch) (xs : List X) → ((x : X) → deep x ≤ size_of (v x).forks + 1) → most deep xs ≤ size_of (forks_of (map v xs))

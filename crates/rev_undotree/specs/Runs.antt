@@ -1,7 +1,7 @@
 -- A run as it is kept: what its nodes are beside their records, and the records apart from that.
 -- Rule of this project: nodes and their records lie in two lists, side by side.
 use Rattle.std.specs.Prelude.{ℕ, List, [], ◌∷◌}
-use Rattle.rev_moves.specs.Record.{flat}
+use Rattle.rev_changes.specs.Record.{flat}
 use Rattle.rev_undotree.specs.Steps.{Step, Outcome, PlainRecord}
 use Rattle.rev_undotree.specs.Tree.{PlainNode}
 
@@ -11,7 +11,7 @@ pub record PlainHead : Type 0 where
   pub step : Step
   pub outcome : Outcome
 
--- the node of a head and a record; in which groups the record keeps its moves is not seen
+-- the node of a head and a record; in which changes the record keeps its moves is not seen
 abbrev pub node_of : PlainHead → PlainRecord → PlainNode
 node_of h r = record { number = h.number; step = h.step; outcome = h.outcome; undo = flat r }
 

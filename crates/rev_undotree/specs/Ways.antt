@@ -9,7 +9,7 @@ use Rattle.rev_undotree.specs.declared.junction.Junction.{Junction}
 
 -- what is read where there is no node
 abbrev pub no_node : PlainNode
-no_node = record { number = 0; step = actor.Bump; outcome = outcome.Idle; undo = record { moves = []; notes = []; room = 0; groups = [] } }
+no_node = record { number = 0; step = actor.Bump; outcome = outcome.Idle; undo = record { moves = []; notes = []; room = 0; changes = [] } }
 
 -- the branch at the end of a way
 abbrev pub reach : PlainBranch → List Junction → PlainBranch

@@ -1,11 +1,11 @@
 //! A branch: a run of nodes, and the branches that fork from it.
 ghost use Rattle.std.specs.Prelude.{◌≡◌, ◌++◌, ◌∷◌, ◌^◌, ◌<◌, ◌-◌, ◌≤◌, ℕ, Bool, IfOk, IfErr, OnOk, OnErr, IfSome, IfNone, IsSome, Some, None, [], length, get_or, slice_get, cond, eqb, List, map};
-ghost use Rattle.rev_moves.specs.Record.{flat};
+ghost use Rattle.rev_changes.specs.Record.{flat};
 ghost use Rattle.rev_steps.specs.Plain.{plain_step};
 ghost use Rattle.rev_undotree.specs.Steps.{Fits, turned};
 ghost use Rattle.rev_undotree.specs.Ways.{IsWay, reach, undo_of, at_end, with_undo, with_node, with_fork, no_node};
 ghost use Rattle.rev_undotree.specs.Tree.{PlainNode, count, bare, fork_at};
-ghost use Rattle.rev_undotree.specs.Places.{placed};
+ghost use Rattle.rev_undotree.specs.Places.{with_place};
 ghost use Rattle.rev_undotree.specs.Rows.{find_run};
 ghost use Rattle.rev_undotree.specs.Order.{head_number};
 ghost use Rattle.rev_undotree.specs.Prunes.{trimmed, cropped};
@@ -14,9 +14,9 @@ ghost use Rattle.rev_undotree.specs.Finds.{RisesRun, Rises, Found, IsElsewhere};
 
 use crate::junction::Junction;
 use crate::run::{Node, Run};
+use rev_changes::RecordRef;
 use rev_inverse::Store;
 use rev_model::Outcome;
-use rev_moves::RecordRef;
 use rev_steps::Step;
 use std::alloc::{AllocError, Allocator};
 use std::marker::Model;
@@ -43,20 +43,20 @@ impl<A: Allocator> Model for Branch<A> {
     ghost use Rattle.std.proofs.Common.{arith};
     ghost use Rattle.std.specs.Coded.{codes};
     ghost use Rattle.rev_undotree.specs.Tree.{PlainBranch, branch_code, forks_of, branch_size};
-    ghost use Rattle.rev_undotree.specs.Places.{placed};
+    ghost use Rattle.rev_undotree.specs.Places.{with_place};
 
     ghost Value = { PlainBranch };
 
     ghost coded = { branch_code (Prim.hlevel codes) };
 
-    ghost view = { λ a. record { from = 0; run = a.run; forks = forks_of (map (λ f. placed f.from f.branch.value) a.forks.items) } };
+    ghost view = { λ a. record { from = 0; run = a.run; forks = forks_of (map (λ f. with_place f.from f.branch.value) a.forks.items) } };
 
     ghost size = { branch_size };
 
     ghost use Rattle.rev_undotree.specs.Places.{most_le-forks};
     ghost use Rattle.rev_undotree.specs.declared.branch.Branch.TheDeep.{deep-Fork};
 
-    ghost size_decreases = { λ a h. omega (arith, most_le-forks (deep-Fork A A.Allocator) (λ f. placed f.from f.branch.value) a.forks.items (λ f. omega arith)) };
+    ghost size_decreases = { λ a h. omega (arith, most_le-forks (deep-Fork A A.Allocator) (λ f. with_place f.from f.branch.value) a.forks.items (λ f. omega arith)) };
 }
 
 impl<A: Allocator> Branch<A> {
@@ -80,7 +80,7 @@ impl<A: Allocator> Branch<A> {
     /// The branch at the end of `way`.
     pub fn reach<'a>(&'a self, way: &[Junction]) -> &'a Branch<A>
         requires { IsWay self.now way.now }
-        ensures { result.now ≡ placed 0 (reach self.now way.now) }
+        ensures { result.now ≡ with_place 0 (reach self.now way.now) }
     {
         match way {
             [] => self,
@@ -352,7 +352,7 @@ impl<A: Allocator> Branch<A> {
 impl<A: Allocator> Fork<A> {
     /// Empties the branch if it leaves its run behind the first `at` nodes.
     fn trim(&mut self, at: usize)
-        ensures { placed self.new.from self.new.branch.value ≡ trimmed at (placed self.old.from self.old.branch.value) }
+        ensures { with_place self.new.from self.new.branch.value ≡ trimmed at (with_place self.old.from self.old.branch.value) }
     {
         if self.from > at {
             self.from = 0;
@@ -370,7 +370,7 @@ fn sprout<A: Allocator + Clone>(
     node: &mut Node<A>,
 ) -> Result<(), AllocError>
     requires { IsSome node.old }
-    ensures ok { OnOk result ((n : PlainNode) → node.old ≡ Some n → map (λ f. placed f.from f.branch.value) forks.new.items ≡ map (λ f. placed f.from f.branch.value) forks.old.items ++ record { from = from; run = n ∷ []; forks = bare } ∷ []) }
+    ensures ok { OnOk result ((n : PlainNode) → node.old ≡ Some n → map (λ f. with_place f.from f.branch.value) forks.new.items ≡ map (λ f. with_place f.from f.branch.value) forks.old.items ++ record { from = from; run = n ∷ []; forks = bare } ∷ []) }
     ensures err { OnErr result (forks.new.items ≡ forks.old.items) }
     ensures taken { OnOk result (node.new ≡ None) }
     ensures returned { OnErr result (node.new ≡ node.old) }
@@ -386,7 +386,7 @@ fn sprout<A: Allocator + Clone>(
 
 // Empties each fork that leaves its run behind the first `at` nodes.
 fn trim_forks<A: Allocator>(forks: &mut Vec<Fork<A>, A>, at: usize)
-    ensures items { map (λ f. placed f.from f.branch.value) forks.new.items ≡ map (λ f. trimmed at (placed f.from f.branch.value)) forks.old.items }
+    ensures items { map (λ f. with_place f.from f.branch.value) forks.new.items ≡ map (λ f. trimmed at (with_place f.from f.branch.value)) forks.old.items }
     ensures length { length forks.new.items ≡ length forks.old.items }
 {
     for fork in forks.iter_mut() {

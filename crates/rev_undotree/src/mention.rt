@@ -1,3 +1,4 @@
+//! A node that mentions a hash.
 /// A hash, and the node that mentions it.
 #[derive(Clone, Copy, PartialEq, Eq)]
 pub struct Mention {

@@ -5,16 +5,16 @@ ghost use Rattle.rev_items.specs.Hash.{hash_of};
 ghost use Rattle.rev_undotree.specs.Mentions.{Within};
 ghost use Rattle.rev_model.specs.Events.{is_stored};
 ghost use Rattle.rev_model.specs.State.{item_at};
-ghost use Rattle.rev_moves.specs.Seen.{plain_moves};
+ghost use Rattle.rev_changes.specs.Seen.{plain_moves};
 ghost use Rattle.rev_requests.specs.Plain.{plain_step};
 ghost use Rattle.rev_undotree.specs.Named.{hashed, named, step_keys, stored_keys, none_or};
 ghost use Rattle.rev_undotree.specs.Mentioned.{AreMentioned, Grows};
 
 use crate::mentions::Mentions;
+use rev_changes::{Change, Record};
 use rev_inverse::Store;
 use rev_items::Item;
 use rev_model::{ChunkRef, Entry, Listed, Outcome, Placed};
-use rev_moves::{Move, Record};
 use rev_requests::{ClientStep, KeyCommand, Step};
 use std::alloc::{AllocError, Allocator};
 
@@ -119,7 +119,7 @@ fn mention_both<A: Allocator + Clone>(
 fn mention_move<A: Allocator + Clone>(
     mentions: &mut Mentions<A>,
     store: &Store<A>,
-    undo: &Move<A>,
+    undo: &Change<A>,
     node: u32,
 ) -> Result<(), AllocError>
     requires { Within mentions.old node }
@@ -127,21 +127,21 @@ fn mention_move<A: Allocator + Clone>(
     ensures grows { Grows mentions.old mentions.new node }
 {
     match undo {
-        Move::Enter { chunk, item, .. }
-        | Move::Link { chunk, item, .. }
-        | Move::Revive { chunk, item, .. } => {
+        Change::Enter { chunk, item, .. }
+        | Change::Link { chunk, item, .. }
+        | Change::Revive { chunk, item, .. } => {
             mention_both(mentions, store, Some(item), *chunk, node)
         }
-        Move::Leave { chunk, under, .. } | Move::Unlink { chunk, under, .. } => {
+        Change::Leave { chunk, under, .. } | Change::Unlink { chunk, under, .. } => {
             mention_both(mentions, store, under.as_ref(), *chunk, node)
         }
-        Move::Requeue { chunk, .. }
-        | Move::Free { chunk, .. }
-        | Move::Take(Listed::InQueue(_, _, Entry::Chunk(chunk)))
-        | Move::Put(Placed::ToQueue(_, _, Entry::Chunk(chunk), _)) => {
+        Change::Requeue { chunk, .. }
+        | Change::Free { chunk, .. }
+        | Change::Take(Listed::InQueue(_, _, Entry::Chunk(chunk)))
+        | Change::Put(Placed::ToQueue(_, _, Entry::Chunk(chunk), _)) => {
             mention_chunk(mentions, store, *chunk, node)
         }
-        Move::Shift(from, to) => {
+        Change::Shift(from, to) => {
             mention_chunk(mentions, store, *from, node)?;
             mention_chunk(mentions, store, *to, node)
         }
@@ -161,8 +161,8 @@ fn mention_record<A: Allocator + Clone>(
     ensures grows { Grows mentions.old mentions.new node }
 {
     for i in 0..undo.len() {
-        match undo.group(i) {
-            Some(group) => mention_move(mentions, store, group, node)?,
+        match undo.change(i) {
+            Some(change) => mention_move(mentions, store, change, node)?,
             None => unreachable!(),
         }
     }

@@ -6,7 +6,7 @@ ghost use Rattle.rev_undotree.specs.Rows.{number_at};
 ghost use Rattle.rev_undotree.specs.Tree.{PlainNode, count, fork_at};
 ghost use Rattle.rev_undotree.specs.States.{rewind};
 ghost use Rattle.rev_undotree.specs.Paths.{IsPath, IsOnWay};
-ghost use Rattle.rev_undotree.specs.Finds.{Rises, Fitted, Placed, IsMissing};
+ghost use Rattle.rev_undotree.specs.Finds.{Rises, Fitted, FoundAt, IsMissing};
 ghost use Rattle.rev_undotree.specs.Leading.{LeadsTo, Notes};
 ghost use Rattle.rev_undotree.specs.Forks.{next_fork, way_into};
 ghost use Rattle.rev_undotree.specs.Positions.{Stands, Moved, Grown, Proper, Below, depth};
@@ -130,7 +130,7 @@ impl<A: Allocator> Position<A> {
         requires rises { Rises self.now.base }
         requires fitted { Fitted self.now.base.forks self.now.base.run 64 0 0 }
         requires leads { LeadsTo self.now.index self.now.base }
-        ensures some { IfSome result (λ at. Placed number self.now.base way.new.items at) }
+        ensures some { IfSome result (λ at. FoundAt number self.now.base way.new.items at) }
         ensures none { IfNone result (0 < number) }
         ensures missing { IfNone result (IsMissing number self.now.base) }
     {

@@ -1,14 +1,15 @@
+//! The records of steps, one behind another in one list of changes.
 ghost use Rattle.std.specs.Prelude.{◌≡◌, ◌<◌, ◌^◌, ◌++◌, ◌∷◌, [], length, get_or, set, take, reverse, IfOk, OnOk, OnErr};
 ghost use Rattle.rev_model.specs.State.{WellFormed};
 ghost use Rattle.rev_model.specs.Move.{Fits, turned};
-ghost use Rattle.rev_moves.specs.Record.{fitted, no_record};
+ghost use Rattle.rev_changes.specs.Record.{fitted, no_record};
 
+use rev_changes::{Change, Record, RecordRef};
 use rev_inverse::Store;
-use rev_moves::{Move, Record, RecordRef};
 use std::alloc::{AllocError, Allocator};
 use std::marker::Model;
 
-// Which groups of the list are a record's, and whether they stand the other way round, the last in front.
+// Which changes of the list are a record's, and whether they stand the other way round, the last in front.
 #[derive(Clone, Copy, Drop)]
 struct Extent {
     start: u32,
@@ -20,20 +21,20 @@ struct Extent {
 /// memory in a row.
 #[derive(Drop)]
 pub struct Records<A: Allocator> {
-    groups: Vec<Move<A>, A>,
+    changes: Vec<Change<A>, A>,
     extents: Vec<Extent, A>,
 }
 
 impl<A: Allocator> Model for Records<A> {
     ghost use Rattle.std.specs.Prelude.{List, map, length};
-    ghost use Rattle.rev_moves.specs.Record.{PlainRecord, group_of};
+    ghost use Rattle.rev_changes.specs.Record.{PlainRecord, plain_change};
     ghost use Rattle.rev_undotree.specs.Cuts.{cut_by, Tiles};
 
     ghost Value = { List PlainRecord };
 
-    ghost view = { λ r. cut_by r.extents.items (map group_of r.groups.items) };
+    ghost view = { λ r. cut_by r.extents.items (map plain_change r.changes.items) };
 
-    ghost invariant = { λ r. Tiles 0 r.extents.items (length r.groups.items) };
+    ghost invariant = { λ r. Tiles 0 r.extents.items (length r.changes.items) };
 }
 
 impl<A: Allocator> Records<A> {
@@ -46,7 +47,7 @@ impl<A: Allocator> Records<A> {
         ensures { IfOk result (λ r. r ≡ []) }
     {
         Ok(Records {
-            groups: Vec::new(alloc.clone()?),
+            changes: Vec::new(alloc.clone()?),
             extents: Vec::new(alloc.clone()?),
         })
     }
@@ -59,23 +60,23 @@ impl<A: Allocator> Records<A> {
         self.extents.len()
     }
 
-    /// Moves a record behind the others; it then has no moves left. A record has at most 65535 groups, and all together
+    /// Moves a record behind the others; it then has no moves left. A record has at most 65535 changes, and all together
     /// at most 2^32.
     ///
-    /// Err: a growth was refused, or there would be more groups; nothing is changed.
+    /// Err: a growth was refused, or there would be more changes; nothing is changed.
     pub fn push(&mut self, undo: &mut Record<A>) -> Result<(), AllocError>
         ensures ok { OnOk result (self.new ≡ self.old ++ fitted undo.old ∷ []) }
-        ensures emptied { OnOk result (undo.new.groups ≡ []) }
+        ensures emptied { OnOk result (undo.new.changes ≡ []) }
         ensures err { OnErr result ((self.new ≡ self.old) × (undo.new ≡ undo.old)) }
     {
-        let Ok(start) = u32::try_from(self.groups.len()) else {
+        let Ok(start) = u32::try_from(self.changes.len()) else {
             return Err(AllocError);
         };
         let Ok(count) = u16::try_from(undo.len()) else {
             return Err(AllocError);
         };
         self.extents.reserve(1)?;
-        undo.append_to(&mut self.groups)?;
+        undo.append_to(&mut self.changes)?;
         let extent = Extent {
             start,
             count,
@@ -95,7 +96,7 @@ impl<A: Allocator> Records<A> {
             return;
         }
         let end = self.extents[n].start as usize;
-        self.groups.truncate(end);
+        self.changes.truncate(end);
         self.extents.truncate(n);
     }
 
@@ -105,9 +106,9 @@ impl<A: Allocator> Records<A> {
         ensures { result ≡ get_or self.now i no_record }
     {
         let extent = self.extents[i];
-        let (_, behind) = self.groups.as_slice().split_at(extent.start as usize);
-        let (groups, _) = behind.split_at(extent.count as usize);
-        RecordRef::new(groups, extent.is_turned)
+        let (_, behind) = self.changes.as_slice().split_at(extent.start as usize);
+        let (changes, _) = behind.split_at(extent.count as usize);
+        RecordRef::new(changes, extent.is_turned)
     }
 
     /// Plays the i-th record, from its last move to its first. It then holds the reverses, each with the note that it had,
@@ -126,7 +127,7 @@ impl<A: Allocator> Records<A> {
         let extent = &mut self.extents[i];
         let start = extent.start as usize;
         let end = start + extent.count as usize;
-        store.turn_groups(self.groups.slice_mut(start..end), extent.is_turned);
+        store.turn_changes(self.changes.slice_mut(start..end), extent.is_turned);
         extent.is_turned = !extent.is_turned;
     }
 }

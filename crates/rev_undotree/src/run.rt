@@ -1,15 +1,15 @@
 //! A run of nodes: their records lie one behind another, and what else a node is lies apart from them.
 ghost use Rattle.std.specs.Prelude.{◌≡◌, ◌++◌, ◌∷◌, ◌^◌, ◌<◌, IfOk, OnOk, OnErr, IsSome, Some, None, [], length, get_or, set, take};
-ghost use Rattle.rev_moves.specs.Record.{flat};
+ghost use Rattle.rev_changes.specs.Record.{flat};
 ghost use Rattle.rev_steps.specs.Plain.{plain_step};
 ghost use Rattle.rev_undotree.specs.Steps.{Fits, turned};
 ghost use Rattle.rev_undotree.specs.Tree.{PlainNode};
 ghost use Rattle.rev_undotree.specs.Ways.{undo_of, no_node};
 
 use crate::records::Records;
+use rev_changes::{Record, RecordRef};
 use rev_inverse::Store;
 use rev_model::Outcome;
-use rev_moves::{Record, RecordRef};
 use rev_steps::Step;
 use std::alloc::{AllocError, Allocator};
 use std::marker::Model;
@@ -27,13 +27,13 @@ pub struct Node<A: Allocator> {
 impl<A: Allocator> Model for Node<A> {
     ghost use Rattle.std.specs.Prelude.{Option};
     ghost use Rattle.std.specs.Option.{option_map};
-    ghost use Rattle.rev_moves.specs.Record.{flat};
+    ghost use Rattle.rev_changes.specs.Record.{flat};
     ghost use Rattle.rev_steps.specs.Plain.{plain_step};
     ghost use Rattle.rev_undotree.specs.Tree.{PlainNode};
 
     ghost Value = { Option PlainNode };
 
-    // In which groups the record keeps its moves is not seen.
+    // In which changes the record keeps its moves is not seen.
     ghost view = { λ a. option_map (λ step. record { number = a.number; step = plain_step step; outcome = a.outcome; undo = flat a.undo }) a.step };
 }
 

@@ -1,5 +1,5 @@
 //! Files in memory, played at once.
-use crate::actors::streams::{File, Full, Lines};
+use crate::players::streams::{File, Full, Lines};
 use rev_classes::{Config, fault_of};
 use rev_output::ToWrite;
 use rev_program::play::play_files;
@@ -207,7 +207,7 @@ fn rows_in<R: AllocGlobal + Abort>(rt: &R, text: &str) -> u64 {
 }
 
 #[test]
-fn eight_actors(rt: HostRuntime) {
+fn eight_players(rt: HostRuntime) {
     let files = files_of(&rt, &EIGHT, false);
     let mut output: Vec<u8> = Vec::new(rt.alloc());
     let mut errors: Vec<u8> = Vec::new(rt.alloc());

@@ -195,7 +195,7 @@ impl Picture {
         let numbers = [
             u64::from(globals.clock),
             globals.last_cas,
-            globals.mark,
+            globals.flush_limit,
             globals.flush.unwrap_or(u64::MAX),
         ];
         self.put_all(rt, &numbers);

@@ -33,12 +33,12 @@ fn await_flag(flag: &AtomicBool) -> bool {
 pub struct Open;
 
 impl Gate for Open {
-    fn before(&self, _actor: usize, _index: usize) {}
+    fn before(&self, _player: usize, _index: usize) {}
 
-    fn after(&self, _actor: usize, _index: usize) {}
+    fn after(&self, _player: usize, _index: usize) {}
 }
 
-// Each of two actors waits, before its first step, for the other to be about to play its own.
+// Each of two players waits, before its first step, for the other to be about to play its own.
 #[derive(Drop)]
 struct Meeting {
     first: usize,
@@ -69,20 +69,20 @@ impl Meeting {
 }
 
 impl Gate for Meeting {
-    fn before(&self, actor: usize, index: usize) {
+    fn before(&self, player: usize, index: usize) {
         if index == 0 {
-            if actor == self.first {
+            if player == self.first {
                 self.meet(&self.is_first_here, &self.is_second_here);
-            } else if actor == self.second {
+            } else if player == self.second {
                 self.meet(&self.is_second_here, &self.is_first_here);
             }
         }
     }
 
-    fn after(&self, _actor: usize, _index: usize) {}
+    fn after(&self, _player: usize, _index: usize) {}
 }
 
-// One actor waits, before its first step, until another's first step was answered.
+// One player waits, before its first step, until another's first step was answered.
 #[derive(Drop)]
 struct Answer {
     early: usize,
@@ -103,14 +103,14 @@ impl Answer {
 }
 
 impl Gate for Answer {
-    fn before(&self, actor: usize, index: usize) {
-        if index == 0 && actor == self.late && !await_flag(&self.is_answered) {
+    fn before(&self, player: usize, index: usize) {
+        if index == 0 && player == self.late && !await_flag(&self.is_answered) {
             self.is_missed.store(true, Ordering::SeqCst);
         }
     }
 
-    fn after(&self, actor: usize, index: usize) {
-        if index == 0 && actor == self.early {
+    fn after(&self, player: usize, index: usize) {
+        if index == 0 && player == self.early {
             self.is_answered.store(true, Ordering::SeqCst);
         }
     }
@@ -163,29 +163,29 @@ fn run<R: Threads + Wait + Sync + Abort, G: Gate + Sync>(
     }
 }
 
-// Records the steps of so many actors side by side.
+// Records the steps of so many players side by side.
 fn record_all<R: Threads + Wait + Sync + Abort, G: Gate + Sync>(
     rt: &R,
     alloc: Global,
-    actors: usize,
+    players: usize,
     gate: &G,
 ) -> Ending
-    requires { (1 ≤ actors) × (actors ≤ 8) }
+    requires { (1 ≤ players) × (players ≤ 8) }
 {
-    let (recorder, hands) = open(rt, alloc, actors, SEAL);
+    let (recorder, hands) = open(rt, alloc, players, SEAL);
     let work = work_of(rt, alloc, hands);
     let done = run(rt, &recorder, work, gate);
     let hands = hands_of(rt, alloc, done);
     end(recorder, hands)
 }
 
-// How the recording of so many actors ends.
-fn all_played(actors: usize) -> Ending
-    requires { actors ≤ 8 }
+// How the recording of so many players ends.
+fn all_played(players: usize) -> Ending
+    requires { players ≤ 8 }
 {
     Ending::Settled {
-        rows: actors * 3,
-        nodes: actors as u32 * 3,
+        rows: players * 3,
+        nodes: players as u32 * 3,
     }
 }
 
@@ -200,28 +200,28 @@ fn no_hands(rt: HostRuntime) {
 
 #[test]
 fn hands_of_each_number(rt: HostRuntime) {
-    for actors in 1..=8 {
-        let ending = record_all(&rt, rt.alloc(), actors, &Open);
-        assert_eq!(rt; ending, all_played(actors));
+    for players in 1..=8 {
+        let ending = record_all(&rt, rt.alloc(), players, &Open);
+        assert_eq!(rt; ending, all_played(players));
     }
 }
 
-// Whether the two of so many actors met.
+// Whether the two of so many players met.
 fn try_meeting<R: Threads + Wait + Sync + Abort>(
     rt: &R,
     alloc: Global,
-    actors: usize,
+    players: usize,
     first: usize,
     second: usize,
 )
-    requires { (1 ≤ actors) × (actors ≤ 8) }
+    requires { (1 ≤ players) × (players ≤ 8) }
 {
     let gate = Meeting::new(first, second);
-    let ending = record_all(rt, alloc, actors, &gate);
-    assert_eq!(rt; ending, all_played(actors));
+    let ending = record_all(rt, alloc, players, &gate);
+    assert_eq!(rt; ending, all_played(players));
     assert!(rt;
         !gate.is_missed.load(Ordering::SeqCst),
-        "{first} and {second} of {actors}"
+        "{first} and {second} of {players}"
     );
 }
 
@@ -235,22 +235,22 @@ fn gate_meet(rt: HostRuntime) {
     }
 }
 
-// Whether the late one of so many actors waited for the early one's answer.
+// Whether the late one of so many players waited for the early one's answer.
 fn try_answer<R: Threads + Wait + Sync + Abort>(
     rt: &R,
     alloc: Global,
-    actors: usize,
+    players: usize,
     early: usize,
     late: usize,
 )
-    requires { (1 ≤ actors) × (actors ≤ 8) }
+    requires { (1 ≤ players) × (players ≤ 8) }
 {
     let gate = Answer::new(early, late);
-    let ending = record_all(rt, alloc, actors, &gate);
-    assert_eq!(rt; ending, all_played(actors));
+    let ending = record_all(rt, alloc, players, &gate);
+    assert_eq!(rt; ending, all_played(players));
     assert!(rt;
         !gate.is_missed.load(Ordering::SeqCst),
-        "{early} before {late} of {actors}"
+        "{early} before {late} of {players}"
     );
 }
 

@@ -18,13 +18,13 @@ fn open_again<R: Abort>(
     rt: &R,
     alloc: Global,
     session: Session<Global>,
-    actors: usize,
+    players: usize,
 ) -> (Recorder, Vec<Hand>)
-    requires { (1 ≤ actors) × (actors ≤ 8) }
+    requires { (1 ≤ players) × (players ≤ 8) }
 {
-    match Recorder::open(alloc, session, actors, SEAL) {
+    match Recorder::open(alloc, session, players, SEAL) {
         Ok(opened) => opened,
-        Err((_, session)) => match Recorder::open(alloc, session, actors, SEAL) {
+        Err((_, session)) => match Recorder::open(alloc, session, players, SEAL) {
             Ok(opened) => opened,
             Err(_) => panic!(rt; "no memory, twice"),
         },
@@ -158,7 +158,7 @@ fn calls_of(hands: &[Hand]) -> usize {
 }
 
 #[test]
-fn actors(rt: HostRuntime) {
+fn players(rt: HostRuntime) {
     let (recorder, hands) = open(&rt, rt.alloc(), 3, SEAL);
     let hands = run_hands(&rt, rt.alloc(), &recorder, hands);
     assert!(rt; hands.len() == 3);

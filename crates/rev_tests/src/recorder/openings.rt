@@ -35,23 +35,23 @@ pub fn record<R: Abort>(
     rt: &R,
     alloc: Global,
     session: Session<Global>,
-    actors: usize,
+    players: usize,
     seal: u64,
 ) -> (Recorder, Vec<Hand>)
-    requires { (1 ≤ actors) × (actors ≤ 8) }
+    requires { (1 ≤ players) × (players ≤ 8) }
 {
-    match Recorder::open(alloc, session, actors, seal) {
+    match Recorder::open(alloc, session, players, seal) {
         Ok(opened) => opened,
         Err(_) => panic!(rt; "no recorder"),
     }
 }
 
 /// A recorder of a new session, and its hands.
-pub fn open<R: Abort>(rt: &R, alloc: Global, actors: usize, seal: u64) -> (Recorder, Vec<Hand>)
-    requires { (1 ≤ actors) × (actors ≤ 8) }
+pub fn open<R: Abort>(rt: &R, alloc: Global, players: usize, seal: u64) -> (Recorder, Vec<Hand>)
+    requires { (1 ≤ players) × (players ≤ 8) }
 {
     let session = open_session(rt, alloc);
-    record(rt, alloc, session, actors, seal)
+    record(rt, alloc, session, players, seal)
 }
 
 /// How a recording ended.
@@ -64,7 +64,7 @@ pub enum Ending {
     /// Some hand was strange among so many.
     Strange { hands: usize },
     /// Hands and log differ.
-    Differs { actor: usize, place: usize },
+    Differs { player: usize, place: usize },
 }
 
 // How a recording ended that did not settle.
@@ -73,13 +73,13 @@ fn ending_of(fault: &SettleFault) -> Ending {
         SettleFault::MissingHand { recorder: _, hands } => Ending::Missing { hands: hands.len() },
         SettleFault::StrangerHand { recorder: _, hands } => Ending::Strange { hands: hands.len() },
         SettleFault::Differs {
-            actor,
+            player,
             place,
             settled: _,
             hands: _,
         } => {
             Ending::Differs {
-                actor: *actor,
+                player: *player,
                 place: *place,
             }
         }

@@ -17,7 +17,7 @@ const NODES: u32 = 1048576;
 // The seal of the recorders whose hands are strange.
 const OTHER_SEAL: u64 = 8;
 
-// The hand of a recorder with one actor.
+// The hand of a recorder with one player.
 fn open_one<R: Abort>(
     rt: &R,
     alloc: Global,

@@ -8,14 +8,14 @@ use std::thread;
 use std::thread::Threads;
 
 // Hands of the recorder.
-const ACTORS: usize = 8;
+const PLAYERS: usize = 8;
 
 // Calls of each hand.
 const CALLS: u32 = 100;
 
 // Makes the calls of a hand: the third goes to the root with each, the others play.
 fn make_calls<R: Wait + Abort>(rt: &R, recorder: &Recorder, hand: &mut Hand) {
-    if hand.actor() == 2 {
+    if hand.player() == 2 {
         for _ in 0..CALLS {
             go_to_root(rt, recorder, hand);
         }
@@ -29,14 +29,14 @@ fn call_at_once<R: Threads + Wait + Sync + Abort>(rt: &R, recorder: &Recorder, h
     thread::for_each_mut(
         rt,
         hands,
-        ACTORS,
+        PLAYERS,
         &|_, hand| { make_calls(rt, recorder, hand) },
     );
 }
 
 #[test]
 fn go_amid(rt: HostRuntime) {
-    let (recorder, mut hands) = open(&rt, rt.alloc(), ACTORS, SEAL);
+    let (recorder, mut hands) = open(&rt, rt.alloc(), PLAYERS, SEAL);
     call_at_once(&rt, &recorder, hands.as_mut_slice());
     let ending = end(recorder, hands);
     assert_eq!(rt;

@@ -241,7 +241,7 @@ fn foreign_hands(rt: HostRuntime) {
         let ending = end_case(&rt, rt.alloc(), case, false);
         let name = case.name;
         let wanted = Ending::Differs {
-            actor: 1,
+            player: 1,
             place: case.place,
         };
         assert_eq!(rt; ending, wanted, "{name}");
@@ -266,7 +266,7 @@ static SAME: Case = Case {
 fn hand_twice(rt: HostRuntime) {
     let ending = end_case(&rt, rt.alloc(), &SAME, true);
     let wanted = Ending::Differs {
-        actor: 1,
+        player: 1,
         place: SAME.place,
     };
     assert_eq!(rt; ending, wanted);

@@ -5,7 +5,7 @@ use Rattle.rev_model.specs.State.{State}
 use Rattle.rev_model.specs.Client.{flush_at, flush_moment}
 use Rattle.rev_model.specs.declared.Globals.{Globals}
 use Rattle.rev_model.specs.declared.Outcome.TheVariants.{Okay}
-use Rattle.rev_changes.proofs.Rest.{Rest, rest_of, sound_of}
+use Rattle.rev_edits.proofs.Rest.{Rest, rest_of, sound_of}
 use Rattle.rev_commands.specs.Flushing.{flushed}
 use Rattle.rev_commands.proofs.Flushing.{flush_to, flushed_at, rest-flushed}
 use Rattle.rev_commands.proofs.flush.flush_all.Goals as goal

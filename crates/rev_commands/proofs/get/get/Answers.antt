@@ -1,9 +1,9 @@
 use Rattle.std.specs.Prelude.{length}
 use Rattle.std.proofs.Common.{ap, arith}
 use Rattle.rev_model.proofs.Undo.{leads_none}
-use Rattle.rev_moves.specs.Record.{PlainRecord}
+use Rattle.rev_changes.specs.Record.{PlainRecord}
 use Rattle.rev_commands.proofs.Hitting.{access_most}
-use Rattle.rev_changes.proofs.Telling.{tells_all}
+use Rattle.rev_edits.proofs.Telling.{tells_all}
 use Rattle.rev_commands.proofs.get.get.Goals as goal
 
 pub returns-clause-leads : goal.returns-clause-leads

@@ -5,7 +5,7 @@ use Rattle.rev_commands.specs.Looking.{look_need}
 use Rattle.rev_commands.specs.Hitting.{access_need, hit_need}
 use Rattle.rev_commands.proofs.Hitting.{access_room, look_access}
 use Rattle.rev_commands.proofs.Leaving.{got_by, there}
-use Rattle.rev_changes.proofs.Telling.{tells_still}
+use Rattle.rev_edits.proofs.Telling.{tells_still}
 use Rattle.std.specs.Option.{option_map}
 use Rattle.rev_model.specs.Words.{header_of}
 use Rattle.rev_commands.proofs.get.get_in.Goals as goal

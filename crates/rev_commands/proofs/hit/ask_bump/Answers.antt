@@ -2,7 +2,7 @@ use Rattle.std.specs.Prelude.{ℕ, None, ◌<◌, length}
 use Rattle.std.proofs.Common.{sym, subst}
 use Rattle.rev_model.specs.State.{State, item_at}
 use Rattle.rev_model.proofs.Places.{glanced}
-use Rattle.rev_changes.proofs.Rest.{Rest, rest_of, sound_of, rest-touched}
+use Rattle.rev_edits.proofs.Rest.{Rest, rest_of, sound_of, rest-touched}
 use Rattle.rev_commands.proofs.Hitting.{keeps-bump_in, rest-bumped}
 use Rattle.rev_commands.proofs.hit.ask_bump.Goals as goal
 

@@ -2,7 +2,7 @@ use Rattle.std.specs.Prelude.{None}
 use Rattle.rev_model.specs.State.{owner_of, item_at}
 use Rattle.rev_model.specs.Words.{queue_with}
 use Rattle.rev_model.proofs.Places.{glanced}
-use Rattle.rev_changes.proofs.Seats.{item_stands}
+use Rattle.rev_edits.proofs.Seats.{item_stands}
 use Rattle.rev_commands.proofs.hit.hit_again.Goals as goal
 
 pub queue_with-requires-clause-there : goal.queue_with-requires-clause-there

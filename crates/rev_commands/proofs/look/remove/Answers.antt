@@ -1,8 +1,8 @@
 use Rattle.std.proofs.Common.{rules}
 use Rattle.rev_model.specs.State.{owner_of}
 use Rattle.rev_model.specs.Words.{queue_with}
-use Rattle.rev_changes.proofs.Seats.{item_stands}
-use Rattle.rev_changes.proofs.Rest.{sound_of, rest_of, rest-dropped}
+use Rattle.rev_edits.proofs.Seats.{item_stands}
+use Rattle.rev_edits.proofs.Rest.{sound_of, rest_of, rest-dropped}
 use Rattle.rev_commands.proofs.look.remove.Goals as goal
 
 pub drop_item-requires-clause-stands : goal.drop_item-requires-clause-stands

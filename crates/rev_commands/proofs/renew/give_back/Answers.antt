@@ -1,6 +1,6 @@
 use Rattle.std.specs.Prelude.{None}
-use Rattle.rev_changes.proofs.Rest.{sound_of}
-use Rattle.rev_changes.proofs.Linking.{held_loose}
+use Rattle.rev_edits.proofs.Rest.{sound_of}
+use Rattle.rev_edits.proofs.Linking.{held_loose}
 use Rattle.rev_commands.proofs.Holding.{rest-freed}
 use Rattle.rev_commands.proofs.renew.give_back.Goals as goal
 

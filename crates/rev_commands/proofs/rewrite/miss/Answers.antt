@@ -2,9 +2,9 @@ use Rattle.std.specs.Prelude.{length, None}
 use Rattle.std.proofs.Common.{ap, arith}
 use Rattle.rev_model.specs.State.{find}
 use Rattle.rev_model.proofs.Undo.{leads_none}
-use Rattle.rev_moves.specs.Record.{PlainRecord}
+use Rattle.rev_changes.specs.Record.{PlainRecord}
 use Rattle.rev_commands.proofs.Looking.{look_most, removal_most}
-use Rattle.rev_changes.proofs.Telling.{tells_all}
+use Rattle.rev_edits.proofs.Telling.{tells_all}
 use Rattle.rev_commands.proofs.rewrite.miss.Goals as goal
 
 pub lookup-found-requires-clause-room : goal.lookup-found-requires-clause-room

@@ -2,7 +2,7 @@ use Rattle.std.specs.Prelude.{None}
 use Rattle.std.proofs.Common.{sym, subst, ◌∙◌}
 use Rattle.rev_model.specs.State.{item_at}
 use Rattle.rev_model.proofs.Places.{glanced}
-use Rattle.rev_changes.proofs.Rest.{Rest, rest_of, sound_of, rest-touched}
+use Rattle.rev_edits.proofs.Rest.{Rest, rest_of, sound_of, rest-touched}
 use Rattle.rev_commands.proofs.touch.set_moment.Goals as goal
 
 pub returns-in-Some-clause-sound : goal.returns-in-Some-clause-sound

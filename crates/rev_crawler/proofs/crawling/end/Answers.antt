@@ -1,12 +1,12 @@
 use Rattle.std.specs.Prelude.{None, length}
 use Rattle.rev_model.proofs.Undo.{leads_none}
-use Rattle.rev_changes.proofs.Rest.{sound_of, rest_of}
+use Rattle.rev_edits.proofs.Rest.{sound_of, rest_of}
 use Rattle.rev_crawler.proofs.Passing.{take_mark, rest-left}
 use Rattle.std.proofs.Common.{ap, arith}
 use Rattle.rev_model.specs.State.{State}
 use Rattle.rev_model.specs.declared.Outcome.TheVariants.{Ended}
-use Rattle.rev_moves.specs.Record.{PlainRecord}
-use Rattle.rev_changes.proofs.Telling.{tells_all}
+use Rattle.rev_changes.specs.Record.{PlainRecord}
+use Rattle.rev_edits.proofs.Telling.{tells_all}
 use Rattle.rev_crawler.proofs.crawling.end.Goals as goal
 
 pub change-requires-clause-possible : goal.change-requires-clause-possible

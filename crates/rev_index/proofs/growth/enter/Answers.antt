@@ -1,6 +1,6 @@
 use Rattle.std.proofs.Common.{refl}
 use Rattle.rev_index.specs.Index.{index_of}
-use Rattle.rev_links.specs.declared.places.Place.TheVariants.{At}
+use Rattle.rev_links.specs.declared.places.RingPlace.TheVariants.{At}
 use Rattle.rev_index.proofs.Widening.{at_inj}
 use Rattle.rev_index.proofs.Moves.{item_there, bind_there, bind_gap, bind_chained, bind_value}
 use Rattle.rev_index.proofs.growth.enter.Goals as goal

@@ -4,11 +4,11 @@ use Rattle.std.specs.Prelude.{◌≡◌, Some}
 use Rattle.std.specs.Option.{option_map}
 use Rattle.rev_model.specs.Words.{header_of}
 use Rattle.rev_model.specs.State.{State, owner_of, item_at}
-use Rattle.rev_changes.proofs.Rest.{Rest, rest_of, sound_of}
-use Rattle.rev_changes.proofs.Seats.{owner_class}
+use Rattle.rev_edits.proofs.Rest.{Rest, rest_of, sound_of}
+use Rattle.rev_edits.proofs.Seats.{owner_class}
 use Rattle.rev_maintainer.proofs.Bumps.{asks_of, asks_stands, lifted_is, rest-bump, rest-bumped}
 use Rattle.rev_maintainer.specs.Bumping.{bumped}
-use Rattle.rev_changes.proofs.Telling.{tells_more}
+use Rattle.rev_edits.proofs.Telling.{tells_more}
 use Rattle.rev_maintainer.proofs.bumping.bump_in.Goals as goal
 
 pub lift-requires-clause-stands : goal.lift-requires-clause-stands

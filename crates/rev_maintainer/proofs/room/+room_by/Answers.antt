@@ -2,10 +2,10 @@ use Rattle.std.specs.Prelude.{◌++◌, ◌≡◌, ◌-◌, ◌+◌, ◌≤◌, 
 use Rattle.std.proofs.Common.{sym, ◌∙◌, ap, subst, rules, arith}
 use Rattle.rev_model.specs.State.{State, Fixed, free_of, IsClass}
 use Rattle.rev_model.specs.Pull.{squeezed, page_of}
-use Rattle.rev_moves.specs.Record.{PlainRecord}
-use Rattle.rev_changes.specs.Taking.{paired}
-use Rattle.rev_changes.specs.Telling.{Tells}
-use Rattle.rev_changes.proofs.Telling.{tells_more, tells_then}
+use Rattle.rev_changes.specs.Record.{PlainRecord}
+use Rattle.rev_edits.specs.Taking.{paired}
+use Rattle.rev_edits.specs.Telling.{Tells}
+use Rattle.rev_edits.proofs.Telling.{tells_more, tells_then}
 use Rattle.rev_model.specs.Causes.{squeeze_removals, room_removals_by}
 use Rattle.rev_maintainer.proofs.Causes.{later_removals, given_removals}
 use Rattle.rev_maintainer.proofs.Rooming.{same_pages_squeezed, same_page_of, next_need, later_room, given_room, need_some, need_least}

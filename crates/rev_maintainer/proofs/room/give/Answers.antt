@@ -1,7 +1,7 @@
 use Rattle.std.specs.Prelude.{◌≤◌}
 use Rattle.std.proofs.Common.{arith, ap, sym, ◌∙◌}
-use Rattle.rev_changes.specs.Taking.{paired}
-use Rattle.rev_changes.proofs.Telling.{tells_more}
+use Rattle.rev_edits.specs.Taking.{paired}
+use Rattle.rev_edits.proofs.Telling.{tells_more}
 use Rattle.rev_maintainer.proofs.Arms.{given_front, given_page}
 use Rattle.rev_model.specs.State.{free_of}
 use Rattle.rev_model.specs.Pull.{page_of}

@@ -1,7 +1,7 @@
 use Rattle.std.specs.Prelude.{Some, None}
 use Rattle.rev_model.proofs.Places.{free_in}
 use Rattle.rev_model.proofs.Keeps.{keeps-take_free}
-use Rattle.rev_changes.proofs.Rest.{sound_of, rest_of}
+use Rattle.rev_edits.proofs.Rest.{sound_of, rest_of}
 use Rattle.rev_mover.proofs.Slots.{rest-taken}
 use Rattle.rev_mover.proofs.clearing.hold.Goals as goal
 

@@ -1,9 +1,9 @@
 use Rattle.std.specs.Prelude.{Some, None}
 use Rattle.rev_model.specs.Words.{unlinked, queue_with, counted}
-use Rattle.rev_changes.proofs.Rest.{sound_of, rest_of, rest-counted}
+use Rattle.rev_edits.proofs.Rest.{sound_of, rest_of, rest-counted}
 use Rattle.rev_mover.proofs.Slots.{chunk_stands, rest-unlinked}
 use Rattle.std.proofs.Common.{ap, ◌∙◌}
-use Rattle.rev_changes.proofs.Telling.{tells_still}
+use Rattle.rev_edits.proofs.Telling.{tells_still}
 use Rattle.rev_mover.proofs.clearing.remove.Goals as goal
 
 pub queue_with-queue-requires-clause-there : goal.queue_with-queue-requires-clause-there

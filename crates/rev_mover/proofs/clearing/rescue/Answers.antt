@@ -1,6 +1,6 @@
 use Rattle.rev_mover.proofs.Rescuing.{rescue_possible, rescue_is, rescue_sound}
 use Rattle.std.proofs.Common.{◌∙◌, arith}
-use Rattle.rev_changes.proofs.Telling.{tells_still}
+use Rattle.rev_edits.proofs.Telling.{tells_still}
 use Rattle.rev_mover.proofs.clearing.rescue.Goals as goal
 
 pub change-requires-clause-possible : goal.change-requires-clause-possible

@@ -1,5 +1,5 @@
 use Rattle.std.proofs.Common.{sym}
-use Rattle.rev_changes.proofs.Telling.{tells_more}
+use Rattle.rev_edits.proofs.Telling.{tells_more}
 use Rattle.rev_mover.proofs.Handing.{lay_possible, laid_sound, handed_class}
 use Rattle.rev_mover.proofs.finishing.hand_over.Goals as goal
 

@@ -1,6 +1,6 @@
 use Rattle.rev_mover.proofs.Starting.{started_sound}
-use Rattle.rev_moves.specs.Record.{PlainRecord}
-use Rattle.rev_changes.proofs.Telling.{tells_all}
+use Rattle.rev_changes.specs.Record.{PlainRecord}
+use Rattle.rev_edits.proofs.Telling.{tells_all}
 use Rattle.std.specs.Prelude.{length}
 use Rattle.std.proofs.Common.{ap, arith, sym, ◌∙◌}
 use Rattle.rev_model.proofs.Undo.{leads_none}

@@ -2,7 +2,7 @@ use Rattle.std.proofs.Common.{◌≡◌, ◌++◌, length, map, All}
 use Rattle.rev_program.specs.Rows.{ends_text, IsEnd}
 use Rattle.rev_program.proofs.play.parted.Given as goal
 
--- with the actors that are left, lines and hands are those of all
+-- with the players that are left, lines and hands are those of all
 abbrev pub invariant-loop-hand : goal.invariant-loop-hand
 invariant-loop-hand l = record {
   lines : l.stopped.items ++ ends_text l.rest.items ≡ l.fn.stopped.items ++ ends_text l.fn.done.items;

@@ -3,9 +3,9 @@ use Rattle.std.specs.Vec.{vec_capacity}
 use Rattle.rev_recorder.specs.Hands.{PlainHand}
 use Rattle.rev_recorder.proofs.recorder.new_hands.Given as goal
 
-abbrev pub invariant-loop-actor : goal.invariant-loop-actor
-invariant-loop-actor l = record {
-  count : vec_len l.hands ≡ l.actor;
-  room : l.actors ≤ vec_capacity l.hands;
-  each : (k : ℕ) (d : PlainHand) → k < l.actor → slice_index_or l.hands.items k d ≡ record { actor = k; seal = l.seal; entries = [] };
+abbrev pub invariant-loop-player : goal.invariant-loop-player
+invariant-loop-player l = record {
+  count : vec_len l.hands ≡ l.player;
+  room : l.players ≤ vec_capacity l.hands;
+  each : (k : ℕ) (d : PlainHand) → k < l.player → slice_index_or l.hands.items k d ≡ record { player = k; seal = l.seal; entries = [] };
 }

@@ -2,7 +2,7 @@ use Rattle.std.proofs.Common.{◌≡◌, None, Some, is_some, true, Option, refl
 use Rattle.rev_items.specs.Plain.{PlainItem}
 use Rattle.rev_model.specs.State.{owner_of, item_at}
 use Rattle.rev_model.specs.Words.{queue_with}
-use Rattle.rev_changes.proofs.Seats.{item_stands, owner_class}
+use Rattle.rev_edits.proofs.Seats.{item_stands, owner_class}
 use Rattle.std.proofs.lemmas.Result.{IfOk-from_err}
 use Rattle.rev_shell.proofs.show.put_seat.Goals as goal
 

@@ -1,5 +1,5 @@
 use Rattle.std.proofs.Common.{arith, refl, ap, ◌∙◌}
-use Rattle.rev_links.specs.declared.places.Place.TheVariants.{At}
+use Rattle.rev_links.specs.declared.places.RingPlace.TheVariants.{At}
 use Rattle.rev_queues.proofs.Steps.{link_written, others_kept, standing_kept, shape_kept, end_link, end_others, end_shape, mark_link, mark_others, mark_shape, end_place, mark_place, chunk_place}
 use Rattle.rev_queues.proofs.links.Links.set_link.Goals as goal
 

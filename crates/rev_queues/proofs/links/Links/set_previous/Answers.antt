@@ -1,5 +1,5 @@
 use Rattle.std.proofs.Common.{refl, ap, ◌∙◌}
-use Rattle.rev_links.specs.declared.places.Place.TheVariants.{At}
+use Rattle.rev_links.specs.declared.places.RingPlace.TheVariants.{At}
 use Rattle.rev_queues.proofs.Steps.{previous_written, standing_kept, shape_kept, end_previous, end_shape, mark_previous, mark_shape, end_place, mark_place, chunk_place}
 use Rattle.rev_queues.proofs.links.Links.set_previous.Goals as goal
 

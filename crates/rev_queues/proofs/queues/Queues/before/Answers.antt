@@ -1,5 +1,5 @@
 use Rattle.std.proofs.Common.{◌≡◌, Some, IsSome, subst, sym, ◌∙◌, ap, arith}
-use Rattle.rev_links.specs.declared.places.Place.TheVariants.{At}
+use Rattle.rev_links.specs.declared.places.RingPlace.TheVariants.{At}
 use Rattle.rev_queues.specs.Positions.{link_at}
 use Rattle.rev_queues.specs.QueueState.{id_of, member_of_entry}
 use Rattle.rev_queues.proofs.Readings.{entry_there, before_read}

@@ -1,5 +1,5 @@
 use Rattle.std.proofs.Common.{◌≡◌, Some, IsSome, subst, sym, ◌∙◌}
-use Rattle.rev_links.specs.declared.places.Place.TheVariants.{End}
+use Rattle.rev_links.specs.declared.places.RingPlace.TheVariants.{End}
 use Rattle.rev_queues.specs.Positions.{link_at}
 use Rattle.rev_queues.specs.QueueState.{id_of}
 use Rattle.rev_queues.proofs.Readings.{end_there, head_read}

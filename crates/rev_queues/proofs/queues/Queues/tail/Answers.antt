@@ -1,5 +1,5 @@
 use Rattle.std.proofs.Common.{◌≡◌, Some, IsSome, subst, sym, ◌∙◌, ap}
-use Rattle.rev_links.specs.declared.places.Place.TheVariants.{End, At}
+use Rattle.rev_links.specs.declared.places.RingPlace.TheVariants.{End, At}
 use Rattle.rev_queues.specs.Positions.{link_at}
 use Rattle.rev_queues.specs.QueueState.{id_of}
 use Rattle.rev_queues.proofs.Readings.{end_there, tail_end, tail_chunk, mark_there, tail_mark}

@@ -1,6 +1,6 @@
 use Rattle.std.proofs.Common.{◌≡◌, IsSome, Some, subst, sym, ◌∙◌, ap, slice_get, arith}
 use Rattle.rev_links.specs.Rings.{Between}
-use Rattle.rev_links.specs.declared.places.Place.TheVariants.{At}
+use Rattle.rev_links.specs.declared.places.RingPlace.TheVariants.{At}
 use Rattle.rev_queues.specs.declared.members.QueueId.{QueueId}
 use Rattle.rev_queues.specs.Positions.{link_at, next_in, previous_in, told, Closes}
 use Rattle.rev_queues.specs.QueueState.{id_of, member_of_entry}

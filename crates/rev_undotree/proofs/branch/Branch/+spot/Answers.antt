@@ -2,7 +2,7 @@ use Rattle.std.proofs.Common.{rules, refl, [], ◌+◌, ◌<◌, get_or, arith, 
 use Rattle.rev_undotree.specs.Tree.{count}
 use Rattle.rev_undotree.specs.Finds.{Rises}
 use Rattle.rev_undotree.specs.declared.junction.Junction.{Junction}
-use Rattle.rev_undotree.specs.Places.{placed}
+use Rattle.rev_undotree.specs.Places.{with_place}
 use Rattle.rev_undotree.proofs.Places.{found_anywhere}
 use Rattle.rev_undotree.proofs.Finds.{child_at, fork_within, rises_child, found_end, found_behind}
 use Rattle.rev_undotree.proofs.Elsewhere.{if_none_weaker, elsewhere_end, elsewhere_behind_run, elsewhere_no_fork, elsewhere_other_place, elsewhere_behind}
@@ -18,7 +18,7 @@ pub index-fork-requires : goal.index-fork-requires
 index-fork-requires g t c =
     let l = c.if-junction-fork_count.false in
     let e = c.fork_count.ensures in
-    rw c.self.inside.forks.ok.0 (fork_within (λ f. placed f.from f.branch.value) _ c.args.self.now (get_or c.args.way.now 0 none).fork (sym (ap (λ z. z.forks) c.self.view_is)) (omega (arith, l, e)))
+    rw c.self.inside.forks.ok.0 (fork_within (λ f. with_place f.from f.branch.value) _ c.args.self.now (get_or c.args.way.now 0 none).fork (sym (ap (λ z. z.forks) c.self.view_is)) (omega (arith, l, e)))
 
 pub spot-requires : goal.spot-requires
 spot-requires g t c κs within =
@@ -26,7 +26,7 @@ spot-requires g t c κs within =
     let e = c.fork_count.ensures in
     let fork = (get_or c.args.way.now 0 none).fork in
     let h : fork < count c.args.self.now.forks = omega (arith, l, e) in
-    let k = child_at (λ f. placed f.from f.branch.value) c.self.inside.forks.items c.args.self.now fork c.index-fork.result.now (placed c.index-fork.result.now.from c.deref.result.now) (sym (ap (λ z. z.forks) c.self.view_is)) h c.index-fork.ensures (ap (λ z. placed c.index-fork.result.now.from z) c.deref.ensures) in
+    let k = child_at (λ f. with_place f.from f.branch.value) c.self.inside.forks.items c.args.self.now fork c.index-fork.result.now (with_place c.index-fork.result.now.from c.deref.result.now) (sym (ap (λ z. z.forks) c.self.view_is)) h c.index-fork.ensures (ap (λ z. with_place c.index-fork.result.now.from z) c.deref.ensures) in
     let n = length_behind c.args.way.now c.in-len1-up.len_at_least in
     (search (rules, length_behind), (search rules, subst (λ z. Rises z) (sym k) (rises_child c.args.self.now.forks fork c.requires.1 h)))
 
@@ -39,11 +39,11 @@ returns-else-fork-junction-clause-some g t c =
     let e = c.fork_count.ensures in
     let fork = (get_or c.args.way.now 0 none).fork in
     let h : fork < count c.args.self.now.forks = omega (arith, l, e) in
-    let k = child_at (λ f. placed f.from f.branch.value) c.self.inside.forks.items c.args.self.now fork c.index-fork.result.now (placed c.index-fork.result.now.from c.deref.result.now) (sym (ap (λ z. z.forks) c.self.view_is)) h c.index-fork.ensures (ap (λ z. placed c.index-fork.result.now.from z) c.deref.ensures) in
+    let k = child_at (λ f. with_place f.from f.branch.value) c.self.inside.forks.items c.args.self.now fork c.index-fork.result.now (with_place c.index-fork.result.now.from c.deref.result.now) (sym (ap (λ z. z.forks) c.self.view_is)) h c.index-fork.ensures (ap (λ z. with_place c.index-fork.result.now.from z) c.deref.ensures) in
     let f = c.if-fork-junction.false in
     let m = c.if-junction-len.false in
     let n = c.len.ensures.value in
-    if_some_weaker c.spot.result _ _ (λ at found. found_behind c.args.number c.args.self.now (placed c.index-fork.result.now.from c.deref.result.now) c.args.way.now none at c.in-len1-up.len_at_least h (omega (arith, m, n)) k f (found_anywhere c.args.number c.index-fork.result.now.from c.deref.result.now [] (behind c.args.way.now) at found)) c.spot.ensures.some
+    if_some_weaker c.spot.result _ _ (λ at found. found_behind c.args.number c.args.self.now (with_place c.index-fork.result.now.from c.deref.result.now) c.args.way.now none at c.in-len1-up.len_at_least h (omega (arith, m, n)) k f (found_anywhere c.args.number c.index-fork.result.now.from c.deref.result.now [] (behind c.args.way.now) at found)) c.spot.ensures.some
 
 pub returns-else-fork-junction-clause-none : goal.returns-else-fork-junction-clause-none
 returns-else-fork-junction-clause-none g t c =
@@ -52,7 +52,7 @@ returns-else-fork-junction-clause-none g t c =
     let fork = (get_or c.args.way.now 0 none).fork in
     let h : fork < count c.args.self.now.forks = omega (arith, l, e) in
     let x = c.index-fork.result.now in
-    let k = child_at (λ f. placed f.from f.branch.value) c.self.inside.forks.items c.args.self.now fork x (placed x.from c.deref.result.now) (sym (ap (λ z. z.forks) c.self.view_is)) h c.index-fork.ensures (ap (λ z. placed x.from z) c.deref.ensures) in
+    let k = child_at (λ f. with_place f.from f.branch.value) c.self.inside.forks.items c.args.self.now fork x (with_place x.from c.deref.result.now) (sym (ap (λ z. z.forks) c.self.view_is)) h c.index-fork.ensures (ap (λ z. with_place x.from z) c.deref.ensures) in
     if_none_weaker c.spot.result _ _ (λ missed. elsewhere_behind c.args.number x.from c.args.self.now c.deref.result.now c.args.way.now none c.in-len1-up.len_at_least k missed) c.spot.ensures.none
 
 pub returns-in-None-clause-none : goal.returns-in-None-clause-none
@@ -65,8 +65,8 @@ returns-then-fork-junction-clause-none g t c =
     let fork = (get_or c.args.way.now 0 none).fork in
     let h : fork < count c.args.self.now.forks = omega (arith, l, e) in
     let x = c.index-fork.result.now in
-    let k = child_at (λ f. placed f.from f.branch.value) c.self.inside.forks.items c.args.self.now fork x (placed x.from x.branch.value) (sym (ap (λ z. z.forks) c.self.view_is)) h c.index-fork.ensures refl in
-    elsewhere_other_place c.args.number c.args.self.now (placed x.from x.branch.value) c.args.way.now none c.in-len1-up.len_at_least k c.if-fork-junction.true
+    let k = child_at (λ f. with_place f.from f.branch.value) c.self.inside.forks.items c.args.self.now fork x (with_place x.from x.branch.value) (sym (ap (λ z. z.forks) c.self.view_is)) h c.index-fork.ensures refl in
+    elsewhere_other_place c.args.number c.args.self.now (with_place x.from x.branch.value) c.args.way.now none c.in-len1-up.len_at_least k c.if-fork-junction.true
 
 pub returns-then-junction-len-clause-none : goal.returns-then-junction-len-clause-none
 returns-then-junction-len-clause-none g t c = elim c.then-junction-len.branch [

@@ -1,6 +1,6 @@
 use Rattle.std.proofs.Common.{ap, ◌∙◌, map}
 use Rattle.rev_undotree.specs.Tree.{PlainBranch, forks_of}
-use Rattle.rev_undotree.specs.Places.{placed}
+use Rattle.rev_undotree.specs.Places.{with_place}
 use Rattle.rev_undotree.specs.Prunes.{cropped}
 use Rattle.rev_undotree.proofs.Trims.{cropped_is}
 use Rattle.rev_undotree.proofs.branch.Branch.crop.Goals as goal
@@ -8,7 +8,7 @@ use Rattle.rev_undotree.proofs.branch.Branch.crop.Goals as goal
 pub returns : goal.returns
 returns g c =
     let i = c.self.inside in
-    let f = forks_of (map (λ f. placed f.from f.branch.value) c.trim_forks.new.forks.items) in
+    let f = forks_of (map (λ f. with_place f.from f.branch.value) c.trim_forks.new.forks.items) in
     ap (λ z. let b : PlainBranch = record { from = 0; run = z; forks = f } in b) c.truncate.ensures
-    ∙ cropped_is (λ f. placed f.from f.branch.value) c.args.at 0 i.run i.forks.items c.trim_forks.new.forks.items c.trim_forks.ensures.items
+    ∙ cropped_is (λ f. with_place f.from f.branch.value) c.args.at 0 i.run i.forks.items c.trim_forks.new.forks.items c.trim_forks.ensures.items
     ∙ ap (λ z. cropped c.args.at z) c.self.view_is

@@ -1,5 +1,5 @@
 use Rattle.std.proofs.Common.{[], refl, subst, ◌∙◌}
-use Rattle.rev_undotree.specs.Finds.{Placed, IsElsewhere}
+use Rattle.rev_undotree.specs.Finds.{FoundAt, IsElsewhere}
 use Rattle.rev_undotree.proofs.Fits.{found_placed, root_placed}
 use Rattle.rev_undotree.proofs.Held.{if_some_weaker}
 use Rattle.rev_undotree.proofs.Elsewhere.{if_none_weaker}
@@ -11,7 +11,7 @@ returns-then-number-eq0-clause-some g c = root_placed c.args.number c.args.self.
 
 pub returns-clause-some : goal.returns-clause-some
 returns-clause-some g c =
-    if_some_weaker c.spot.result _ _ (λ at h. subst (λ z. Placed c.args.number c.args.self.now.base z at) c.as_slice.ensures.value (found_placed c.args.number c.args.self.now.base [] c.as_slice.result.now at refl c.requires.fitted h)) c.spot.ensures.some
+    if_some_weaker c.spot.result _ _ (λ at h. subst (λ z. FoundAt c.args.number c.args.self.now.base z at) c.as_slice.ensures.value (found_placed c.args.number c.args.self.now.base [] c.as_slice.result.now at refl c.requires.fitted h)) c.spot.ensures.some
 
 pub returns-clause-missing : goal.returns-clause-missing
 returns-clause-missing g c =

@@ -1,0 +1,5 @@
+use Rattle.std.proofs.Common.{rules}
+use Rattle.rev_edits.proofs.alter.cool.Goals as goal
+
+pub returns-clause-state : goal.returns-clause-state
+returns-clause-state g c = search rules steps 4000000

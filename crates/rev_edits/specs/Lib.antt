@@ -1,0 +1,4 @@
+pub mod Telling
+pub mod Taking
+pub mod Linking
+pub mod Paging

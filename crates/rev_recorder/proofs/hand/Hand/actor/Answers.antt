@@ -1,5 +1,0 @@
-use Rattle.std.proofs.Common.{rules}
-use Rattle.rev_recorder.proofs.hand.Hand.actor.Goals as goal
-
-pub returns : goal.returns
-returns c = search rules steps 500000
