@@ -1,8 +1,8 @@
 -- The way from the current node up to the root.
 use Rattle.std.specs.Prelude.{ℕ, zero, suc, ◌≡◌, ◌+◌, ◌-◌, ◌<◌, ◌≤◌, ◌⊎◌, true, false, List, [], ◌∷◌, ◌++◌, Option, None, Some, is_some, length, slice_get, refl}
-use Rattle.std.proofs.Common.{sym, ◌∙◌, ap, arith, inl}
+use Rattle.std.proofs.Common.{sym, ◌∙◌, ap, arith, inl, inr}
 use Rattle.std.proofs.lemmas.Bool.{false≢true, true≢false}
-use Rattle.std.proofs.lemmas.List.{append-nil, append_assoc}
+use Rattle.std.proofs.lemmas.List.{append-nil, append_assoc, length-append}
 use Rattle.rev_model.specs.Actor.{Step}
 use Rattle.rev_model.specs.Events.{event}
 use Rattle.rev_model.specs.Track.{key_place_of}
@@ -31,7 +31,7 @@ enough rows w (suc a) (suc b) n h g =
     nodes_same (row_of rows n) (λ r. lineage_within a rows r.parent ++ n ∷ []) (λ r. lineage_within b rows r.parent ++ n ∷ [])
     (λ r e. let l = w n r e in ap (λ z. z ++ n ∷ []) (enough rows w a b r.parent (omega (arith, l, h)) (omega (arith, l, g))))
 
-lineage_above : (rows : List (Option Row)) → RowsFall rows → (n : ℕ) (r : Row) → row_of rows n ≡ Some r → lineage rows n ≡ lineage rows r.parent ++ n ∷ []
+pub lineage_above : (rows : List (Option Row)) → RowsFall rows → (n : ℕ) (r : Row) → row_of rows n ≡ Some r → lineage rows n ≡ lineage rows r.parent ++ n ∷ []
 unfolding lineage
 lineage_above rows w zero r e = absurd (false≢true (ap is_some e))
 lineage_above rows w (suc m) r e =
@@ -114,7 +114,7 @@ module _ (v : SessionState) (d : ℕ) (w : Climbs v d) (falls : RowsFall v.rows)
 -- one node up, by what the session tells of the d-th node
 module _ (v : SessionState) (d n : ℕ) (e : Step) (o : Outcome) (r : PlainRecord) (w : Climbs v d) (pos : 0 < d) (h : Trailed v d n e o r) where
   -- it is the node that the climb is at
-  node_is : w.node ≡ n
+  pub node_is : w.node ≡ n
   node_is = let q = row_here v d w pos in one_number w.node n (sym (number_here v d w h.falls q.0 q.1) ∙ h.numbered)
 
   pub row_is : row_of v.rows w.node ≡ Some h.row
@@ -171,3 +171,12 @@ module _ (v : SessionState) (falls : RowsFall v.rows) (k : List ℕ) (low : ℕ)
 pub above_root : (d n : ℕ) → ((d ≡ 0) ⊎ (n < d) → true ≡ false) → 0 < d
 above_root zero n f = absurd (true≢false (f (inl refl)))
 above_root (suc d) n f = omega arith
+
+-- the way ends at the root
+pub at_end : (v : SessionState) (d : ℕ) → Climbs v d → ((d ≡ 0) ⊎ (length (lineage v.rows v.current) < d)) → d ≡ 0
+at_end v d h (inl e) = e
+at_end v d h (inr o) =
+    let s = ap length h.splits in
+    let a = length-append (lineage v.rows h.node) h.below in
+    let e = h.deep in
+    absurd (omega (arith, s, a, e, o))

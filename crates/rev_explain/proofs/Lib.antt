@@ -2,3 +2,5 @@ pub mod MoveLaws
 pub mod Nodes
 pub mod Climbs
 pub mod Searches
+pub mod Departing
+pub mod Timing

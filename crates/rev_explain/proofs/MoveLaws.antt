@@ -143,7 +143,7 @@ change-through k home (stored.Unmarks set) rest more = refl
 
 -- ---- before the i-th change
 
-drop_at : {X : Type 0} (xs : List X) (i : ℕ) (x : X) → i < length xs → x ≡ slice_index_or xs i x → drop i xs ≡ x ∷ drop (i + 1) xs
+pub drop_at : {X : Type 0} (xs : List X) (i : ℕ) (x : X) → i < length xs → x ≡ slice_index_or xs i x → drop i xs ≡ x ∷ drop (i + 1) xs
 drop_at xs i x lt e = drop_more xs i x lt ∙ ap (λ z. z ∷ drop (i + 1) xs) (sym e)
 
 pub keyed_next : (k : List ℕ) (home : Option ChunkRef) (gs : List PlainChange) (i : ℕ) (g : PlainChange) (x : ChunkRef) → i < length gs → g ≡ slice_index_or gs i g → keyed k home (moves_in (drop i gs)) x ≡ known_or (keyed_through k g.moves x) (keyed k home (moves_in (drop (i + 1) gs)))

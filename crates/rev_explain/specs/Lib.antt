@@ -1,2 +1,5 @@
 pub mod Story
 pub mod Readings
+pub mod Departures
+pub mod Told
+pub mod Clocks

@@ -3,12 +3,15 @@
 use Rattle.std.specs.Prelude.{ℕ, Bool, false, cond, List, [], ◌∷◌, Option, None, Some, is_some}
 use Rattle.std.proofs.Common.{ControlFlow, Continue, Break}
 use Rattle.rev_model.specs.Chunk.{same_chunk}
-use Rattle.rev_model.specs.Move.{Move, Takes, Puts, Fills, Shifts}
-use Rattle.rev_model.specs.Track.{has_key}
+use Rattle.rev_model.specs.Move.{Move, Takes, Puts, Fills, Sets, Shifts}
+use Rattle.rev_model.specs.Track.{has_key, Removal, removal}
+use Rattle.rev_changes.specs.declared.changes.Change as kept
+use Rattle.rev_changes.specs.declared.changes.Change.TheVariants as stored
 use Rattle.rev_model.specs.declared.ChunkRef.{ChunkRef}
 use Rattle.rev_model.specs.declared.Cause.{Cause}
 use Rattle.rev_model.specs.declared.ClassQueue.{ClassQueue}
 use Rattle.rev_model.specs.declared.Entry.TheVariants.{Chunk}
+use Rattle.rev_model.specs.declared.GlobalPart.TheVariants.{Timing}
 use Rattle.rev_model.specs.declared.KeyChange.{KeyChange}
 use Rattle.rev_model.specs.declared.Listed.TheVariants.{InQueue}
 use Rattle.rev_model.specs.declared.Placed.TheVariants.{ToQueue}
@@ -42,6 +45,19 @@ keyed_through k (m ∷ ms) x = or_before (keyed_after k m x) (keyed_through k ms
 abbrev pub queue_through : List Move → ChunkRef → ControlFlow (Option ClassQueue) ChunkRef
 queue_through [] x = Continue x
 queue_through (m ∷ ms) x = or_before (queue_after m x) (queue_through ms)
+
+-- the clock that the first of these moves sets, if one does
+abbrev pub clock_through : List Move → Option ℕ
+clock_through [] = None
+clock_through (Sets (Timing t) ∷ ms) = Some t.clock
+clock_through (m ∷ ms) = clock_through ms
+
+-- the removals from the index that a change of a record tells, as the record of a step tells them
+abbrev pub removals_by : {A : Type 0} → kept.Change A → List Removal
+removals_by (stored.Enter q n x c i a) = removal (Some i) n
+removals_by (stored.Link q c x i a n) = removal (Some i) None
+removals_by (stored.Revive q n x c i a) = removal (Some i) n
+removals_by m = []
 
 -- the cause that the record notes, where the key was held before the step
 abbrev pub left_cause : Option KeyChange → Option Cause

@@ -111,7 +111,7 @@ fn is_stored(outcome: Outcome) -> bool
 }
 
 /// Whether a step that answered this stored the key.
-fn has_stored<A: Allocator>(step: &Step<A>, outcome: Outcome, key: &Key<A>) -> bool
+pub fn has_stored<A: Allocator>(step: &Step<A>, outcome: Outcome, key: &Key<A>) -> bool
     ensures { result ≡ (may_store (plain_step step.now) key.now && is_stored outcome) }
 {
     may_store(step, key) && is_stored(outcome)

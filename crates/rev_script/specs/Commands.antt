@@ -240,7 +240,9 @@ bare_debug w =
     else (if bytes_eq w (codes ":globals") then Some debugs.Globals
     else (if bytes_eq w (codes ":tree") then Some debugs.Tree
     else (if bytes_eq w (codes ":marks") then Some debugs.Marks
-    else None))))))
+    else (if bytes_eq w (codes ":gone") then Some (debugs.Gone None)
+    else (if bytes_eq w (codes ":classes") then Some debugs.Classes
+    else None))))))))
 
 -- those that take a key
 unfoldable pub query_of : List ℕ → Option KeyQuery
@@ -266,7 +268,10 @@ number_debug w n =
     else (if bytes_eq w (codes ":free") then Some (debugs.Free n)
     else (if bytes_eq w (codes ":counters") then Some (debugs.Counters n)
     else (if bytes_eq w (codes ":prune") then Some (debugs.Prune n)
-    else None))))
+    else (if bytes_eq w (codes ":gone") then Some (debugs.Gone (Some n))
+    else (if bytes_eq w (codes ":step") then Some (debugs.Step n)
+    else (if bytes_eq w (codes ":time") then Some (debugs.Time n)
+    else None)))))))
 
 abbrev pub debug_or_none : Option DebugCommand → Command
 debug_or_none None = Bad BadCommand
@@ -288,13 +293,21 @@ debug_number w (Some n) = debug_or_none (number_debug w n)
 unfoldable pub word_debug : List ℕ → List ℕ → Command
 word_debug w x = query_or (query_of w) (is_key x) (bookmark_or (bookmark_of w) (is_name x) (debug_number w (number_u32 x)))
 
+-- a queue's entries, as many as are wanted, by the two words behind the command's
+unfoldable pub queue_command : List (List ℕ) → Option ℕ → Command
+queue_command ws limit = with_queue (λ n q. Debug (debugs.Queue n q limit)) (number_u32 (word ws 1)) (queue_of (word ws 2))
+
+abbrev pub queue_limited : List (List ℕ) → Option ℕ → Command
+queue_limited ws None = Bad BadCommand
+queue_limited ws (Some limit) = queue_command ws (Some limit)
+
 unfoldable pub debug_command : List (List ℕ) → Command
 debug_command ws =
     if length ws == 1 then debug_or_none (bare_debug (word ws 0))
     else (if length ws == 2 then word_debug (word ws 0) (word ws 1)
-    else (if (length ws == 3) && bytes_eq (word ws 0) (codes ":queue") then
-    with_queue (λ n q. Debug (debugs.Queue n q)) (number_u32 (word ws 1)) (queue_of (word ws 2))
-    else Bad BadCommand))
+    else (if (length ws == 3) && bytes_eq (word ws 0) (codes ":queue") then queue_command ws None
+    else (if (length ws == 4) && bytes_eq (word ws 0) (codes ":queue") then queue_limited ws (number_u32 (word ws 3))
+    else Bad BadCommand)))
 
 -- ---- all of them: by the first word's first byte, where it is one that no command of a client has (58 is `:`, 64 is `@`, 126 is `~`), and else by that word
 

@@ -46,7 +46,12 @@ pub enum DebugCommand {
     Forward(u32),
     /// With the node's number.
     Go(u32),
-    Queue { class: u32, queue: Queue },
+    /// With how many entries are wanted, the first ones; all where there is no number.
+    Queue {
+        class: u32,
+        queue: Queue,
+        limit: Option<u32>,
+    },
     Free(u32),
     Pages,
     Counters(u32),
@@ -54,6 +59,13 @@ pub enum DebugCommand {
     Tree,
     Marks,
     Prune(u32),
+    /// With how many are wanted, the last ones; all where there is no number.
+    Gone(Option<u32>),
+    /// With the node's number.
+    Step(u32),
+    /// With the time, in seconds.
+    Time(u32),
+    Classes,
 }
 
 /// A debug command about one key.

@@ -1,6 +1,6 @@
 //! The debug commands.
 ghost use Rattle.std.specs.Prelude.{◌≡◌, map, ℕ, List};
-ghost use Rattle.rev_script.specs.Commands.{bare_debug, query_of, bookmark_of, number_debug, word_debug, debug_command};
+ghost use Rattle.rev_script.specs.Commands.{bare_debug, query_of, bookmark_of, number_debug, word_debug, queue_command, debug_command};
 ghost use Rattle.rev_script.specs.Keyed.{IsKeyed, HasKeys};
 
 use crate::actor::queue_of;
@@ -28,6 +28,10 @@ fn bare_debug(w: &[u8]) -> Option<DebugCommand>
         Some(DebugCommand::Tree)
     } else if is_word(w, b":marks") {
         Some(DebugCommand::Marks)
+    } else if is_word(w, b":gone") {
+        Some(DebugCommand::Gone(None))
+    } else if is_word(w, b":classes") {
+        Some(DebugCommand::Classes)
     } else {
         None
     }
@@ -80,6 +84,12 @@ fn number_debug(w: &[u8], n: u32) -> Option<DebugCommand>
         Some(DebugCommand::Counters(n))
     } else if is_word(w, b":prune") {
         Some(DebugCommand::Prune(n))
+    } else if is_word(w, b":gone") {
+        Some(DebugCommand::Gone(Some(n)))
+    } else if is_word(w, b":step") {
+        Some(DebugCommand::Step(n))
+    } else if is_word(w, b":time") {
+        Some(DebugCommand::Time(n))
     } else {
         None
     }
@@ -112,6 +122,25 @@ fn word_debug(name: &[u8], argument: &[u8]) -> Command
     Command::Debug(command)
 }
 
+// A queue's entries, as many as are wanted, by the two words behind the command's.
+#[tactic(auto, unfolding(crate::specs::Commands::queue_command))]
+fn queue_command(words: &[&[u8]], limit: Option<u32>) -> Command
+    ensures value { result ≡ queue_command (map (λ x. x.now) words.now) limit }
+    ensures keyed { HasKeys result (map (λ x. x.now) words.now) }
+{
+    let Some(class) = number_u32(word(words, 1)) else {
+        return Command::Bad(BadAnswer::BadCommand);
+    };
+    let Some(queue) = queue_of(word(words, 2)) else {
+        return Command::Bad(BadAnswer::BadCommand);
+    };
+    Command::Debug(DebugCommand::Queue {
+        class,
+        queue,
+        limit,
+    })
+}
+
 /// A line whose first word begins with `:`.
 #[tactic(auto, unfolding(crate::specs::Commands::debug_command))]
 pub fn debug_command(words: &[&[u8]]) -> Command
@@ -129,13 +158,13 @@ pub fn debug_command(words: &[&[u8]]) -> Command
         return word_debug(name, word(words, 1));
     }
     if words.len() == 3 && is_word(name, b":queue") {
-        let Some(class) = number_u32(word(words, 1)) else {
+        return queue_command(words, None);
+    }
+    if words.len() == 4 && is_word(name, b":queue") {
+        let Some(limit) = number_u32(word(words, 3)) else {
             return Command::Bad(BadAnswer::BadCommand);
         };
-        let Some(queue) = queue_of(word(words, 2)) else {
-            return Command::Bad(BadAnswer::BadCommand);
-        };
-        return Command::Debug(DebugCommand::Queue { class, queue });
+        return queue_command(words, Some(limit));
     }
     Command::Bad(BadAnswer::BadCommand)
 }

@@ -5,3 +5,4 @@ pub mod Marks
 pub mod Trees
 pub mod Runs
 pub mod Writing
+pub mod Counting

@@ -1,14 +1,14 @@
 -- What each line of a script does to a session, and what is answered.
 -- Rule of memcached: which answer a command gets, and that `noreply` drops it.
 -- Rule of this project: the lines that begin with `:`, and refusals of the tree.
-use Rattle.std.specs.Prelude.{ℕ, ℤ, ◌+◌, ◌++◌, Bool, true, false, cond, not, ◌&&◌, nat_eq, nat_lt, List, [], ◌∷◌, length, Option, None, Some, codes}
+use Rattle.std.specs.Prelude.{ℕ, ◌+◌, ◌++◌, Bool, true, false, cond, not, ◌&&◌, nat_eq, nat_lt, List, [], ◌∷◌, length, Some, codes}
 use Rattle.rev_model.specs.State.{State, free_of, queue_of, find}
 use Rattle.rev_model.specs.Move.{is_class}
 use Rattle.rev_model.specs.Actor.{Step}
 use Rattle.rev_model.specs.declared.Outcome.{Outcome}
 use Rattle.rev_model.specs.declared.Outcome.TheVariants as outcomes
 use Rattle.rev_undotree.specs.Steps.{outcome_of}
-use Rattle.rev_undotree.specs.Rows.{at, row, parent_of}
+use Rattle.rev_undotree.specs.Rows.{at, row, row_of, parent_of}
 use Rattle.rev_undotree.specs.Machine.{is_continued, nesting_below}
 use Rattle.rev_undotree.specs.Positions.{SessionState}
 use Rattle.rev_script.specs.declared.command.DebugCommand.{DebugCommand}
@@ -24,7 +24,11 @@ use Rattle.rev_shell.specs.Bookmarks.{marked, with_mark, mark_text, marks_text, 
 use Rattle.rev_requests.specs.Plain.{plain_actor}
 use Rattle.rev_script.specs.Steps.{storage_step, keyed_step, flush_step, tune_step, get}
 use Rattle.rev_explain.specs.Story.{story, why_of}
+use Rattle.rev_explain.specs.Departures.{departures, at_most, last_of}
+use Rattle.rev_explain.specs.Clocks.{node_by}
 use Rattle.rev_shell.specs.Reasons.{events_text, why_text}
+use Rattle.rev_shell.specs.Views.{departures_text, step_text, time_text, after_time}
+use Rattle.rev_shell.specs.Classes.{classes_text}
 use Rattle.rev_shell.specs.declared.play.Reply.{Reply}
 use Rattle.rev_shell.specs.declared.play.Reply.TheVariants.{Played, TooManyNodes, TooDeep}
 
@@ -131,8 +135,8 @@ debug_text d debugs.At = node_text d.session.current
 debug_text d debugs.Back = parent_text (parent_of d.session.rows d.session.current)
 debug_text d (debugs.Forward i) = child_text (child_at d.session i)
 debug_text d (debugs.Go n) = go_text d.session n
-debug_text d (debugs.Queue c q) =
-    of_class (state_of d.session) c (output (codes "QUEUE" ++ entries_text (state_of d.session) (queue_of (state_of d.session) c q)))
+debug_text d (debugs.Queue c q limit) =
+    of_class (state_of d.session) c (output (codes "QUEUE" ++ entries_text (state_of d.session) (at_most limit (queue_of (state_of d.session) c q))))
 debug_text d (debugs.Free c) = of_class (state_of d.session) c (output (codes "FREE" ++ chunks_text (free_of (state_of d.session) c)))
 debug_text d debugs.Pages = pages_text 0 (state_of d.session).owner ++ output (codes "END")
 debug_text d (debugs.Counters c) = of_class (state_of d.session) c (counters_text (state_of d.session) c)
@@ -140,6 +144,10 @@ debug_text d debugs.Globals = globals_text (state_of d.session)
 debug_text d debugs.Tree = tree_text d.session
 debug_text d debugs.Marks = marks_text d.bookmarks
 debug_text d (debugs.Prune n) = prune_text d.session n
+debug_text d (debugs.Gone limit) = departures_text (last_of limit (departures d.session.root d.session.rows d.session.current))
+debug_text d (debugs.Step n) = step_text d.session n (row_of d.session.rows n)
+debug_text d (debugs.Time t) = time_text d.session (node_by d.session.root d.session.rows d.session.current t)
+debug_text d debugs.Classes = classes_text (state_of d.session)
 
 -- the session after it
 abbrev pub after_debug : SessionState → DebugCommand → SessionState
@@ -147,7 +155,7 @@ after_debug m debugs.At = m
 after_debug m debugs.Back = gone_to m (parent_of m.rows m.current)
 after_debug m (debugs.Forward i) = gone_to m (child_at m i)
 after_debug m (debugs.Go n) = gone m n
-after_debug m (debugs.Queue c q) = m
+after_debug m (debugs.Queue c q limit) = m
 after_debug m (debugs.Free c) = m
 after_debug m debugs.Pages = m
 after_debug m (debugs.Counters c) = m
@@ -155,6 +163,10 @@ after_debug m debugs.Globals = m
 after_debug m debugs.Tree = m
 after_debug m debugs.Marks = m
 after_debug m (debugs.Prune n) = after_prune m n
+after_debug m (debugs.Gone limit) = m
+after_debug m (debugs.Step n) = m
+after_debug m (debugs.Time t) = after_time m (node_by m.root m.rows m.current t)
+after_debug m debugs.Classes = m
 
 -- what is asked of a key at the current node
 abbrev pub query_text : SessionState → KeyQuery → List ℕ → List ℕ

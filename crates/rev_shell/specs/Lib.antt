@@ -6,3 +6,5 @@ pub mod Reasons
 pub mod Marked
 pub mod Answers
 pub mod Run
+pub mod Views
+pub mod Classes

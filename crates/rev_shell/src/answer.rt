@@ -5,6 +5,7 @@ ghost use Rattle.rev_shell.specs.Bookmarks.{marked, with_mark, mark_text, goto_t
 ghost use Rattle.rev_shell.specs.Answers.{with_bookmarks, answer, after, debug_text, after_debug, query_text, bookmark_text, after_bookmark};
 
 use crate::bookmarks::{Bookmarks, put_mark};
+use crate::classes::put_classes;
 use crate::play::{play_line, put_values};
 use crate::reasons::{put_story, put_why};
 use crate::show::{
@@ -12,6 +13,7 @@ use crate::show::{
 };
 use crate::text::{bad_text, put_node, put_output};
 use crate::tree::{put_back, put_forward, put_go, put_prune, put_tree};
+use crate::views::{put_gone, put_step, put_time};
 use rev_items::Key;
 use rev_script::command::{BookmarkCommand, DebugCommand, KeyQuery};
 use rev_script::line::{ClientLine, DebugLine, Line};
@@ -71,7 +73,11 @@ fn put_debug<A: Allocator + Clone>(
         DebugCommand::Back => put_back(session, out),
         DebugCommand::Forward(index) => put_forward(session, index, out),
         DebugCommand::Go(number) => put_go(session, NodeId(number), out),
-        DebugCommand::Queue { class, queue } => put_queue(session.store(), class, queue, out),
+        DebugCommand::Queue {
+            class,
+            queue,
+            limit,
+        } => put_queue(session.store(), class, queue, limit, out),
         DebugCommand::Free(class) => put_free(session.store(), class, out),
         DebugCommand::Pages => put_pages(session.store(), out),
         DebugCommand::Counters(class) => put_counters(session.store(), class, out),
@@ -79,6 +85,10 @@ fn put_debug<A: Allocator + Clone>(
         DebugCommand::Tree => put_tree(session, out),
         DebugCommand::Marks => bookmarks.put_all(out),
         DebugCommand::Prune(number) => put_prune(session, NodeId(number), out),
+        DebugCommand::Gone(limit) => put_gone(session, limit, out),
+        DebugCommand::Step(number) => put_step(session, NodeId(number), out),
+        DebugCommand::Time(time) => put_time(session, time, out),
+        DebugCommand::Classes => put_classes(session.store(), out),
     }
 }
 

@@ -3,10 +3,12 @@
 
 mod answer;
 mod bookmarks;
+mod classes;
 mod play;
 mod reasons;
 pub mod run;
 mod show;
 pub mod text;
 mod tree;
+mod views;
 pub mod words;

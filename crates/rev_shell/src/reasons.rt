@@ -11,7 +11,8 @@ use rev_model::{Cause, ClassQueue};
 use rev_undotree::Session;
 use std::alloc::{AllocError, Allocator};
 
-fn cause_word(cause: Cause) -> &'static [u8]
+/// The word of a cause (this project's own).
+pub fn cause_word(cause: Cause) -> &'static [u8]
     ensures { result.now ≡ cause_word cause }
 {
     match cause {

@@ -1,9 +1,10 @@
 //! What a store shows to the debug commands.
-ghost use Rattle.std.specs.Prelude.{◌≡◌, ◌++◌, codes, OnOk, true, is_some, Some};
+ghost use Rattle.std.specs.Prelude.{◌≡◌, ◌++◌, codes, OnOk, take, true, is_some, Some};
 ghost use Rattle.rev_model.specs.Sound.{Sound};
 ghost use Rattle.rev_model.specs.State.{item_at, find, counter_of, free_of, queue_of, IsClass};
 ghost use Rattle.rev_model.specs.Move.{is_class};
 ghost use Rattle.rev_shell.specs.Texts.{output, item_text, seat_text, found_text, place_text, entry_text, entries_text, chunks_text, figures_text, pages_text, counter_text, removals_text, moves_text, counters_text, globals_text};
+ghost use Rattle.rev_explain.specs.Departures.{at_most};
 ghost use Rattle.rev_shell.specs.Answers.{of_class};
 
 use crate::text::{
@@ -145,21 +146,65 @@ fn put_entries<A: Allocator + Clone>(
     Ok(())
 }
 
-/// Writes a queue's entries on a line.
+// Writes the first entries of a queue, head first.
+fn put_first_entries<A: Allocator + Clone>(
+    store: &Store<A>,
+    class: usize,
+    queue: Queue,
+    most: u32,
+    answer: &mut Vec<u8, A>,
+) -> Result<(), AllocError>
+    requires sound { Sound store.now }
+    requires class { IsClass store.now.fixed class }
+    ensures { OnOk result (answer.new.items ≡ answer.old.items ++ entries_text store.now (take most (queue_of store.now class queue))) }
+{
+    let mut behind = None;
+    let mut left = most;
+    'entries: while left > 0 {
+        let Some(entry) = store.queue_entry(class, queue, behind) else {
+            return Ok(());
+        };
+        put_entry(store, entry, answer)?;
+        behind = Some(entry);
+        left -= 1;
+    }
+    Ok(())
+}
+
+// Writes as many entries of a queue as are wanted, or all.
+fn put_limited<A: Allocator + Clone>(
+    store: &Store<A>,
+    class: usize,
+    queue: Queue,
+    limit: Option<u32>,
+    answer: &mut Vec<u8, A>,
+) -> Result<(), AllocError>
+    requires sound { Sound store.now }
+    requires class { IsClass store.now.fixed class }
+    ensures { OnOk result (answer.new.items ≡ answer.old.items ++ entries_text store.now (at_most limit (queue_of store.now class queue))) }
+{
+    match limit {
+        Some(most) => put_first_entries(store, class, queue, most, answer),
+        None => put_entries(store, class, queue, answer),
+    }
+}
+
+/// Writes a queue's entries on a line, the first `limit` of them or all.
 pub fn put_queue<A: Allocator + Clone>(
     store: &Store<A>,
     class: u32,
     queue: Queue,
+    limit: Option<u32>,
     answer: &mut Vec<u8, A>,
 ) -> Result<(), AllocError>
     requires { Sound store.now }
-    ensures { OnOk result (answer.new.items ≡ answer.old.items ++ of_class store.now class (output (codes "QUEUE" ++ entries_text store.now (queue_of store.now class queue)))) }
+    ensures { OnOk result (answer.new.items ≡ answer.old.items ++ of_class store.now class (output (codes "QUEUE" ++ entries_text store.now (at_most limit (queue_of store.now class queue))))) }
 {
     if !is_class(store, class) {
         return put_output(answer, b"NOCLASS");
     }
     answer.extend_from_slice(b"QUEUE")?;
-    put_entries(store, class as usize, queue, answer)?;
+    put_limited(store, class as usize, queue, limit, answer)?;
     answer.extend_from_slice(b"\r\n")
 }
 

@@ -1,4 +1,4 @@
-use Rattle.std.proofs.Common.{◌≡◌, [], None, inl, refl, sym, ◌∙◌, ap, arith}
+use Rattle.std.proofs.Common.{[], None, inl, refl, sym, ◌∙◌, ap, arith}
 use Rattle.rev_script.specs.Script.{onwards, cuts}
 use Rattle.rev_script.proofs.Known.{Took-refl}
 use Rattle.rev_script.proofs.Scripts.{takes_byte, first-unused, first-given}
