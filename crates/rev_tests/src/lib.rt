@@ -3,8 +3,6 @@
 #![tactic(auto)]
 
 #[cfg(test)]
-mod actors;
-#[cfg(test)]
 mod buckets;
 #[cfg(test)]
 mod classes;
@@ -20,6 +18,8 @@ mod memory;
 mod mentions;
 #[cfg(test)]
 mod owned;
+#[cfg(test)]
+mod players;
 #[cfg(test)]
 mod programs;
 #[cfg(test)]
