@@ -21,6 +21,10 @@ class Stop(Exception):
     """Why no program can be built, in a word for the user."""
 
 
+class OtherKit(Exception):
+    """What a tool relies on and the kit lacks."""
+
+
 class Stopped(BaseException):
     """A signal came that ends the build."""
 

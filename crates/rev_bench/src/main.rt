@@ -16,10 +16,9 @@ use crate::words::Asked;
 use rev_output::ToWrite;
 use rev_program::Stop;
 use rev_program::program::run_script;
-use std::alloc::Global;
 use std::cell::Cell;
 use std::process::ExitCode;
-use std::rt::Env;
+use std::rt::{Env, Files};
 use std::{env, io};
 
 // The words behind the program's name.
@@ -38,13 +37,25 @@ fn asked_of<R: Env + AllocGlobal>(rt: &R) -> Option<Asked> {
 }
 
 // Runs the script of what is asked for: the bytes of the script go to `bytes`, and what is answered to `tally`.
-fn run(alloc: Global, asked: Asked, bytes: &Cell<u64>, tally: &Cell<Tally>) -> Result<(), Stop> {
+fn run<R: Files + AllocGlobal>(
+    rt: &R,
+    asked: Asked,
+    bytes: &Cell<u64>,
+    tally: &Cell<Tally>,
+) -> Result<(), Stop> {
     let Asked { job, seed, .. } = asked;
     let config = job.config();
-    let Ok(script) = Script::new(alloc, job, seed, bytes) else {
+    let Ok(script) = Script::new(rt.alloc(), job, seed, bytes) else {
         return Err(Stop::Memory);
     };
-    run_script(alloc, config, None, script, Sink::new(tally))
+    run_script(
+        rt,
+        config,
+        None,
+        Vec::new(rt.alloc()),
+        script,
+        Sink::new(tally),
+    )
 }
 
 fn main(rt: HostRuntime) -> ExitCode {
@@ -55,7 +66,7 @@ fn main(rt: HostRuntime) -> ExitCode {
     let name = asked.name;
     let bytes = Cell::new(0);
     let tally = Cell::new(Tally::new());
-    if let Err(stop) = run(rt.alloc(), asked, &bytes, &tally) {
+    if let Err(stop) = run(&rt, asked, &bytes, &tally) {
         let _ = stop.tell(&mut ToWrite::new(rt.stderr()));
         return ExitCode::from(stop.status());
     }

@@ -1,5 +1,6 @@
 //! The command delete.
 ghost use Rattle.std.specs.Prelude.{◌≡◌, ◌+◌, ◌≤◌, length, Some, IfOk, OnOk, OnErr};
+ghost use Rattle.rev_model.specs.State.{find};
 ghost use Rattle.rev_model.specs.Client.{delete as delete_of};
 ghost use Rattle.rev_model.specs.Sound.{Sound};
 ghost use Rattle.rev_model.specs.Move.{LeadsBack};
@@ -9,16 +10,22 @@ ghost use Rattle.rev_edits.specs.Telling.{Tells, TellsAll};
 ghost use Rattle.rev_model.specs.Causes.{clear_removals};
 ghost use Rattle.rev_commands.specs.Looking.{removal_need};
 
-use crate::look::{lookup, removal_moves, remove};
+use crate::look::{lookup_at, removal_moves_at, remove};
 use rev_changes::Record;
 use rev_inverse::Store;
 use rev_items::Key;
-use rev_model::{Cause, Outcome};
+use rev_model::{Cause, ChunkRef, Outcome};
 use std::alloc::{AllocError, Allocator};
 
 /// The key's item leaves: four moves, or none.
-fn delete_found<A: Allocator>(store: &mut Store<A>, key: &Key<A>, undo: &mut Record<A>) -> Outcome
+fn delete_found<A: Allocator>(
+    store: &mut Store<A>,
+    key: &Key<A>,
+    found: Option<ChunkRef>,
+    undo: &mut Record<A>,
+) -> Outcome
     requires sound { Sound store.old }
+    requires led { found ≡ find store.old key.now }
     requires room { length undo.old.moves + removal_need store.old key.now ≤ undo.old.room }
     ensures done { (store.new, result) ≡ delete_of store.old key.now }
     ensures sound { Sound store.new }
@@ -27,7 +34,7 @@ fn delete_found<A: Allocator>(store: &mut Store<A>, key: &Key<A>, undo: &mut Rec
     ensures made { length undo.new.moves ≤ length undo.old.moves + removal_need store.old key.now }
     ensures told { Tells undo.old store.old undo.new store.new (clear_removals (Some causes.Deleted) store.old key.now) }
 {
-    match lookup(store, key, undo) {
+    match lookup_at(store, key, found, undo) {
         None => Outcome::NotFound,
         Some(chunk) => {
             remove(store, chunk, Some(Cause::Deleted), undo);
@@ -51,7 +58,8 @@ pub fn delete<A: Allocator + Clone>(
     ensures err { OnErr result (store.new ≡ store.old) }
     ensures told { IfOk result (λ p. TellsAll p.1 store.new (clear_removals (Some causes.Deleted) store.old key.now)) }
 {
-    let mut undo = Record::with_room(store.alloc()?, removal_moves(store, key))?;
-    let outcome = delete_found(store, key, &mut undo);
+    let found = store.find(key);
+    let mut undo = Record::with_room(store.alloc()?, removal_moves_at(found))?;
+    let outcome = delete_found(store, key, found, &mut undo);
     Ok((outcome, undo))
 }

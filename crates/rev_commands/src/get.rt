@@ -1,7 +1,7 @@
 //! The command get.
 ghost use Rattle.std.specs.Prelude.{◌≡◌, ◌+◌, ◌≤◌, length, Some, IfOk, OnOk, OnErr};
 ghost use Rattle.rev_items.specs.Plain.{PlainItem};
-ghost use Rattle.rev_model.specs.State.{item_at};
+ghost use Rattle.rev_model.specs.State.{item_at, find};
 ghost use Rattle.rev_model.specs.Client.{get as get_of};
 ghost use Rattle.rev_model.specs.Sound.{Sound};
 ghost use Rattle.rev_model.specs.Move.{LeadsBack};
@@ -12,7 +12,7 @@ ghost use Rattle.rev_edits.specs.Telling.{Tells, TellsAll};
 ghost use Rattle.rev_commands.specs.Hitting.{access_need};
 
 use crate::hit::{access_moves, hit};
-use crate::look::lookup;
+use crate::look::lookup_at;
 use rev_changes::Record;
 use rev_inverse::Store;
 use rev_items::Key;
@@ -34,8 +34,14 @@ fn answer<A: Allocator>(store: &Store<A>, chunk: ChunkRef) -> Outcome
 }
 
 /// The key's item is read: at most four moves.
-fn get_in<A: Allocator>(store: &mut Store<A>, key: &Key<A>, undo: &mut Record<A>) -> Outcome
+fn get_in<A: Allocator>(
+    store: &mut Store<A>,
+    key: &Key<A>,
+    found: Option<ChunkRef>,
+    undo: &mut Record<A>,
+) -> Outcome
     requires sound { Sound store.old }
+    requires led { found ≡ find store.old key.now }
     requires room { length undo.old.moves + access_need 0 store.old key.now ≤ undo.old.room }
     ensures done { (store.new, result) ≡ get_of store.old key.now }
     ensures sound { Sound store.new }
@@ -44,7 +50,7 @@ fn get_in<A: Allocator>(store: &mut Store<A>, key: &Key<A>, undo: &mut Record<A>
     ensures made { length undo.new.moves ≤ length undo.old.moves + access_need 0 store.old key.now }
     ensures told { Tells undo.old store.old undo.new store.new (look_removals store.old key.now) }
 {
-    match lookup(store, key, undo) {
+    match lookup_at(store, key, found, undo) {
         None => Outcome::Miss,
         Some(chunk) => {
             let outcome = answer(store, chunk);
@@ -72,7 +78,8 @@ pub fn get<A: Allocator + Clone>(
     ensures err { OnErr result (store.new ≡ store.old) }
     ensures told { IfOk result (λ p. TellsAll p.1 store.new (look_removals store.old key.now)) }
 {
-    let mut undo = Record::with_room(store.alloc()?, access_moves(store, key, 0))?;
-    let outcome = get_in(store, key, &mut undo);
+    let found = store.find(key);
+    let mut undo = Record::with_room(store.alloc()?, access_moves(store, found, 0))?;
+    let outcome = get_in(store, key, found, &mut undo);
     Ok((outcome, undo))
 }

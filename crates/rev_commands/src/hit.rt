@@ -9,13 +9,13 @@ ghost use Rattle.rev_model.specs.Sound.{Sound};
 ghost use Rattle.rev_model.specs.declared.Queue.{Queue};
 ghost use Rattle.rev_changes.specs.Leads.{Leads};
 ghost use Rattle.rev_edits.specs.Telling.{Tells};
-ghost use Rattle.rev_commands.specs.Hitting.{hit_need, access_need};
+ghost use Rattle.rev_commands.specs.Hitting.{hit_need, led_need};
 
 use rev_changes::{Change, Record};
 use rev_edits::alter::retouch;
 use rev_edits::moving::change;
 use rev_inverse::Store;
-use rev_items::{Bits, Key};
+use rev_items::Bits;
 use rev_model::{BumpEntry, ChunkRef, ItemHeader, Queue, Touched, is_dead};
 use std::alloc::Allocator;
 
@@ -148,13 +148,13 @@ fn hit_moves(bits: Bits) -> usize
     }
 }
 
-/// How many moves a command makes at most that hits the key's item and then makes so many `more`: four where the item is
-/// dead, none where there is none.
-pub fn access_moves<A: Allocator>(store: &Store<A>, key: &Key<A>, more: usize) -> usize
+/// How many moves a command makes at most that hits the item which a key leads to and then makes so many `more`: four
+/// where the item is dead, none where there is none.
+pub fn access_moves<A: Allocator>(store: &Store<A>, found: Option<ChunkRef>, more: usize) -> usize
     requires { more ≤ 60 }
-    ensures { result ≡ access_need more store.now key.now }
+    ensures { result ≡ led_need more store.now found }
 {
-    match store.find(key) {
+    match found {
         None => 0,
         Some(chunk) => match store.header(chunk) {
             None => 0,

@@ -2,7 +2,7 @@
 ghost use Rattle.std.specs.Prelude.{◌≡◌, ℕ, ◌+◌, ◌<◌, ◌≤◌, length, Option, None, Some, true, false, List, []};
 ghost use Rattle.std.specs.Option.{option_map};
 ghost use Rattle.rev_items.specs.Plain.{PlainItem};
-ghost use Rattle.rev_model.specs.State.{State, WellFormed, item_at, owner_of};
+ghost use Rattle.rev_model.specs.State.{State, WellFormed, item_at, find, owner_of};
 ghost use Rattle.rev_model.specs.Words.{queue_with, dropped};
 ghost use Rattle.rev_model.specs.Client.{lookup, looked_item, removed};
 ghost use Rattle.rev_model.specs.Sound.{SoundBut, Stands};
@@ -10,7 +10,7 @@ ghost use Rattle.rev_changes.specs.Leads.{Leads};
 ghost use Rattle.rev_model.specs.Track.{removal};
 ghost use Rattle.rev_edits.specs.Telling.{Tells};
 ghost use Rattle.rev_model.specs.Causes.{dead_removals, look_removals, clear_removals};
-ghost use Rattle.rev_commands.specs.Looking.{dead_need, look_need, removal_need};
+ghost use Rattle.rev_commands.specs.Looking.{dead_need, look_need, found_need, removal_need};
 
 use rev_changes::Record;
 use rev_edits::leave::drop_item;
@@ -72,6 +72,31 @@ fn look_at<A: Allocator>(
     }
 }
 
+/// The chunk of the key's item, if it is alive; a dead one is removed: four moves, else none. The chunk that the key leads
+/// to is `found`, for a caller who has asked for it already.
+pub fn lookup_at<A: Allocator>(
+    store: &mut Store<A>,
+    key: &Key<A>,
+    found: Option<ChunkRef>,
+    undo: &mut Record<A>,
+) -> Option<ChunkRef>
+    requires sound { (h : Option ChunkRef) × SoundBut h store.old }
+    requires room { length undo.old.moves + look_need store.old key.now ≤ undo.old.room }
+    requires led { found ≡ find store.old key.now }
+    ensures state { store.new ≡ (lookup store.old key.now).0 }
+    ensures found { result ≡ option_map (λ f. f.0) (lookup store.old key.now).1 }
+    ensures sound { (h : Option ChunkRef) → SoundBut h store.old → SoundBut h store.new }
+    ensures leads { Leads undo.old store.old undo.new store.new }
+    ensures room { undo.new.room ≡ undo.old.room }
+    ensures made { length undo.new.moves ≡ length undo.old.moves + look_need store.old key.now }
+    ensures told { Tells undo.old store.old undo.new store.new (look_removals store.old key.now) }
+{
+    match found {
+        None => None,
+        Some(chunk) => look_at(store, chunk, undo),
+    }
+}
+
 /// The chunk of the key's item, if it is alive; a dead one is removed: four moves, else none.
 pub fn lookup<A: Allocator>(
     store: &mut Store<A>,
@@ -88,9 +113,17 @@ pub fn lookup<A: Allocator>(
     ensures made { length undo.new.moves ≡ length undo.old.moves + look_need store.old key.now }
     ensures told { Tells undo.old store.old undo.new store.new (look_removals store.old key.now) }
 {
-    match store.find(key) {
-        None => None,
-        Some(chunk) => look_at(store, chunk, undo),
+    let found = store.find(key);
+    lookup_at(store, key, found, undo)
+}
+
+/// How many moves it takes that the item leaves which a key leads to: four, or none where there is no item.
+pub fn removal_moves_at(found: Option<ChunkRef>) -> usize
+    ensures { result ≡ found_need found }
+{
+    match found {
+        None => 0,
+        Some(_) => REMOVAL_MOVES,
     }
 }
 
@@ -98,10 +131,7 @@ pub fn lookup<A: Allocator>(
 pub fn removal_moves<A: Allocator>(store: &Store<A>, key: &Key<A>) -> usize
     ensures { result ≡ removal_need store.now key.now }
 {
-    match store.find(key) {
-        None => 0,
-        Some(_) => REMOVAL_MOVES,
-    }
+    removal_moves_at(store.find(key))
 }
 
 /// The key's item leaves, dead or alive. The cause, if there is one, is that of an item that was alive.

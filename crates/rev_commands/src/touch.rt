@@ -3,7 +3,7 @@ ghost use Rattle.std.specs.Prelude.{◌≡◌, ◌+◌, ◌<◌, ◌≤◌, leng
 ghost use Rattle.std.specs.Option.{option_map};
 ghost use Rattle.rev_items.specs.Plain.{PlainItem};
 ghost use Rattle.rev_items.specs.Rules.{moment as moment_of};
-ghost use Rattle.rev_model.specs.State.{item_at};
+ghost use Rattle.rev_model.specs.State.{item_at, find};
 ghost use Rattle.rev_model.specs.Words.{header_of};
 ghost use Rattle.rev_model.specs.Client.{touch as touch_of, until, hit as hit_of};
 ghost use Rattle.rev_model.specs.Sound.{Sound};
@@ -14,7 +14,7 @@ ghost use Rattle.rev_edits.specs.Telling.{Tells, TellsAll};
 ghost use Rattle.rev_commands.specs.Hitting.{hit_need, access_need};
 
 use crate::hit::{access_moves, hit};
-use crate::look::lookup;
+use crate::look::lookup_at;
 use rev_changes::Record;
 use rev_edits::alter::retouch;
 use rev_inverse::Store;
@@ -71,10 +71,12 @@ fn touch_found<A: Allocator>(
 fn touch_in<A: Allocator>(
     store: &mut Store<A>,
     key: &Key<A>,
+    found: Option<ChunkRef>,
     exptime: i32,
     undo: &mut Record<A>,
 ) -> Outcome
     requires sound { Sound store.old }
+    requires led { found ≡ find store.old key.now }
     requires room { length undo.old.moves + access_need 1 store.old key.now ≤ undo.old.room }
     ensures done { (store.new, result) ≡ touch_of store.old key.now exptime }
     ensures sound { Sound store.new }
@@ -83,7 +85,7 @@ fn touch_in<A: Allocator>(
     ensures made { length undo.new.moves ≤ length undo.old.moves + access_need 1 store.old key.now }
     ensures told { Tells undo.old store.old undo.new store.new (look_removals store.old key.now) }
 {
-    match lookup(store, key, undo) {
+    match lookup_at(store, key, found, undo) {
         None => Outcome::NotFound,
         Some(chunk) => {
             if let Some(item) = store.header(chunk) {
@@ -111,7 +113,8 @@ pub fn touch<A: Allocator + Clone>(
     ensures err { OnErr result (store.new ≡ store.old) }
     ensures told { IfOk result (λ p. TellsAll p.1 store.new (look_removals store.old key.now)) }
 {
-    let mut undo = Record::with_room(store.alloc()?, access_moves(store, key, 1))?;
-    let outcome = touch_in(store, key, exptime, &mut undo);
+    let found = store.find(key);
+    let mut undo = Record::with_room(store.alloc()?, access_moves(store, found, 1))?;
+    let outcome = touch_in(store, key, found, exptime, &mut undo);
     Ok((outcome, undo))
 }

@@ -1,25 +1,25 @@
 -- What a record tells of removals, and what the way of `departures` up to the root keeps.
 use Rattle.std.specs.Prelude.{ℕ, ◌≡◌, ◌+◌, ◌-◌, ◌<◌, ◌≤◌, ◌⊎◌, Bool, true, false, cond, ◌&&◌, ◌==◌, List, [], ◌∷◌, ◌++◌, Option, None, Some, is_some, length, drop, reverse, slice_index_or, take, refl}
 use Rattle.std.proofs.Common.{sym, ◌∙◌, ap, arith, inl, inr, subst}
-use Rattle.std.specs.List.{Contains}
-use Rattle.std.proofs.lemmas.List.Elements.{Contains-append_left, Contains-append_right, Contains-append_cases, Contains-push, Contains-push_cases}
+use Rattle.std.proofs.lemmas.List.Elements.{filter-append, filter_map-append}
 use Rattle.std.proofs.lemmas.Bool.{false≢true, leb-true}
-use Rattle.std.proofs.lemmas.List.{reverse-append, append_assoc, append-nil, take-append-le, drop_all}
+use Rattle.std.proofs.lemmas.List.{reverse-append, reverse-reverse, append_assoc, append-nil, take-append-le, take-append-drop, drop_all}
 use Rattle.rev_items.specs.Plain.{PlainItem}
 use Rattle.rev_model.specs.State.{State, item_at, find, queue_number}
 use Rattle.rev_model.specs.Sound.{Sound}
 use Rattle.rev_model.specs.Actor.{Step, step}
 use Rattle.rev_model.specs.Causes.{step_removals}
-use Rattle.rev_model.specs.Events.{may_store, is_stored, stores, cause_of, stored_event, moved_event, other_event, event_by, event}
+use Rattle.rev_model.specs.Events.{is_key, stored_key, stores, cause_of, stored_event, moved_event, other_event, event_by, event}
 use Rattle.rev_model.specs.Move.{Move, Fills, Takes, moved, turned}
 use Rattle.rev_model.specs.declared.Listed.TheVariants.{InFree}
-use Rattle.rev_model.specs.Track.{Removal, removal, removals, same_key, key_place_at, key_place_of, class_queue_of}
+use Rattle.rev_model.specs.Track.{Removal, removal, removals, held, same_key, key_place_at, key_place_of, class_queue_of}
 use Rattle.rev_model.specs.declared.EventKind.{EventKind}
 use Rattle.rev_model.specs.declared.EventKind.TheVariants as kind
 use Rattle.rev_model.specs.declared.ClassQueue.{ClassQueue}
 use Rattle.rev_model.specs.declared.KeyPlace.{KeyPlace}
-use Rattle.rev_model.proofs.Track.{first_removal}
-use Rattle.rev_model.proofs.Walks.{step_caused}
+use Rattle.rev_model.proofs.Track.{key_removals}
+use Rattle.rev_model.proofs.Stages.{Leaves, stays_so, leaves}
+use Rattle.rev_model.proofs.Walks.{step_leaves}
 use Rattle.rev_model.specs.declared.ChunkRef.{ChunkRef}
 use Rattle.rev_model.specs.declared.Cause.{Cause}
 use Rattle.rev_model.specs.declared.Outcome.{Outcome}
@@ -36,7 +36,7 @@ use Rattle.rev_undotree.specs.Positions.{SessionState}
 use Rattle.rev_undotree.specs.Trails.{Trailed}
 use Rattle.rev_explain.specs.Readings.{removals_by}
 use Rattle.rev_explain.specs.Departures.{PlainDeparture, departure, departures_in, departures_at, row_departures, departures_along, departures, is_enough, at_most, last_of}
-use Rattle.rev_explain.specs.Told.{AreTold}
+use Rattle.rev_explain.specs.Told.{told_by, story_departures, key_departures, Rise, AreTold}
 use Rattle.rev_explain.specs.Story.{told, events_along, story}
 use Rattle.rev_explain.specs.declared.events.Event.{Event}
 use Rattle.rev_explain.proofs.MoveLaws.{drop_at}
@@ -96,8 +96,8 @@ module _ (n : ℕ) (e : Step) (o : Outcome) where
   departures_in-append : (xs ys : List Removal) → departures_in n e o (xs ++ ys) ≡ departures_in n e o xs ++ departures_in n e o ys
   departures_in-append [] ys = refl
   departures_in-append (r ∷ rs) ys =
-      let d = departure n r.key (may_store e r.key && is_stored o) r.note in
-      ap (λ l. departure n r.key (may_store e r.key && is_stored o) r.note ++ l) (departures_in-append rs ys)
+      let d = departure n r.key (is_key r.key (stored_key e o)) r.note in
+      ap (λ l. departure n r.key (is_key r.key (stored_key e o)) r.note ++ l) (departures_in-append rs ys)
       ∙ sym (append_assoc d (departures_in n e o rs) (departures_in n e o ys))
 
   -- one, or none, is the same the other way round
@@ -107,9 +107,9 @@ module _ (n : ℕ) (e : Step) (o : Outcome) where
   one_turned k false (Some c) = refl
 
   change_turned : {A : Type 0} → (m : kept.Change A) → reverse (departures_in n e o (removals_by m)) ≡ departures_in n e o (removals_by m)
-  change_turned (stored.Enter q j x c i a) = one_turned i.key (may_store e i.key && is_stored o) j
+  change_turned (stored.Enter q j x c i a) = one_turned i.key (is_key i.key (stored_key e o)) j
   change_turned (stored.Link q c x i a j) = refl
-  change_turned (stored.Revive q j x c i a) = one_turned i.key (may_store e i.key && is_stored o) j
+  change_turned (stored.Revive q j x c i a) = one_turned i.key (is_key i.key (stored_key e o)) j
   change_turned (stored.Leave q j x c u) = refl
   change_turned (stored.Unlink q c x u j) = refl
   change_turned (stored.Free q j x c b) = refl
@@ -167,131 +167,146 @@ along_more root rows (x ∷ xs) n =
     ap (λ l. row_departures root rows x (row_of rows x) ++ l) (along_more root rows xs n)
     ∙ sym (append_assoc (row_departures root rows x (row_of rows x)) (departures_along root rows xs) (row_departures root rows n (row_of rows n)))
 
--- ---- each key whose story tells that it left is told
+-- ---- of each key, the departures of a node are those of its story
 
-no_element : {X : Type 0} (x : X) → Contains [] x → ⊥
-no_element x h = omega (arith, h.1)
+module _ (n : ℕ) (e : Step) (o : Outcome) (k : List ℕ) where
+  key_departure : (l : List ℕ) (b : Bool) (c : Option Cause) (a : Bool) → same_key k l ≡ a → key_departures k (departure n l b c) ≡ cond a (departure n l b c) []
+  key_departure l b None true g = refl
+  key_departure l b None false g = refl
+  key_departure l true (Some c) true g = refl
+  key_departure l true (Some c) false g = refl
+  key_departure l false (Some c) a g = ap (λ b. cond b (record { node = n; key = l; cause = c } ∷ []) []) g
 
-contains_turned : {X : Type 0} (xs : List X) (z : X) → Contains xs z → Contains (reverse xs) z
-contains_turned [] z h = absurd (no_element z h)
-contains_turned (x ∷ xs) z h = subst (λ l. Contains l z) (sym (reverse-append (x ∷ []) xs)) (elim (Contains-append_cases (x ∷ []) xs z h) [
-  | inl o ↦ Contains-append_right (reverse xs) (x ∷ []) z o
-  | inr o ↦ Contains-append_left (reverse xs) (x ∷ []) z (contains_turned xs z o)
-])
+  -- the removals of the key tell them
+  key_departures_in : (rs : List Removal) → key_departures k (departures_in n e o rs) ≡ departures_in n e o (key_removals k rs)
+  key_departures_in [] = refl
+  key_departures_in (r ∷ rs) =
+      filter-append (λ (d : PlainDeparture). same_key k d.key) here (departures_in n e o rs)
+      ∙ ap (λ l. l ++ key_departures k (departures_in n e o rs)) (key_departure r.key (is_key r.key (stored_key e o)) r.note (same_key k r.key) refl)
+      ∙ ap (λ l. cond (same_key k r.key) here [] ++ l) (key_departures_in rs)
+      ∙ go (same_key k r.key)
+    where
+      here : List PlainDeparture
+      here = departure n r.key (is_key r.key (stored_key e o)) r.note
 
-some_same : {X : Type 0} (x y : X) → Some x ≡ Some y → x ≡ y
-some_same x y e = cc
+      go : (b : Bool) → cond b here [] ++ departures_in n e o (key_removals k rs) ≡ departures_in n e o (cond b (r ∷ key_removals k rs) (key_removals k rs))
+      go true = refl
+      go false = refl
 
--- the first removal of a key that the step does not store
-removal_told : (n : ℕ) (e : Step) (o : Outcome) (k : List ℕ) (c : Cause) (rs : List Removal) → may_store e k && is_stored o ≡ false → first_removal k rs ≡ Some (Some c) → Contains (departures_in n e o rs) (record { node = n; key = k; cause = c })
-removal_told n e o k c [] s f = absurd (false≢true (ap is_some f))
-removal_told n e o k c (r ∷ rs) s f = go (λ h. removal_told n e o k c rs s h) (same_key k r.key) refl where
-  this : PlainDeparture
-  this = record { node = n; key = k; cause = c }
+  -- of a key that the step stores there are none
+  none_stored : (l : List ℕ) (c : Option Cause) (b : Bool) → b ≡ true → departure n l b c ≡ []
+  none_stored l None b e = refl
+  none_stored l (Some c) b e = ap (λ b. cond b [] (record { node = n; key = l; cause = c } ∷ [])) e
 
-  go : (first_removal k rs ≡ Some (Some c) → Contains (departures_in n e o rs) this) → (b : Bool) → same_key k r.key ≡ b → Contains (departures_in n e o (r ∷ rs)) this
-  go later true g =
-      let own : k ≡ r.key = same_key-exact k r.key g in
-      let note : r.note ≡ Some c = some_same r.note (Some c) (sym (ap (λ b. cond b (Some r.note) (first_removal k rs)) g) ∙ f) in
-      let here : departure n r.key (may_store e r.key && is_stored o) r.note ≡ record { node = n; key = k; cause = c } ∷ [] =
-      ap (λ l. departure n l (may_store e l && is_stored o) r.note) (sym own)
-      ∙ ap (λ b. departure n k b r.note) s
-      ∙ ap (departure n k false) note in
-      Contains-append_left (departure n r.key (may_store e r.key && is_stored o) r.note) (departures_in n e o rs) this
-      (subst (λ l. Contains l this) (sym here) (Contains-push [] this))
-  go later false g =
-      Contains-append_right (departure n r.key (may_store e r.key && is_stored o) r.note) (departures_in n e o rs) this
-      (later (sym (ap (λ b. cond b (Some r.note) (first_removal k rs)) g) ∙ f))
+  stored_none_in : (rs : List Removal) → is_key k (stored_key e o) ≡ true → key_departures k (departures_in n e o rs) ≡ []
+  stored_none_in [] h = refl
+  stored_none_in (r ∷ rs) h =
+      filter-append (λ (d : PlainDeparture). same_key k d.key) here (departures_in n e o rs)
+      ∙ ap (λ l. l ++ key_departures k (departures_in n e o rs)) (key_departure r.key (is_key r.key (stored_key e o)) r.note (same_key k r.key) refl ∙ go (same_key k r.key) refl)
+      ∙ stored_none_in rs h
+    where
+      here : List PlainDeparture
+      here = departure n r.key (is_key r.key (stored_key e o)) r.note
 
--- what an event tells of a key that left
-abbrev cause_in : Option EventKind → Option Cause
-cause_in None = None
-cause_in (Some (kind.Left c)) = Some c
-cause_in (Some (kind.Stored q)) = None
-cause_in (Some (kind.Replaced q)) = None
-cause_in (Some (kind.Moved p q)) = None
+      go : (b : Bool) → same_key k r.key ≡ b → cond b here [] ≡ []
+      go true g = none_stored r.key r.note (is_key r.key (stored_key e o)) (ap (λ l. is_key l (stored_key e o)) (sym (same_key-exact k r.key g)) ∙ h)
+      go false g = refl
 
-stored_none : (b : Bool) (o : Option ClassQueue) → cause_in (stored_event b o) ≡ None
-stored_none true None = refl
-stored_none false None = refl
-stored_none true (Some p) = refl
-stored_none false (Some p) = refl
+module _ (n : ℕ) (k : List ℕ) where
+  -- what an event tells
+  abbrev tells : Option EventKind → List PlainDeparture
+  tells a = story_departures k (told n a)
 
-moved_none : (b : Bool) (p q : ClassQueue) → cause_in (cond b None (Some (kind.Moved p.queue q.queue))) ≡ None
-moved_none true p q = refl
-moved_none false p q = refl
+  stored_none : (b : Bool) (o : Option ClassQueue) → tells (stored_event b o) ≡ []
+  stored_none true None = refl
+  stored_none false None = refl
+  stored_none true (Some p) = refl
+  stored_none false (Some p) = refl
 
-stays_none : (p q : Option ClassQueue) → cause_in (moved_event p q) ≡ None
-stays_none None q = refl
-stays_none (Some p) None = refl
-stays_none (Some p) (Some q) = moved_none (queue_number p.queue == queue_number q.queue) p q
+  moved_none : (b : Bool) (p q : ClassQueue) → tells (cond b None (Some (kind.Moved p.queue q.queue))) ≡ []
+  moved_none true p q = refl
+  moved_none false p q = refl
+
+  queues_none : (p q : Option ClassQueue) → tells (moved_event p q) ≡ []
+  queues_none None q = refl
+  queues_none (Some p) None = refl
+  queues_none (Some p) (Some q) = moved_none (queue_number p.queue == queue_number q.queue) p q
+
+  -- of a key that is held as it was
+  stays_none : (p q : Option KeyPlace) (cause : Option Cause) → is_some q ≡ is_some p → tells (other_event p q cause) ≡ []
+  stays_none None q cause e = refl
+  stays_none (Some p) None cause e = absurd (false≢true e)
+  stays_none (Some p) (Some q) cause e = queues_none p.lru q.lru
+
+  -- of a key that left
+  left_one : (p q : Option KeyPlace) (cause : Option Cause) (c : Cause) → is_some p ≡ true → is_some q ≡ false → cause ≡ Some c → tells (other_event p q cause) ≡ record { node = n; key = k; cause = c } ∷ []
+  left_one None q cause c w g e = absurd (false≢true w)
+  left_one (Some p) (Some q) cause c w g e = absurd (false≢true (sym g))
+  left_one (Some p) None cause c w g e = ap (λ a. tells (other_event (Some p) None a)) e
 
 place_some : (s : State) (o : Option ChunkRef) → is_some (key_place_at s o) ≡ is_some o
 place_some s None = refl
 place_some s (Some x) = refl
 
--- a key left: it was held before and is not after, and the cause is that of the states
-pub record Departs (held_before held_after : Bool) (cause : Option Cause) (c : Cause) : Type 0 where
-  pub was : held_before ≡ true
-  pub gone : held_after ≡ false
-  pub by : cause ≡ Some c
+module _ (n : ℕ) (s : State) (e : Step) (k : List ℕ) (sound : Sound s) where
+  was_held : is_some (key_place_of s k) ≡ held s k
+  was_held = place_some s (find s k)
 
-other_left : (p q : Option KeyPlace) (cause : Option Cause) (c : Cause) → cause_in (other_event p q cause) ≡ Some c → Departs (is_some p) (is_some q) cause c
-other_left None q cause c e = absurd (false≢true (ap is_some e))
-other_left (Some p) None None c e = absurd (false≢true (ap is_some e))
-other_left (Some p) None (Some a) c e = record { was = refl; gone = refl; by = e }
-other_left (Some p) (Some q) cause c e = absurd (false≢true (ap is_some (sym (stays_none p.lru q.lru) ∙ e)))
+  is_held : is_some (key_place_of (step s e).0 k) ≡ held (step s e).0 k
+  is_held = place_some (step s e).0 (find (step s e).0 k)
 
-module _ (n : ℕ) (s : State) (e : Step) (k : List ℕ) (c : Cause) (sound : Sound s) where
-  event_told : event s e k ≡ Some (kind.Left c) → Contains (departures_at n s e) (record { node = n; key = k; cause = c })
+  unstored_told : stores s e k ≡ false → Leaves k s (step s e).0 (step_removals s e) (cause_of s e k) → key_departures k (departures_in n e (step s e).1 (step_removals s e)) ≡ tells n k (other_event (key_place_of s k) (key_place_of (step s e).0 k) (cause_of s e k))
+  unstored_told f (stays_so h m) =
+      key_departures_in n e (step s e).1 k (step_removals s e) ∙ ap (departures_in n e (step s e).1) m
+      ∙ sym (stays_none n k (key_place_of s k) (key_place_of (step s e).0 k) (cause_of s e k) (is_held ∙ h ∙ sym was_held))
+  unstored_told f (leaves c was gone told is) =
+      key_departures_in n e (step s e).1 k (step_removals s e) ∙ ap (departures_in n e (step s e).1) told
+      ∙ ap (λ b. departure n k b (Some c) ++ []) f
+      ∙ sym (left_one n k (key_place_of s k) (key_place_of (step s e).0 k) (cause_of s e k) c (was_held ∙ was) (is_held ∙ gone) is)
+
+  node_told : key_departures k (departures_at n s e) ≡ story_departures k (told n (event s e k))
   unfolding outcome_of
-  event_told h = go (stores s e k) refl where
-    go : (b : Bool) → stores s e k ≡ b → Contains (departures_at n s e) (record { node = n; key = k; cause = c })
-    go true f =
-        let told : cause_in (event_by true (key_place_of s k) (key_place_of (step s e).0 k) (cause_of s e k)) ≡ Some c =
-        ap (λ b. cause_in (event_by b (key_place_of s k) (key_place_of (step s e).0 k) (cause_of s e k))) (sym f) ∙ ap cause_in h in
-        absurd (false≢true (ap is_some (sym (stored_none (is_some (key_place_of s k)) (class_queue_of (key_place_of (step s e).0 k))) ∙ told)))
-    go false f =
-        let told : cause_in (event_by false (key_place_of s k) (key_place_of (step s e).0 k) (cause_of s e k)) ≡ Some c =
-        ap (λ b. cause_in (event_by b (key_place_of s k) (key_place_of (step s e).0 k) (cause_of s e k))) (sym f) ∙ ap cause_in h in
-        let d = other_left (key_place_of s k) (key_place_of (step s e).0 k) (cause_of s e k) c told in
-        let caused = step_caused s sound e k (sym (place_some s (find s k)) ∙ d.was) (sym (place_some (step s e).0 (find (step s e).0 k)) ∙ d.gone) in
-        let same : Some caused.by ≡ Some c = sym caused.is ∙ d.by in
-        removal_told n e (step s e).1 k c (step_removals s e) f (caused.told ∙ ap Some same)
+  node_told = go (stores s e k) refl where
+    go : (b : Bool) → stores s e k ≡ b → key_departures k (departures_in n e (step s e).1 (step_removals s e)) ≡ tells n k (event_by b (key_place_of s k) (key_place_of (step s e).0 k) (cause_of s e k))
+    go true f = stored_none_in n e (step s e).1 k (step_removals s e) f ∙ sym (stored_none n k (is_some (key_place_of s k)) (class_queue_of (key_place_of (step s e).0 k)))
+    go false f = unstored_told f (step_leaves s sound e k f)
 
--- each event that tells that the key left is told with its node and cause
-are_none : (k : List ℕ) (ds : List PlainDeparture) → AreTold [] k ds
-are_none k ds n c h = absurd (no_element (record { node = n; kind = kind.Left c }) h)
-
-node_told : (n : ℕ) (s : State) (e : Step) (k : List ℕ) → Sound s → AreTold (told n (event s e k)) k (departures_at n s e)
-node_told n s e k sound m c h = go (event s e k) refl h where
-  kind_in : Event → Option Cause
-  kind_in v = cause_in (Some v.kind)
-
-  go : (o : Option EventKind) → event s e k ≡ o → Contains (told n o) (record { node = m; kind = kind.Left c }) → Contains (departures_at n s e) (record { node = m.0; key = k; cause = c })
-  go None f w = absurd (no_element (record { node = m; kind = kind.Left c }) w)
-  go (Some a) f w = elim (Contains-push_cases [] (record { node = record { 0 = n }; kind = a }) (record { node = m; kind = kind.Left c }) w) [
-    | inl o ↦ absurd (no_element (record { node = m; kind = kind.Left c }) o)
-    | inr o ↦
-        let node : n ≡ m.0 = ap (λ (v : Event). v.node.0) o in
-        let left : a ≡ kind.Left c = ap (λ (v : Event). v.kind) o in
-        subst (λ j. Contains (departures_at n s e) (record { node = j; key = k; cause = c })) node (event_told n s e k c sound (f ∙ ap Some left))
-  ]
-
-both_told : (k : List ℕ) (xs ys : List Event) (ds es : List PlainDeparture) → AreTold xs k es → AreTold ys k ds → AreTold (xs ++ ys) k (ds ++ reverse es)
-both_told k xs ys ds es a b n c h = elim (Contains-append_cases xs ys (record { node = n; kind = kind.Left c }) h) [
-  | inl o ↦ Contains-append_right ds (reverse es) (record { node = n.0; key = k; cause = c }) (contains_turned es (record { node = n.0; key = k; cause = c }) (a n c o))
-  | inr o ↦ Contains-append_left ds (reverse es) (record { node = n.0; key = k; cause = c }) (b n c o)
-]
-
--- the events below a node are told
+-- of the key, what stands below a node
 pub record ToldBelow (v : SessionState) (k : List ℕ) (node : ℕ) (ds : List PlainDeparture) : Type 0 where
   pub below : List Event
   pub splits : story v.root v.rows v.current k ≡ story v.root v.rows node k ++ below
-  pub known : AreTold below k ds
+  pub known : key_departures k (reverse ds) ≡ story_departures k below
+  pub rise : Rise node (story_departures k below)
 
-told_starts : (v : SessionState) (k : List ℕ) (ds : List PlainDeparture) → ToldBelow v k v.current ds
-told_starts v k ds = record { below = []; splits = sym (append-nil (story v.root v.rows v.current k)); known = are_none k ds }
+told_starts : (v : SessionState) (k : List ℕ) (ds : List PlainDeparture) → ds ≡ [] → ToldBelow v k v.current ds
+told_starts v k ds e = record { below = []; splits = sym (append-nil (story v.root v.rows v.current k)); known = ap (λ l. key_departures k (reverse l)) e; rise = tt }
+
+rise_above : (m j : ℕ) (ds : List PlainDeparture) → j ≤ m → Rise m ds → Rise j ds
+rise_above m j [] le h = tt
+rise_above m j (d ∷ ds) le h = let up = h.0 in (omega (arith, le, up), h.1)
+
+-- behind others
+rise_behind : (m : ℕ) (xs ys : List PlainDeparture) → Rise m (xs ++ ys) → Rise 0 ys
+rise_behind m [] ys h = rise_above m 0 ys (omega arith) h
+rise_behind m (x ∷ xs) ys h = rise_behind x.node xs ys h.1
+
+-- an event of a node more
+rise_more : (k : List ℕ) (n parent : ℕ) (o : Option EventKind) (ys : List Event) → parent < n → Rise n (story_departures k ys) → Rise parent (story_departures k (told n o ++ ys))
+rise_more k n parent None ys lt h = rise_above n parent (story_departures k ys) (omega (arith, lt)) h
+rise_more k n parent (Some (kind.Left c)) ys lt h = (lt, h)
+rise_more k n parent (Some (kind.Stored q)) ys lt h = rise_above n parent (story_departures k ys) (omega (arith, lt)) h
+rise_more k n parent (Some (kind.Replaced q)) ys lt h = rise_above n parent (story_departures k ys) (omega (arith, lt)) h
+rise_more k n parent (Some (kind.Moved p q)) ys lt h = rise_above n parent (story_departures k ys) (omega (arith, lt)) h
+
+-- one node more, whose departures are these, the last first
+told_more : (k : List ℕ) (xs ys : List Event) (ds more here : List PlainDeparture) → more ≡ ds ++ reverse here → key_departures k here ≡ story_departures k xs → key_departures k (reverse ds) ≡ story_departures k ys → key_departures k (reverse more) ≡ story_departures k (xs ++ ys)
+told_more k xs ys ds more here me a b =
+    ap (λ l. key_departures k (reverse l)) me
+    ∙ ap (key_departures k) (reverse-append ds (reverse here) ∙ ap (λ l. l ++ reverse ds) (reverse-reverse here))
+    ∙ filter-append (λ (d : PlainDeparture). same_key k d.key) here (reverse ds)
+    ∙ ap (λ l. l ++ key_departures k (reverse ds)) a
+    ∙ ap (λ l. story_departures k xs ++ l) b
+    ∙ sym (filter_map-append (λ (e : Event). told_by k e.node e.kind) xs ys)
 
 -- at the d-th node of the way: the departures below it are there, the last first
 pub record Leaving (v : SessionState) (d : ℕ) (ds : List PlainDeparture) : Type 0 where
@@ -303,7 +318,7 @@ pub leave_starts : (v : SessionState) (ds : List PlainDeparture) → ds ≡ [] �
 leave_starts v ds e = record {
   climb = climb_starts v;
   so_far = ap (λ l. l ++ reverse (departures v.root v.rows v.current)) (sym e);
-  known = λ k. told_starts v k ds;
+  known = λ k. told_starts v k ds e;
 }
 
 module _ (v : SessionState) (d n : ℕ) (e : Step) (o : Outcome) (r : PlainRecord) where
@@ -314,11 +329,11 @@ module _ (v : SessionState) (d n : ℕ) (e : Step) (o : Outcome) (r : PlainRecor
       ∙ ap (λ a. departures_in n e a (step_removals (at v.root v.rows h.row.parent) e)) (sym h.answered)
       ∙ ap (departures_in n e o) (sym h.told.told)
 
-  record_told : (k : List ℕ) (h : Trailed v d n e o r) → AreTold (told n (event (at v.root v.rows h.row.parent) e k)) k (departures_in n e o (removals r.moves r.notes (at v.root v.rows n)))
+  record_told : (k : List ℕ) (h : Trailed v d n e o r) → key_departures k (departures_in n e o (removals r.moves r.notes (at v.root v.rows n))) ≡ story_departures k (told n (event (at v.root v.rows h.row.parent) e k))
   record_told k h =
-      subst (AreTold (told n (event (at v.root v.rows h.row.parent) e k)) k)
-      (ap (λ a. departures_in n e a (step_removals (at v.root v.rows h.row.parent) e)) (sym h.answered) ∙ ap (departures_in n e o) (sym h.told.told))
-      (node_told n (at v.root v.rows h.row.parent) e k h.before)
+      ap (λ l. key_departures k (departures_in n e o l)) h.told.told
+      ∙ ap (λ a. key_departures k (departures_in n e a (step_removals (at v.root v.rows h.row.parent) e))) h.answered
+      ∙ node_told n (at v.root v.rows h.row.parent) e k h.before
 
   node_more : (w : Climbs v d) (pos : 0 < d) (h : Trailed v d n e o r) → departures v.root v.rows w.node ≡ departures v.root v.rows h.row.parent ++ departures_in n e o (removals r.moves r.notes (at v.root v.rows n))
   node_more w pos h =
@@ -347,8 +362,9 @@ module _ (v : SessionState) (d n : ℕ) (e : Step) (o : Outcome) (r : PlainRecor
               splits = b.splits
                   ∙ ap (λ l. l ++ b.below) (story_more v d n e o r w.climb pos h k)
                   ∙ append_assoc (story v.root v.rows h.row.parent k) (told n (event (at v.root v.rows h.row.parent) e k)) b.below;
-              known = subst (AreTold (told n (event (at v.root v.rows h.row.parent) e k) ++ b.below) k) (sym me)
-                  (both_told k (told n (event (at v.root v.rows h.row.parent) e k)) b.below ds here (record_told k h) b.known);
+              known = told_more k (told n (event (at v.root v.rows h.row.parent) e k)) b.below ds more here me (record_told k h) b.known;
+              rise = rise_more k n h.row.parent (event (at v.root v.rows h.row.parent) e k) b.below (h.falls n h.row h.known)
+                  (subst (λ m. Rise m (story_departures k b.below)) (node_is v d n e o r w.climb pos h) b.rise);
             };
       }
 
@@ -372,12 +388,37 @@ pub leave_stops : (v : SessionState) (limit : Option ℕ) (count d : ℕ) (ds : 
 leave_stops v limit count d ds w e (inl t) = inl (ap (is_enough limit) (sym e) ∙ t)
 leave_stops v limit count d ds w e (inr o) = inr (at_end v d w.climb o)
 
--- where all are wanted, each event that tells that a key left is told
-pub leave_told : (v : SessionState) (limit : Option ℕ) (d : ℕ) (ds : List PlainDeparture) → Leaving v d ds → (is_enough limit (length ds) ≡ true) ⊎ (d ≡ 0) → limit ≡ None → (k : List ℕ) → AreTold (story v.root v.rows v.current k) k (reverse (at_most limit ds))
-leave_told v (Some m) d ds w o e k = absurd (false≢true (sym (ap is_some e)))
-leave_told v None d ds w (inl f) e k = absurd (false≢true f)
-leave_told v None d ds w (inr z) e k = λ n c h.
+-- the last of a key's departures, and those before them
+last_told : (m : ℕ) (k : List ℕ) (ds : List PlainDeparture) → key_departures k (reverse ds) ≡ key_departures k (reverse (drop m ds)) ++ key_departures k (reverse (take m ds))
+last_told m k ds =
+    ap (λ l. key_departures k (reverse l)) (sym (take-append-drop m ds))
+    ∙ ap (key_departures k) (reverse-append (take m ds) (drop m ds))
+    ∙ filter-append (λ (d : PlainDeparture). same_key k d.key) (reverse (drop m ds)) (reverse (take m ds))
+
+-- of each key, what its story tells
+pub leave_told : (v : SessionState) (limit : Option ℕ) (d : ℕ) (ds : List PlainDeparture) → Leaving v d ds → (is_enough limit (length ds) ≡ true) ⊎ (d ≡ 0) → AreTold limit (story v.root v.rows v.current) (reverse (at_most limit ds))
+leave_told v (Some m) d ds w o k =
+    let b = w.known k in
+    let above = story v.root v.rows w.climb.node k in
+    let older = key_departures k (reverse (drop m ds)) in
+    let last = last_told m k ds in
+    record {
+      older = story_departures k above ++ older;
+      exact = ap (story_departures k) b.splits
+          ∙ filter_map-append (λ (e : Event). told_by k e.node e.kind) above b.below
+          ∙ ap (λ l. story_departures k (story v.root v.rows w.climb.node k) ++ l) (sym b.known ∙ last)
+          ∙ sym (append_assoc (story_departures k above) older (key_departures k (reverse (take m ds))));
+      whole = λ e. absurd (false≢true (sym (ap is_some e)));
+      once = rise_behind w.climb.node older (key_departures k (reverse (take m ds))) (subst (Rise w.climb.node) (sym b.known ∙ last) b.rise);
+    }
+leave_told v None d ds w (inl f) k = absurd (false≢true f)
+leave_told v None d ds w (inr z) k =
     let b = w.known k in
     let all : story v.root v.rows v.current k ≡ b.below =
     b.splits ∙ ap (λ l. events_along v.root v.rows k l ++ b.below) (no_nodes (lineage v.rows w.climb.node) (w.climb.deep ∙ z)) in
-    contains_turned ds (record { node = n.0; key = k; cause = c }) (b.known n c (subst (λ l. Contains l (record { node = n; kind = kind.Left c })) all h))
+    record {
+      older = [];
+      exact = ap (story_departures k) all ∙ sym b.known;
+      whole = λ e. refl;
+      once = rise_behind w.climb.node [] (key_departures k (reverse ds)) (subst (Rise w.climb.node) (sym b.known) b.rise);
+    }

@@ -5,7 +5,7 @@ use Rattle.std.proofs.lemmas.List.{reverse-append, append_assoc, append-nil}
 use Rattle.rev_model.specs.State.{State, find}
 use Rattle.rev_model.specs.Actor.{Step}
 use Rattle.rev_model.specs.Track.{held, key_place_at, key_place_of, chunk_of, key_change, key_place_before}
-use Rattle.rev_model.specs.Events.{may_store, is_stored, event, event_by}
+use Rattle.rev_model.specs.Events.{is_key, stored_key, event, event_by}
 use Rattle.rev_model.specs.declared.Cause.{Cause}
 use Rattle.rev_model.specs.declared.ChunkRef.{ChunkRef}
 use Rattle.rev_model.specs.declared.EventKind.{EventKind}
@@ -126,7 +126,7 @@ tell_skip v k low high place es falls w l still =
 pub tell_more : (v : SessionState) (k : List ℕ) (d n : ℕ) (e : Step) (o : Outcome) (r : PlainRecord) (place : Option KeyPlace) (es : List Event) → Telling v k d place es → 0 < d → Trailed v d n e o r
     → (change : Option KeyChange) → change ≡ key_change k (chunk_of place) r.moves r.notes
     → (before : Option KeyPlace) → before ≡ key_place_before k r.moves r.notes place
-    → (stored : Bool) → stored ≡ (may_store e k && is_stored o)
+    → (stored : Bool) → stored ≡ is_key k (stored_key e o)
     → (found : Option EventKind) → found ≡ event_by stored before place (note_of change)
     → (more : List Event) → more ≡ es ++ told n found
     → Telling v k (d - 1) before more

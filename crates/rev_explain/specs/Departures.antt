@@ -1,11 +1,11 @@
 -- The keys that left on the way from the root to a node, each with its cause.
 -- Rule of this project: what `:gone` tells. A step takes keys out of the index in an order of its own, each with a
 -- cause; a key that the step stores in the place of the old one has not left.
-use Rattle.std.specs.Prelude.{ℕ, Bool, false, cond, ◌&&◌, nat_le, List, [], ◌∷◌, ◌++◌, Option, None, Some, take, reverse}
+use Rattle.std.specs.Prelude.{ℕ, Bool, false, cond, nat_le, List, [], ◌∷◌, ◌++◌, Option, None, Some, take, reverse}
 use Rattle.rev_model.specs.State.{State}
 use Rattle.rev_model.specs.Actor.{Step}
 use Rattle.rev_model.specs.Causes.{step_removals}
-use Rattle.rev_model.specs.Events.{may_store, is_stored}
+use Rattle.rev_model.specs.Events.{is_key, stored_key}
 use Rattle.rev_model.specs.Track.{Removal}
 use Rattle.rev_model.specs.declared.Cause.{Cause}
 use Rattle.rev_model.specs.declared.Outcome.{Outcome}
@@ -27,7 +27,7 @@ departure n k stored (Some c) = cond stored [] (record { node = n; key = k; caus
 -- of the removals of a step that answered this, in their order
 abbrev pub departures_in : ℕ → Step → Outcome → List Removal → List PlainDeparture
 departures_in n e o [] = []
-departures_in n e o (r ∷ rs) = departure n r.key (may_store e r.key && is_stored o) r.note ++ departures_in n e o rs
+departures_in n e o (r ∷ rs) = departure n r.key (is_key r.key (stored_key e o)) r.note ++ departures_in n e o rs
 
 -- at node n, whose step was played at the state s
 abbrev pub departures_at : ℕ → State → Step → List PlainDeparture

@@ -3,7 +3,7 @@ ghost use Rattle.std.specs.Prelude.{◌≡◌, ◌==◌, ◌++◌, ◌&&◌, con
 ghost use Rattle.rev_model.specs.State.{find, queue_number};
 ghost use Rattle.rev_model.specs.Sound.{Sound};
 ghost use Rattle.rev_model.specs.Track.{key_place_of, key_change};
-ghost use Rattle.rev_model.specs.Events.{may_store, is_stored, event_by};
+ghost use Rattle.rev_model.specs.Events.{is_key, stored_key, event_by};
 ghost use Rattle.rev_requests.specs.Plain.{plain_step};
 ghost use Rattle.rev_undotree.specs.Rows.{at};
 ghost use Rattle.rev_explain.specs.Readings.{left_cause};
@@ -15,7 +15,7 @@ use rev_changes::RecordRef;
 use rev_inverse::Store;
 use rev_items::Key;
 use rev_model::{Cause, ClassQueue, KeyPlace, Outcome, Queue};
-use rev_requests::{ClientStep, KeyCommand, Step};
+use rev_requests::Step;
 use rev_undotree::{NodeId, Session};
 use std::alloc::{AllocError, Allocator};
 
@@ -78,43 +78,14 @@ pub fn why<A: Allocator + Clone>(session: &Session<A>, key: &Key<A>) -> Why
     }
 }
 
-/// Whether a step is a command that may store this key.
-fn may_store<A: Allocator>(step: &Step<A>, key: &Key<A>) -> bool
-    ensures { result ≡ may_store (plain_step step.now) key.now }
-{
-    match step {
-        Step::Client(client) => match client {
-            ClientStep::Store { key: stored, .. } => is_key(key, stored),
-            ClientStep::Join { key: joined, .. } => is_key(key, joined),
-            ClientStep::Keyed {
-                command,
-                key: named,
-            } => match command {
-                KeyCommand::Count(_) => is_key(key, named),
-                KeyCommand::Get | KeyCommand::Delete | KeyCommand::Touch(_) => false,
-            },
-            ClientStep::FlushAll { .. } => false,
-        },
-        Step::Actor(_) => false,
-        Step::Tune(_) => false,
-    }
-}
-
-/// Whether a command that may store a key did.
-fn is_stored(outcome: Outcome) -> bool
-    ensures { result ≡ is_stored outcome }
-{
-    match outcome {
-        Outcome::Stored | Outcome::Number(_) => true,
-        _ => false,
-    }
-}
-
 /// Whether a step that answered this stored the key.
 pub fn has_stored<A: Allocator>(step: &Step<A>, outcome: Outcome, key: &Key<A>) -> bool
-    ensures { result ≡ (may_store (plain_step step.now) key.now && is_stored outcome) }
+    ensures { result ≡ is_key key.now (stored_key (plain_step step.now) outcome) }
 {
-    may_store(step, key) && is_stored(outcome)
+    match step.stored_key(outcome) {
+        Some(stored) => is_key(key, stored),
+        None => false,
+    }
 }
 
 /// The event of a key that was held and still is, by its queues before and after the step.

@@ -1,5 +1,5 @@
 //! The keys that left on the way from the root to the current node.
-ghost use Rattle.std.specs.Prelude.{◌≡◌, ◌++◌, ◌<◌, ◌⊎◌, ℕ, List, None, length, reverse, true, IfOk, IfSome, IsNone};
+ghost use Rattle.std.specs.Prelude.{◌≡◌, ◌++◌, ◌<◌, ◌⊎◌, length, reverse, true, IfOk, IfSome, IsNone};
 ghost use Rattle.rev_model.specs.State.{State};
 ghost use Rattle.rev_model.specs.Track.{removals};
 ghost use Rattle.rev_requests.specs.Plain.{plain_step};
@@ -103,8 +103,11 @@ fn keep<'a, A: Allocator>(departures: &mut Vec<Departure<'a, A>, A>, limit: Opti
 
 /// The keys that left on the way from the root to the current node, the last `limit` of them or all: oldest first, and
 /// within a node in the order in which they left. A key that its own step stored in the place of the old one has not
-/// left; where all are wanted, each event of a story that tells that a key left is among them. Each record on the way is read once, from the current node up until there are as many as are wanted; none is
-/// turned. The list is the store's allocator's.
+/// left. Of each key they are those that its story tells, with their nodes and causes and in the same order: all of them,
+/// or the last where there is a limit. So a key stands at most once a node.
+///
+/// Each record on the way is read once, from the current node up until there are as many as are wanted; none is turned.
+/// The list is the store's allocator's.
 ///
 /// Err: a growth of the list was refused.
 pub fn departures<'a, A: Allocator + Clone>(
@@ -112,7 +115,7 @@ pub fn departures<'a, A: Allocator + Clone>(
     limit: Option<u32>,
 ) -> Result<Vec<Departure<'a, A>, A>, AllocError>
     ensures gone { IfOk result (λ gone. gone.items ≡ last_of limit (departures_of session.now.root session.now.rows session.now.current)) }
-    ensures told { IfOk result (λ gone. limit ≡ None → (k : List ℕ) → AreTold (story_of session.now.root session.now.rows session.now.current k) k gone.items) }
+    ensures told { IfOk result (λ gone. AreTold limit (story_of session.now.root session.now.rows session.now.current) gone.items) }
 {
     let mut departures = Vec::new(session.store().alloc()?);
     let mut depth = session.depth();

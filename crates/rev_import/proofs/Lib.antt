@@ -1,4 +1,6 @@
 pub mod Words
+pub mod Factors
+pub mod Usual
 pub mod Lines
 pub mod Numerals
 pub mod Rows

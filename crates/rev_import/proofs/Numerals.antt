@@ -1,14 +1,14 @@
 -- Numbers that were written are the numbers that are read.
 use Rattle.std.proofs.Common.{◌≡◌, ℕ, ℤ, pos, negsuc, suc, ◌-ℤ◌, ◌^◌, ◌<◌, ◌≤◌, ◌&&◌, true, false, List, [], ◌∷◌, length, refl, ◌∙◌, ap, arith, nat_lt, nat_le, cond, Some, None}
 use Rattle.std.specs.Fmt.{decimal, signed_decimal}
-use Rattle.std.proofs.lemmas.Bool.{le-leb, leb-true}
+use Rattle.std.proofs.lemmas.Bool.{le-leb, leb-true, ne_eqb}
 use Rattle.std.proofs.lemmas.Bool.Decides.{nat_tests}
 use Rattle.std.proofs.lemmas.Fmt.{digits_decimal, digits_value-decimal, decimal_nonempty, length-decimal-le}
 use Rattle.std.proofs.lemmas.Str.Parse.{IsDigitsTest, WeighsDigits, IsNumeralModel, numerals_by_weight}
 use Rattle.std.proofs.lemmas.Int.{ints}
 use lib.Signed.{mag}
 use Rattle.std.specs.List.{list_all}
-use Rattle.rev_script.specs.Number.{is_digit, value, is_number, number, number_u32, signed, negated, plain}
+use Rattle.rev_script.specs.Number.{is_digit, value, is_number, number, number_u32, signed, negated, plain, has}
 use Rattle.rev_items.specs.Keys.{is_key, is_key_byte}
 use Rattle.rev_import.specs.Writing.{is_word}
 use Rattle.rev_import.proofs.Words.{both, either}
@@ -16,7 +16,7 @@ use Rattle.rev_import.proofs.Words.{both, either}
 pub digit_from : (c : ℕ) → is_digit c ≡ true → (48 ≤ c) × (c ≤ 57)
 digit_from c h = grind (arith, nat_tests)
 
-digit_to : (c : ℕ) → 48 ≤ c → c ≤ 57 → is_digit c ≡ true
+pub digit_to : (c : ℕ) → 48 ≤ c → c ≤ 57 → is_digit c ≡ true
 digit_to c p q = either (nat_le 48 c) (nat_le c 57) (le-leb 48 c p) (le-leb c 57 q)
 
 tells_script_digits : IsDigitsTest (λ ds. list_all is_digit ds ≡ true)
@@ -31,6 +31,14 @@ weighs_script_digits = record { empty = refl; more = λ c cs k. refl }
 
 pub script_numerals : IsNumeralModel (λ ds. list_all is_digit ds ≡ true) value
 script_numerals = numerals_by_weight _ tells_script_digits value weighs_script_digits
+
+-- a byte that is below the digits does not stand among them
+pub digits_lack : (b : ℕ) → b < 48 → (w : List ℕ) → list_all is_digit w ≡ true → has b w ≡ false
+digits_lack b low [] h = refl
+digits_lack b low (x ∷ xs) h =
+    let k = both (is_digit x) (list_all is_digit xs) h in
+    let d = digit_from x k.0 in
+    rw (ne_eqb x b (λ e. omega (arith, e, d.0, low))) (digits_lack b low xs k.1)
 
 -- a number within its limit
 pub number-decimal : (limit n : ℕ) → n ≤ limit → n < 2 ^ 64 → number limit (decimal n) ≡ Some n
@@ -70,7 +78,7 @@ signed-signed_decimal (negsuc n) h = ap negated (number-decimal 2147483648 (suc 
 
 -- ---- words
 
-above_space : (w : List ℕ) → list_all is_digit w ≡ true → list_all (nat_lt 32) w ≡ true
+pub above_space : (w : List ℕ) → list_all is_digit w ≡ true → list_all (nat_lt 32) w ≡ true
 above_space [] h = refl
 above_space (b ∷ bs) h =
     let k = both (is_digit b) (list_all is_digit bs) h in

@@ -1,5 +1,5 @@
 -- What each line that is written asks for.
-use Rattle.std.proofs.Common.{◌≡◌, ℕ, ◌+◌, ◌<◌, ◌≤◌, ◌^◌, ◌==◌, ℤ, ◌⊎◌, inl, inr, true, false, List, [], ◌∷◌, ◌++◌, length, take, nat_lt, cond, append_assoc, length-append, append-nil, refl, sym, ◌∙◌, ap, subst, arith, Bool, codes, Some, Result, Ok, Err, OnOk}
+use Rattle.std.proofs.Common.{◌≡◌, ℕ, ◌+◌, ◌<◌, ◌≤◌, ◌^◌, ◌==◌, ◌&&◌, ℤ, ◌⊎◌, inl, inr, true, false, List, [], ◌∷◌, ◌++◌, length, take, nat_lt, cond, append_assoc, length-append, append-nil, refl, sym, ◌∙◌, ap, subst, arith, Bool, codes, Some, Result, Ok, Err, OnOk}
 use Rattle.std.specs.Fmt.{decimal, signed_decimal}
 use Rattle.std.proofs.Math.ListN.{replicate}
 use Rattle.std.proofs.lemmas.List.{length-replicate}
@@ -7,6 +7,7 @@ use Rattle.std.specs.Bool.{if◌then◌else◌}
 use Rattle.std.specs.Result.{is_ok}
 use Rattle.std.proofs.lemmas.Slice.Eq.{bytes_eq-Decides}
 use Rattle.std.proofs.lemmas.Bool.{ne_eqb, le-ltb}
+use Rattle.std.proofs.lemmas.Bool.Decides.{nat_tests}
 use Rattle.std.proofs.lemmas.Fmt.{length-decimal-le, digits_decimal}
 use Rattle.std.specs.Int.Bits.{bit_or, or_zero_l}
 use Rattle.std.specs.List.{list_all, slice_split}
@@ -16,26 +17,28 @@ use Rattle.rev_items.specs.Keys.{is_key}
 use Rattle.rev_model.specs.declared.Queue.{Queue}
 use Rattle.rev_model.specs.declared.Queue.TheVariants.{Hot, Warm, Cold, Temp}
 use Rattle.rev_model.specs.declared.ClassSet.TheVariants.{These, All}
-use Rattle.rev_script.specs.Number.{number, number_u32, signed, is_digit, has, ids, id_or_0}
-use Rattle.rev_script.specs.Commands.{command, clock_of, verb_of, side_of, actor_command, other_command, memory_command, retrieval_command, delete_command, storage_command, storage_line, queue_of, with_queue, crawler_command, slabs_command, reassign_of, lru_command, temp_ttl_of}
+use Rattle.rev_script.specs.Number.{number, number_u32, signed, is_digit, is_factor, factor, has, ids, id_or_0}
+use Rattle.rev_script.specs.Commands.{command, clock_of, verb_of, side_of, actor_command, other_command, memory_command, retrieval_command, delete_command, storage_command, storage_line, queue_of, with_queue, crawler_command, slabs_command, reassign_of, lru_command, temp_ttl_of, tune_command, tune_percent, tune_of}
 use Rattle.rev_requests.specs.declared.clients.KeyCommand.TheVariants as keyed
 use Rattle.rev_requests.specs.declared.actors.ActorStep.{ActorStep}
 use Rattle.rev_requests.specs.declared.actors.ActorStep.TheVariants as actors
+use Rattle.rev_requests.specs.Limits.{is_tune}
 use Rattle.rev_script.proofs.Places.{split_none}
 use Rattle.rev_script.proofs.Front.{take_front, drop_front}
 use Rattle.rev_script.specs.Commands as commands
 use Rattle.rev_script.specs.declared.dialect.Dialect.TheVariants.{CrLf}
 use Rattle.rev_script.specs.declared.command.StorageCommand.{StorageCommand}
-use Rattle.rev_script.specs.declared.command.BadAnswer.TheVariants.{BadFormat, BadChunk}
+use Rattle.rev_script.specs.declared.command.BadAnswer.TheVariants.{BadFormat, BadChunk, SharesOver80}
 use Rattle.rev_model.specs.Client.{Bytes, Skipped}
 use Rattle.rev_import.specs.declared.writing.Storing.{Storing}
 use Rattle.rev_import.specs.declared.writing.Storing.TheVariants.{Set, Add, Replace}
 use Rattle.rev_script.specs.declared.command.Command.{Command}
-use Rattle.rev_script.specs.declared.command.Command.TheVariants.{Retrieval, Update, Actor, Storage, Bad}
-use Rattle.rev_script.specs.Script.{ScriptLine, RetrievalLine, UpdateLine, ActorLine, StorageLine, BadLine, storage_line_of, payload_of, block_size, line_of}
-use Rattle.rev_import.specs.Writing.{Adds, IsLine, is_word, spaced, line_text, queue_name, storage, storage_name}
+use Rattle.rev_script.specs.declared.command.Command.TheVariants.{Retrieval, Update, Actor, Storage, Tune, Bad}
+use Rattle.rev_script.specs.Script.{ScriptLine, RetrievalLine, UpdateLine, ActorLine, StorageLine, TuneLine, BadLine, storage_line_of, payload_of, block_size, line_of}
+use Rattle.rev_import.specs.Writing.{Adds, IsLine, is_word, spaced, line_text, factor_text, queue_name, storage, storage_name}
 use Rattle.rev_import.proofs.Words.{both, either}
-use Rattle.rev_import.proofs.Numerals.{script_numerals, digit_from, number-decimal, number_u32-decimal, signed-signed_decimal, is_word-decimal, is_word-signed, is_word-key}
+use Rattle.rev_import.proofs.Numerals.{script_numerals, digits_lack, number-decimal, number_u32-decimal, signed-signed_decimal, is_word-decimal, is_word-signed, is_word-key}
+use Rattle.rev_import.proofs.Factors.{within, is_word-factor, length-factor, is_factor-text, factor-text}
 use Rattle.rev_import.proofs.Lines.{line_whole, adds_line}
 
 -- a line without a data block
@@ -128,13 +131,6 @@ pub crawl_row : (n : ℕ) (q : Queue) (w v : List ℕ) → n < 2 ^ 32 → w ≡ 
 unfolding command actor_command
 crawl_row n q w v h e1 e2 = class_row (codes "~crawl") (λ m r. actors.Crawl m r) n q w v refl (omega arith) h e1 e2 refl
 
-digits_no_comma : (w : List ℕ) → list_all is_digit w ≡ true → has 44 w ≡ false
-digits_no_comma [] h = refl
-digits_no_comma (b ∷ bs) h =
-    let k = both (is_digit b) (list_all is_digit bs) h in
-    let d = digit_from b k.0 in
-    rw (ne_eqb b 44 (λ e. omega (arith, e, d.0))) (digits_no_comma bs k.1)
-
 no_true : (b : Bool) → (b ≡ true → ⊥) → b ≡ false
 no_true true h = absurd (h refl)
 no_true false h = refl
@@ -144,7 +140,7 @@ digits_not_all w h = no_true (bytes_eq w (codes "all")) (λ t. let e = ap (list_
 
 one_id : (n : ℕ) → n < 64 → ids (slice_split (λ b. b == 44) (decimal n)) ≡ 2 ^ n
 one_id n h =
-    ap ids (split_none 44 (decimal n) (digits_no_comma (decimal n) (digits_decimal script_numerals n (omega arith))))
+    ap ids (split_none 44 (decimal n) (digits_lack 44 (omega arith) (decimal n) (digits_decimal script_numerals n (omega arith))))
     ∙ ap (λ m. bit_or 0 (2 ^ id_or_0 m)) (number-decimal 63 n (omega arith) (omega arith))
     ∙ or_zero_l (2 ^ n)
 
@@ -180,6 +176,40 @@ temp_ttl_row z w h e =
     (omega (arith, length-append (signed_decimal z) [], s.1))
     (ap temp_ttl_of (signed-signed_decimal z h)) refl in
     subst (λ x. IsLine (line_text (codes "lru") (codes "temp_ttl" ∷ x ∷ [])) (ActorLine (actors.TempTtl z))) (sym e) row
+
+pub tune_row : (h w f v : ℕ) (hw ww fw vw : List ℕ) → is_tune h w f v ≡ true → hw ≡ decimal h → ww ≡ decimal w → fw ≡ factor_text f → vw ≡ factor_text v →
+    IsLine (line_text (codes "lru") (codes "tune" ∷ hw ∷ ww ∷ fw ∷ vw ∷ [])) (TuneLine (record { hot_share = h; warm_share = w; hot_factor = f; warm_factor = v }))
+unfolding command other_command verb_of side_of memory_command lru_command tune_command
+tune_row h w f v hw ww fw vw t e1 e2 e3 e4 =
+    let k = within h w f v t in
+    let ws : List (List ℕ) = codes "lru" ∷ codes "tune" ∷ decimal h ∷ decimal w ∷ factor_text f ∷ factor_text v ∷ [] in
+    let sum : nat_lt 80 (h + w) ≡ false = grind (arith, nat_tests, k.sum) in
+    let row =
+    plain_row (codes "lru") (codes "tune" ∷ decimal h ∷ decimal w ∷ factor_text f ∷ factor_text v ∷ []) (Tune (record { hot_share = h; warm_share = w; hot_factor = f; warm_factor = v })) refl
+    (either _ _ (is_word-decimal h (omega (arith, k.hot))) (either _ _ (is_word-decimal w (omega (arith, k.warm))) (either _ _ (is_word-factor f (omega (arith, k.hot_most))) (either _ _ (is_word-factor v (omega (arith, k.warm_most))) refl))))
+    (omega (arith, length-append (decimal h) (spaced (decimal w ∷ factor_text f ∷ factor_text v ∷ [])), length-append (decimal w) (spaced (factor_text f ∷ factor_text v ∷ [])), length-append (factor_text f) (spaced (factor_text v ∷ [])), length-append (factor_text v) [], length-decimal-le 20 h, length-decimal-le 20 w, length-factor f (omega (arith, k.hot_most)), length-factor v (omega (arith, k.warm_most)), k.hot, k.warm, k.hot_most, k.warm_most))
+    (ap (λ b. cond (b && is_factor (factor_text v)) (tune_percent (number_u32 (decimal h)) (number_u32 (decimal w)) ws) (Bad BadFormat)) (is_factor-text f (omega (arith, k.hot_most)))
+    ∙ ap (λ b. cond b (tune_percent (number_u32 (decimal h)) (number_u32 (decimal w)) ws) (Bad BadFormat)) (is_factor-text v (omega (arith, k.warm_most)))
+    ∙ ap (λ x. tune_percent x (number_u32 (decimal w)) ws) (number_u32-decimal h (omega (arith, k.hot)))
+    ∙ ap (λ x. tune_percent (Some h) x ws) (number_u32-decimal w (omega (arith, k.warm)))
+    ∙ ap (λ b. cond b (Bad SharesOver80) (tune_of h w (factor (factor_text f)) (factor (factor_text v)))) sum
+    ∙ ap (λ x. tune_of h w x (factor (factor_text v))) (factor-text f k.hot_most k.hot_least)
+    ∙ ap (λ x. tune_of h w (Some f) x) (factor-text v k.warm_most k.warm_least)
+    ∙ ap (λ b. cond b (Tune (record { hot_share = h; warm_share = w; hot_factor = f; warm_factor = v })) (Bad BadFormat)) t) refl in
+    let words : decimal h ∷ decimal w ∷ factor_text f ∷ factor_text v ∷ [] ≡ hw ∷ ww ∷ fw ∷ vw ∷ [] = cc in
+    subst (λ ws. IsLine (line_text (codes "lru") (codes "tune" ∷ ws)) (TuneLine (record { hot_share = h; warm_share = w; hot_factor = f; warm_factor = v }))) words row
+
+six_parts : (old f a0 a1 a2 a3 a4 e : List ℕ) → ((((((old ++ f) ++ a0) ++ a1) ++ a2) ++ a3) ++ a4) ++ e ≡ old ++ ((f ++ (a0 ++ (a1 ++ (a2 ++ (a3 ++ a4))))) ++ e)
+six_parts old f a0 a1 a2 a3 a4 e = simp append_assoc
+
+-- a line of five words behind its name that was written piece by piece
+pub five_behind : {E : Type 0} (r : Result (Unit {0}) E) (old z a b c d e new first w0 w1 w2 w3 w4 : List ℕ) → z ≡ old ++ first → a ≡ z ++ 32 ∷ w0 → b ≡ a ++ 32 ∷ w1 → c ≡ b ++ 32 ∷ w2 → d ≡ c ++ 32 ∷ w3 → e ≡ d ++ 32 ∷ w4 →
+    new ≡ (if is_ok r then e ++ codes "\r\n" else e) → OnOk r (new ≡ old ++ line_text first (w0 ∷ w1 ∷ w2 ∷ w3 ∷ w4 ∷ []))
+five_behind (Ok x) old z a b c d e new first w0 w1 w2 w3 w4 e0 e1 e2 e3 e4 e5 e6 =
+    e6 ∙ ap (λ t. t ++ codes "\r\n") (e5 ∙ ap (λ t. t ++ 32 ∷ w4) (e4 ∙ ap (λ t. t ++ 32 ∷ w3) (e3 ∙ ap (λ t. t ++ 32 ∷ w2) (e2 ∙ ap (λ t. t ++ 32 ∷ w1) (e1 ∙ ap (λ t. t ++ 32 ∷ w0) e0)))))
+    ∙ six_parts old first (32 ∷ w0) (32 ∷ w1) (32 ∷ w2) (32 ∷ w3) (32 ∷ w4) (codes "\r\n")
+    ∙ ap (λ t. old ++ ((first ++ ((32 ∷ w0) ++ ((32 ∷ w1) ++ ((32 ∷ w2) ++ ((32 ∷ w3) ++ t))))) ++ codes "\r\n")) (sym (append-nil (32 ∷ w4)))
+five_behind (Err x) old z a b c d e new first w0 w1 w2 w3 w4 e0 e1 e2 e3 e4 e5 e6 = tt
 
 -- ---- a store and its data
 

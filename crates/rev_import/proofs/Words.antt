@@ -1,5 +1,5 @@
 -- The words that were written are the words that are read.
-use Rattle.std.proofs.Common.{◌≡◌, ◌≢◌, ℕ, ◌+◌, ◌<◌, ◌≤◌, ◌==◌, ◌&&◌, not, true, false, inl, inr, List, [], ◌∷◌, ◌++◌, length, map, refl, sym, ◌∙◌, ap, arith, nat_lt, append_assoc, append-nil, Bool, take, get_or, Bor}
+use Rattle.std.proofs.Common.{◌≡◌, ◌≢◌, ℕ, ◌+◌, ◌<◌, ◌≤◌, ◌==◌, ◌&&◌, not, true, false, inl, inr, List, [], ◌∷◌, ◌++◌, length, map, refl, sym, ◌∙◌, ap, arith, nat_lt, append_assoc, append-nil, Bool, take, get_or, Bor, eq-eqb}
 use Rattle.std.proofs.lemmas.Bool.{ne_eqb}
 use Rattle.std.proofs.lemmas.Bool.Decides.{eqb_tells, nat_tests}
 use Rattle.std.proofs.lemmas.List.{take_more, map_push, get_or-map, length-map}
@@ -38,25 +38,25 @@ has_lf-word (x ∷ xs) h =
 
 -- ---- what stands before and behind the first space
 
-has-then : (w rest : List ℕ) → has 32 w ≡ false → has 32 (w ++ 32 ∷ rest) ≡ true
-has-then [] rest h = refl
-has-then (x ∷ xs) rest h = elim (eqb_tells x 32) [
+pub has-then : (b : ℕ) (w rest : List ℕ) → has b w ≡ false → has b (w ++ b ∷ rest) ≡ true
+has-then b [] rest h = rw (eq-eqb b b refl) refl
+has-then b (x ∷ xs) rest h = elim (eqb_tells x b) [
   | inl p ↦ rw p.0 refl
-  | inr p ↦ rw p.0 (has-then xs rest (rw p.0 at h))
+  | inr p ↦ rw p.0 (has-then b xs rest (rw p.0 at h))
 ]
 
-until-then : (w rest : List ℕ) → has 32 w ≡ false → until 32 (w ++ 32 ∷ rest) ≡ w
-until-then [] rest h = refl
-until-then (x ∷ xs) rest h = elim (eqb_tells x 32) [
+pub until-then : (b : ℕ) (w rest : List ℕ) → has b w ≡ false → until b (w ++ b ∷ rest) ≡ w
+until-then b [] rest h = rw (eq-eqb b b refl) refl
+until-then b (x ∷ xs) rest h = elim (eqb_tells x b) [
   | inl p ↦ absurd (let q = rw p.0 at h in cc)
-  | inr p ↦ rw p.0 (ap (λ t. x ∷ t) (until-then xs rest (rw p.0 at h)))
+  | inr p ↦ rw p.0 (ap (λ t. x ∷ t) (until-then b xs rest (rw p.0 at h)))
 ]
 
-past-then : (w rest : List ℕ) → has 32 w ≡ false → past 32 (w ++ 32 ∷ rest) ≡ rest
-past-then [] rest h = refl
-past-then (x ∷ xs) rest h = elim (eqb_tells x 32) [
+pub past-then : (b : ℕ) (w rest : List ℕ) → has b w ≡ false → past b (w ++ b ∷ rest) ≡ rest
+past-then b [] rest h = rw (eq-eqb b b refl) refl
+past-then b (x ∷ xs) rest h = elim (eqb_tells x b) [
   | inl p ↦ absurd (let q = rw p.0 at h in cc)
-  | inr p ↦ rw p.0 (past-then xs rest (rw p.0 at h))
+  | inr p ↦ rw p.0 (past-then b xs rest (rw p.0 at h))
 ]
 
 some_word : (w : List ℕ) → nat_lt 0 (length w) ≡ true → (length w == 0) ≡ false
@@ -70,9 +70,9 @@ words-cons : (w rest : List ℕ) → is_word w ≡ true → words (w ++ 32 ∷ r
 words-cons w rest h =
     let k = both (nat_lt 0 (length w)) (list_all (nat_lt 32) w) h in
     let clean = has-word 32 w (omega arith) k.1 in
-    ap (λ ws. filter (λ v. not (length v == 0)) ws) (split_has 32 (w ++ 32 ∷ rest) (has-then w rest clean))
-    ∙ ap (λ u. filter (λ v. not (length v == 0)) (u ∷ slice_split (λ x. x == 32) (past 32 (w ++ 32 ∷ rest)))) (until-then w rest clean)
-    ∙ ap (λ r. filter (λ v. not (length v == 0)) (w ∷ slice_split (λ x. x == 32) r)) (past-then w rest clean)
+    ap (λ ws. filter (λ v. not (length v == 0)) ws) (split_has 32 (w ++ 32 ∷ rest) (has-then 32 w rest clean))
+    ∙ ap (λ u. filter (λ v. not (length v == 0)) (u ∷ slice_split (λ x. x == 32) (past 32 (w ++ 32 ∷ rest)))) (until-then 32 w rest clean)
+    ∙ ap (λ r. filter (λ v. not (length v == 0)) (w ∷ slice_split (λ x. x == 32) r)) (past-then 32 w rest clean)
     ∙ kept_first w (slice_split (λ x. x == 32) rest) k.0
 
 words-one : (w : List ℕ) → is_word w ≡ true → words w ≡ w ∷ []

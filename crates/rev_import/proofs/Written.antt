@@ -1,13 +1,13 @@
 -- Lines that were written, one behind another.
-use Rattle.std.proofs.Common.{◌≡◌, ℕ, ℤ, zero, suc, ◌<◌, ◌≤◌, Bool, true, false, List, [], ◌∷◌, ◌++◌, length, map, append_assoc, append-nil, refl, sym, ◌∙◌, ap, subst, arith, Some, Result, OnOk}
+use Rattle.std.proofs.Common.{◌≡◌, ℕ, ℤ, zero, suc, ◌<◌, ◌≤◌, Bool, true, false, List, [], ◌∷◌, ◌++◌, length, map, append_assoc, append-nil, refl, sym, ◌∙◌, ap, subst, arith, Some, None, Option, Result, OnOk}
 use Rattle.std.specs.List.{All, filter}
 use Rattle.std.specs.Prelude.{slice_index_or, if◌then◌else◌}
 use Rattle.std.proofs.lemmas.List.{map-append}
 use Rattle.std.proofs.lemmas.List.Elements.{All-append, filter-append}
-use Rattle.rev_script.specs.Script.{ScriptLine, ActorLine, RetrievalLine, UpdateLine, StorageLine, cuts}
+use Rattle.rev_script.specs.Script.{ScriptLine, ActorLine, TuneLine, RetrievalLine, UpdateLine, StorageLine, cuts}
 use Rattle.rev_script.specs.declared.dialect.Dialect.TheVariants.{CrLf}
 use Rattle.rev_requests.specs.declared.actors.ActorStep.{ActorStep}
-use Rattle.rev_requests.specs.declared.actors.ActorStep.TheVariants.{Clock}
+use Rattle.rev_requests.specs.declared.actors.ActorStep.TheVariants.{Clock, TempTtl}
 use Rattle.rev_requests.specs.declared.clients.KeyCommand.{KeyCommand}
 use Rattle.rev_script.specs.declared.command.StorageCommand.{StorageCommand}
 use Rattle.rev_model.specs.Client.{Payload}
@@ -15,6 +15,8 @@ use Rattle.rev_watch.specs.declared.event.Event.{Event}
 use Rattle.rev_watch.specs.declared.event.LogLine.{LogLine}
 use Rattle.rev_import.specs.Becoming.{Becomes, event_lines, store_lines}
 use Rattle.rev_import.specs.declared.writing.Storing.{Storing}
+use Rattle.rev_requests.specs.Limits.{PlainTune}
+use Rattle.rev_import.specs.Setup.{tune_lines, temp_ttl_lines, setup_lines}
 use Rattle.rev_import.specs.Writing.{Adds, AreLines, Writes, IsStep, is_client, whole_line}
 
 are_more : (t u : List ℕ) (ls ms : List ScriptLine) → AreLines t ls → AreLines u ms → AreLines (t ++ u) (ls ++ ms)
@@ -27,7 +29,7 @@ are_more t u ls ms a b = record {
       ∙ ap (λ x. x ++ cuts CrLf more) (sym (map-append whole_line ls ms));
 }
 
-adds_more : {a b c : List ℕ} {ls ms : List ScriptLine} → Adds a b ls → Adds b c ms → Adds a c (ls ++ ms)
+pub adds_more : {a b c : List ℕ} {ls ms : List ScriptLine} → Adds a b ls → Adds b c ms → Adds a c (ls ++ ms)
 adds_more {a} {b} {c} {ls} {ms} x y = record {
   text = x.text ++ y.text;
   behind = y.behind ∙ ap (λ z. z ++ y.text) x.behind ∙ append_assoc a x.text y.text;
@@ -41,13 +43,37 @@ one_step : (l : ScriptLine) → IsStep l → All IsStep (l ∷ [])
 one_step l s zero d h = s
 one_step l s (suc k) d h = absurd (omega (arith, h))
 
+pub adds_none : (a : List ℕ) → Adds a a []
+adds_none a = record { text = []; behind = sym (append-nil a); lines_are = record { cut = λ more. refl } }
+
 -- nothing was written
 pub writes_none : (a : List ℕ) → Writes a a []
 writes_none a = record {
   lines = [];
-  adds = record { text = []; behind = sym (append-nil a); lines_are = record { cut = λ more. refl } };
+  adds = adds_none a;
   steps = no_step;
   of_clients = refl;
+}
+
+setup_steps : (tune : Option PlainTune) (ttl : Option ℤ) → All IsStep (setup_lines tune ttl)
+setup_steps None None = no_step
+setup_steps None (Some n) = one_step (ActorLine (TempTtl n)) (_, refl)
+setup_steps (Some t) None = one_step (TuneLine t) (_, refl)
+setup_steps (Some t) (Some n) = All-append IsStep (TuneLine t ∷ []) (ActorLine (TempTtl n) ∷ []) (one_step (TuneLine t) (_, refl)) (one_step (ActorLine (TempTtl n)) (_, refl))
+
+setup_clients : (tune : Option PlainTune) (ttl : Option ℤ) → filter is_client (setup_lines tune ttl) ≡ []
+setup_clients None None = refl
+setup_clients None (Some n) = refl
+setup_clients (Some t) None = refl
+setup_clients (Some t) (Some n) = refl
+
+-- the lines of a setup, of which none is a client's
+pub setup_writes : (a b : List ℕ) (tune : Option PlainTune) (ttl : Option ℤ) → Adds a b (setup_lines tune ttl) → Writes a b []
+setup_writes a b tune ttl h = record {
+  lines = setup_lines tune ttl;
+  adds = h;
+  steps = setup_steps tune ttl;
+  of_clients = setup_clients tune ttl;
 }
 
 -- first the ones, then the others

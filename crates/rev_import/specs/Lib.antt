@@ -1,2 +1,4 @@
 pub mod Becoming
+pub mod Figures
+pub mod Setup
 pub mod Writing

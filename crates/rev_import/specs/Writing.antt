@@ -1,6 +1,7 @@
 -- What an import writes: lines of a script, one behind another, each whole with its data block.
 -- Rule of this project: each line that is written is read as exactly one step.
-use Rattle.std.specs.Prelude.{◌≡◌, ℕ, Bool, true, ◌&&◌, nat_lt, List, ◌∷◌, ◌++◌, length, map, codes}
+use Rattle.std.specs.Prelude.{◌≡◌, ℕ, ◌+◌, ◌/◌, ◌%◌, Bool, true, ◌&&◌, nat_lt, List, ◌∷◌, ◌++◌, length, map, codes}
+use Rattle.std.specs.Fmt.{decimal}
 use Rattle.std.specs.List.{list_all, concat, filter}
 use Rattle.std.specs.Prelude.{All, Some, false, []}
 use Rattle.rev_model.specs.declared.Queue.{Queue}
@@ -61,6 +62,14 @@ spaced ws = concat (map (λ w. 32 ∷ w) ws)
 -- the words of a line, parted by single spaces, and CR LF
 abbrev pub line_text : List ℕ → List (List ℕ) → List ℕ
 line_text first rest = first ++ spaced rest ++ codes "\r\n"
+
+-- the three digits behind the point of a factor of so many thousandths
+abbrev pub behind_point : ℕ → List ℕ
+behind_point n = (48 + (n / 100) % 10) ∷ (48 + (n / 10) % 10) ∷ (48 + n % 10) ∷ []
+
+-- a factor of so many thousandths: digits, a point (46) and three digits
+abbrev pub factor_text : ℕ → List ℕ
+factor_text n = decimal (n / 1000) ++ 46 ∷ behind_point n
 
 -- the storage command, and its name
 abbrev pub storage : Storing → StorageCommand

@@ -1,7 +1,9 @@
 //! What an import counted.
+ghost use Rattle.std.specs.Prelude.{◌≡◌};
+ghost use Rattle.rev_import.specs.Figures.{one_more, no_figures};
 
 /// How many events there were of each kind.
-#[derive(Clone, Copy, Debug, PartialEq, Eq, Default)]
+#[derive(Clone, Copy, Debug, PartialEq, Eq)]
 pub struct EventCounts {
     pub look_ups: u64,
     pub stores: u64,
@@ -16,7 +18,7 @@ pub struct EventCounts {
 }
 
 /// What an import counted. Each count stays at the most that 64 bits hold.
-#[derive(Clone, Copy, Debug, PartialEq, Eq, Default)]
+#[derive(Clone, Copy, Debug, PartialEq, Eq)]
 pub struct Figures {
     /// Events that were taken.
     pub events: EventCounts,
@@ -40,7 +42,41 @@ pub struct Figures {
     pub lines: u64,
 }
 
+impl Figures {
+    /// Nothing was counted.
+    pub fn none() -> Figures
+        ensures { result ≡ no_figures }
+    {
+        let events = EventCounts {
+            look_ups: 0,
+            stores: 0,
+            deletions: 0,
+            evictions: 0,
+            page_moves: 0,
+            crawl_ends: 0,
+            connections: 0,
+            unknown: 0,
+        };
+        Figures {
+            events,
+            hits: 0,
+            misses: 0,
+            own_look_ups: 0,
+            deletes_in_place: 0,
+            deletes_late: 0,
+            unexplained: 0,
+            too_large: 0,
+            other_classes: 0,
+            lines: 0,
+        }
+    }
+}
+
 /// One more, or as many where 64 bits hold no more.
-pub fn one_more(count: &mut u64) {
-    *count = count.saturating_add(1);
+pub fn one_more(count: &mut u64)
+    ensures { count.new ≡ one_more count.old }
+{
+    if *count < u64::MAX {
+        *count += 1;
+    }
 }

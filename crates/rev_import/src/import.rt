@@ -2,6 +2,7 @@
 ghost use Rattle.std.specs.Prelude.{◌≡◌, ◌++◌, ◌∷◌, ◌-◌, [], length, OnOk, Some, None};
 ghost use Rattle.std.specs.Option.{option_copied};
 ghost use Rattle.rev_import.specs.Becoming.{Moves, evicted_key};
+ghost use Rattle.rev_import.specs.Figures.{no_figures};
 
 use crate::figures::{EventCounts, Figures, one_more};
 use crate::guess::Guesses;
@@ -63,18 +64,20 @@ fn count<A: Allocator>(event: &Event<A>, counts: &mut EventCounts) {
 impl<A: Allocator + Copy> Import<A> {
     /// An import into a store of these classes. No memory is taken.
     pub fn new(alloc: A, classes: ClassTable, rhythm: Rhythm) -> Import<A>
-        ensures { result.waiting ≡ [] }
+        ensures { result ≡ record { waiting = []; figures = no_figures } }
     {
         Import {
             waiting: VecDeque::new(alloc),
             guesses: Guesses::new(alloc),
             scribe: Scribe::new(classes, rhythm),
-            figures: Figures::default(),
+            figures: Figures::none(),
         }
     }
 
-    // Writes the lines of the event that waits longest.
-    fn write_first<B: Allocator>(&mut self, out: &mut Vec<u8, B>) -> Result<(), AllocError>
+    /// Writes the lines of the event that waits longest, where any does.
+    ///
+    /// Err: memory was refused; the import is no longer of use.
+    pub fn write_first<B: Allocator>(&mut self, out: &mut Vec<u8, B>) -> Result<(), AllocError>
         ensures moves { OnOk result (Moves self.old.waiting self.new.waiting out.old.items out.new.items) }
         ensures fewer { OnOk result (length self.new.waiting ≡ length self.old.waiting - 1) }
     {
@@ -127,6 +130,13 @@ impl<A: Allocator + Copy> Import<A> {
             self.write_first(out)?;
         }
         Ok(())
+    }
+
+    /// How many events wait.
+    pub fn waiting(&self) -> usize
+        ensures { result ≡ length self.now.waiting }
+    {
+        self.waiting.len()
     }
 
     /// What was counted so far.

@@ -1,6 +1,9 @@
 //! What a server was configured with, followed by lrudb's own configuration.
-ghost use Rattle.std.specs.Prelude.{◌≡◌, ◌≤◌, IfOk, None};
+ghost use Rattle.std.specs.Prelude.{◌≡◌, ◌≤◌, [], IfOk, IsOk, OnOk, Some, None};
+ghost use Rattle.std.specs.Int.{IsGcd};
 ghost use Rattle.rev_classes.specs.Limits.{fault_of, class_sizes};
+ghost use Rattle.rev_import.specs.Writing.{Adds, Writes};
+ghost use Rattle.rev_import.specs.Setup.{tune_lines, temp_ttl_lines, setup_lines, pages_of, memory_unfollowed, IsReduced, IsWanted, usual_factor, config_of, opened_config, factor_unfollowed, tune_of, tune_unfollowed, temp_ttl_of, temp_ttl_unfollowed, bound_of, chunk_unfollowed, item_unfollowed, Follows};
 
 use crate::writing::{put_temp_ttl, put_tune};
 use rev_classes::{ClassTable, Config, ConfigFault};
@@ -68,7 +71,11 @@ pub struct Setup {
 }
 
 // The pages for so many bytes.
-fn pages_of(max_bytes: u64) -> (u32, Option<Unfollowed>) {
+fn pages_of(max_bytes: u64) -> (u32, Option<Unfollowed>)
+    ensures pages { result.0 ≡ pages_of max_bytes }
+    ensures unfollowed { result.1 ≡ memory_unfollowed max_bytes }
+    ensures within { (1 ≤ result.0) × (result.0 ≤ 4096) }
+{
     let pages = max_bytes / u64::from(PAGE_SIZE);
     if pages < 1 {
         (1, Some(Unfollowed::TooLittleMemory))
@@ -79,24 +86,44 @@ fn pages_of(max_bytes: u64) -> (u32, Option<Unfollowed>) {
     }
 }
 
-// So many thousandths in lowest terms.
-fn reduced(thousandths: u32) -> Factor {
-    for divisor in (2..=1000).rev() {
-        if thousandths % divisor == 0 && 1000 % divisor == 0 {
-            return Factor {
-                num: thousandths / divisor,
-                den: 1000 / divisor,
-            };
-        }
+// The greatest number that divides both.
+fn common_divisor(first: u32, second: u32) -> u32
+    ensures { IsGcd first second result }
+{
+    let (mut dividend, mut divisor) = (first, second);
+    while divisor != 0 {
+        let rest = dividend % divisor;
+        dividend = divisor;
+        divisor = rest;
     }
+    dividend
+}
+
+// So many thousandths in lowest terms.
+fn reduced(thousandths: u32) -> Factor
+    ensures { IsReduced thousandths result }
+{
+    let divisor = common_divisor(thousandths, 1000);
     Factor {
-        num: thousandths,
-        den: 1000,
+        num: thousandths / divisor,
+        den: 1000 / divisor,
+    }
+}
+
+// The factor that was given, or else the server's, in thousandths.
+fn wanted(thousandths: u32, given: Option<Factor>) -> Factor
+    ensures { IsWanted thousandths given result }
+{
+    match given {
+        Some(factor) => factor,
+        None => reduced(thousandths),
     }
 }
 
 // The configuration of so many pages, with this factor.
-fn config_of(pages: u32, factor: Factor, temp_ttl: i32) -> Config {
+fn config_of(pages: u32, factor: Factor, temp_ttl: i32) -> Config
+    ensures { result ≡ config_of pages factor temp_ttl }
+{
     Config {
         page_size: PAGE_SIZE,
         pages,
@@ -110,7 +137,10 @@ fn config_of(pages: u32, factor: Factor, temp_ttl: i32) -> Config {
 }
 
 // The four numbers, where they are not those that lrudb begins with.
-fn tune_of(settings: &Settings) -> (Option<Tune>, Option<Unfollowed>) {
+fn tune_of(settings: &Settings) -> (Option<Tune>, Option<Unfollowed>)
+    ensures tune { result.0 ≡ tune_of settings.now }
+    ensures unfollowed { result.1 ≡ tune_unfollowed settings.now }
+{
     let (hot, warm) = (settings.hot_share, settings.warm_share);
     let (hot_factor, warm_factor) = (settings.hot_factor, settings.warm_factor);
     if hot == 20 && warm == 40 && hot_factor == 200 && warm_factor == 2000 {
@@ -123,20 +153,36 @@ fn tune_of(settings: &Settings) -> (Option<Tune>, Option<Unfollowed>) {
 }
 
 // The seconds below which a time to live leads to TEMP.
-fn temp_ttl_of(settings: &Settings) -> (Option<i32>, Option<Unfollowed>) {
+fn temp_ttl_of(settings: &Settings) -> (Option<i32>, Option<Unfollowed>)
+    ensures seconds { result.0 ≡ temp_ttl_of settings.now }
+    ensures unfollowed { result.1 ≡ temp_ttl_unfollowed settings.now }
+{
     if !settings.temp_lru {
         return (None, None);
     }
-    match i32::try_from(settings.temporary_ttl) {
-        Ok(seconds) => (Some(seconds), None),
-        Err(_) => (
+    if settings.temporary_ttl < 1 << 31 {
+        (Some(settings.temporary_ttl as i32), None)
+    } else {
+        (
             Some(i32::MAX),
             Some(Unfollowed::TemporaryTtl(settings.temporary_ttl)),
-        ),
+        )
     }
 }
 
-fn chunk_size_of(settings: &Settings) -> Option<Unfollowed> {
+// Below how many seconds an item enters TEMP; -1 where none does.
+fn bound_of(temp_ttl: Option<i32>) -> i32
+    ensures { result ≡ bound_of temp_ttl }
+{
+    match temp_ttl {
+        Some(seconds) => seconds,
+        None => -1,
+    }
+}
+
+fn chunk_size_of(settings: &Settings) -> Option<Unfollowed>
+    ensures { result ≡ chunk_unfollowed settings.now.chunk_size }
+{
     if settings.chunk_size == CHUNK_SIZE {
         None
     } else {
@@ -144,12 +190,47 @@ fn chunk_size_of(settings: &Settings) -> Option<Unfollowed> {
     }
 }
 
-fn item_size_of(settings: &Settings) -> Option<Unfollowed> {
+fn item_size_of(settings: &Settings) -> Option<Unfollowed>
+    ensures { result ≡ item_unfollowed settings.now.item_size_max }
+{
     if settings.item_size_max == PAGE_SIZE {
         None
     } else {
         Some(Unfollowed::ItemSizeMax(settings.item_size_max))
     }
+}
+
+// How the limit is told that a factor breaks.
+fn factor_unfollowed(fault: ConfigFault) -> Unfollowed
+    ensures { Some result ≡ factor_unfollowed (Some fault) }
+{
+    match fault {
+        ConfigFault::TooManyClasses => Unfollowed::TooManyClasses,
+        _ => Unfollowed::Factor,
+    }
+}
+
+// The classes of a configuration that breaks no limit.
+fn classes_of(config: &Config) -> ClassTable
+    requires { fault_of config.now ≡ None }
+    ensures { result.sizes ≡ class_sizes config.entry.now }
+{
+    match ClassTable::build(config) {
+        Ok(classes) => classes,
+        Err(_) => unreachable!(),
+    }
+}
+
+// The configuration and its classes with the usual factor.
+fn usual(pages: u32, temp_ttl: i32) -> (Config, ClassTable)
+    requires { (1 ≤ pages) × (pages ≤ 4096) }
+    ensures config { result.0 ≡ config_of pages usual_factor temp_ttl }
+    ensures sound { fault_of result.0 ≡ None }
+    ensures classes { result.1.sizes ≡ class_sizes result.0 }
+{
+    let config = config_of(pages, USUAL_FACTOR, temp_ttl);
+    let classes = classes_of(&config);
+    (config, classes)
 }
 
 // The configuration and its classes; where the factor is not one of lrudb's, the usual one stands for it.
@@ -158,18 +239,21 @@ fn opened(
     factor: Factor,
     temp_ttl: i32,
 ) -> Result<(Config, ClassTable, Option<Unfollowed>), ConfigFault>
+    requires { (1 ≤ pages) × (pages ≤ 4096) }
+    ensures never { IsOk result }
+    ensures config { IfOk result (λ r. r.0 ≡ opened_config pages factor temp_ttl) }
     ensures sound { IfOk result (λ r. fault_of r.0 ≡ None) }
     ensures classes { IfOk result (λ r. r.1.sizes ≡ class_sizes r.0) }
+    ensures unfollowed { IfOk result (λ r. r.2 ≡ factor_unfollowed (fault_of (config_of pages factor temp_ttl))) }
 {
     let config = config_of(pages, factor, temp_ttl);
-    let unfollowed = match ClassTable::build(&config) {
-        Ok(classes) => return Ok((config, classes, None)),
-        Err(ConfigFault::TooManyClasses) => Unfollowed::TooManyClasses,
-        Err(_) => Unfollowed::Factor,
-    };
-    let config = config_of(pages, USUAL_FACTOR, temp_ttl);
-    let classes = ClassTable::build(&config)?;
-    Ok((config, classes, Some(unfollowed)))
+    match ClassTable::build(&config) {
+        Ok(classes) => Ok((config, classes, None)),
+        Err(fault) => {
+            let (config, classes) = usual(pages, temp_ttl);
+            Ok((config, classes, Some(factor_unfollowed(fault))))
+        }
+    }
 }
 
 /// What lrudb is to be opened with in the place of a server of these settings. The server shows its growth factor by
@@ -177,14 +261,16 @@ fn opened(
 ///
 /// Err: never, since what can't be followed is replaced.
 pub fn follow(settings: &Settings, factor: Option<Factor>) -> Result<Setup, ConfigFault>
+    ensures never { IsOk result }
+    ensures follows { IfOk result (Follows settings.now factor) }
     ensures sound { IfOk result (λ setup. fault_of setup.config ≡ None) }
     ensures classes { IfOk result (λ setup. setup.classes.sizes ≡ class_sizes setup.config) }
 {
     let (pages, memory) = pages_of(settings.max_bytes);
     let (tune, shares) = tune_of(settings);
     let (temp_ttl, seconds) = temp_ttl_of(settings);
-    let factor = factor.unwrap_or(reduced(settings.growth_factor));
-    let (config, classes, growth) = opened(pages, factor, temp_ttl.unwrap_or(-1))?;
+    let factor = wanted(settings.growth_factor, factor);
+    let (config, classes, growth) = opened(pages, factor, bound_of(temp_ttl))?;
     let (chunks, items) = (chunk_size_of(settings), item_size_of(settings));
     Ok(Setup {
         config,
@@ -195,13 +281,31 @@ pub fn follow(settings: &Settings, factor: Option<Factor>) -> Result<Setup, Conf
     })
 }
 
-/// Writes the first lines of a script: `lru tune` and `lru temp_ttl`, where they are asked for.
-pub fn put_setup<A: Allocator>(out: &mut Vec<u8, A>, setup: &Setup) -> Result<(), AllocError> {
-    if let Some(tune) = setup.tune {
-        put_tune(out, tune)?;
+// Writes `lru tune`, where it is asked for.
+fn put_tuning<A: Allocator>(out: &mut Vec<u8, A>, tune: Option<Tune>) -> Result<(), AllocError>
+    ensures { OnOk result (Adds out.old.items out.new.items (tune_lines tune)) }
+{
+    match tune {
+        Some(tune) => put_tune(out, tune),
+        None => Ok(()),
     }
-    if let Some(seconds) = setup.temp_ttl {
-        put_temp_ttl(out, seconds)?;
+}
+
+// Writes `lru temp_ttl`, where it is asked for.
+fn put_bound<A: Allocator>(out: &mut Vec<u8, A>, temp_ttl: Option<i32>) -> Result<(), AllocError>
+    ensures { OnOk result (Adds out.old.items out.new.items (temp_ttl_lines temp_ttl)) }
+{
+    match temp_ttl {
+        Some(seconds) => put_temp_ttl(out, seconds),
+        None => Ok(()),
     }
-    Ok(())
+}
+
+/// Writes the first lines of a script: `lru tune` and `lru temp_ttl`, where they are asked for. Each makes one step.
+pub fn put_setup<A: Allocator>(out: &mut Vec<u8, A>, setup: &Setup) -> Result<(), AllocError>
+    ensures lines { OnOk result (Adds out.old.items out.new.items (setup_lines setup.now.tune setup.now.temp_ttl)) }
+    ensures steps { OnOk result (Writes out.old.items out.new.items []) }
+{
+    put_tuning(out, setup.tune)?;
+    put_bound(out, setup.temp_ttl)
 }

@@ -1,11 +1,11 @@
 //! Lines of a script, written one behind another. Each is whole, with its data block, and makes exactly one step.
-ghost use Rattle.std.specs.Prelude.{◌≡◌, ◌++◌, ◌∷◌, [], ◌≤◌, ◌<◌, ◌^◌, length, map, codes, replicate, true, false, OnOk};
+ghost use Rattle.std.specs.Prelude.{◌≡◌, ◌++◌, ◌∷◌, [], ◌+◌, ◌%◌, ◌≤◌, ◌<◌, ◌^◌, length, map, codes, replicate, true, false, OnOk};
 ghost use Rattle.rev_model.specs.Client.{Bytes};
 ghost use Rattle.rev_model.specs.declared.ClassSet.TheVariants.{These};
 ghost use Rattle.rev_requests.specs.declared.clients.KeyCommand.TheVariants.{Delete};
 ghost use Rattle.rev_requests.specs.declared.actors.ActorStep.TheVariants.{Pull, Bump, Crawl, Advance, StartCrawl, Reassign, Clock, TempTtl};
-ghost use Rattle.rev_script.specs.Script.{RetrievalLine, UpdateLine, StorageLine, ActorLine};
-ghost use Rattle.rev_import.specs.Writing.{Adds, line_text, storage, storage_name, queue_name};
+ghost use Rattle.rev_script.specs.Script.{RetrievalLine, UpdateLine, StorageLine, ActorLine, TuneLine};
+ghost use Rattle.rev_import.specs.Writing.{Adds, line_text, factor_text, storage, storage_name, queue_name};
 
 use itoa::Buffer;
 use rev_items::Key;
@@ -222,28 +222,47 @@ pub fn put_temp_ttl<A: Allocator>(out: &mut Vec<u8, A>, seconds: i32) -> Result<
     )
 }
 
-// Writes a factor of so many thousandths with three digits behind its point.
-fn put_thousandths<A: Allocator>(out: &mut Vec<u8, A>, thousandths: u32) -> Result<(), AllocError> {
+// Writes a space and a word.
+fn put_word<A: Allocator>(out: &mut Vec<u8, A>, word: &[u8]) -> Result<(), AllocError>
+    ensures { OnOk result (out.new.items ≡ out.old.items ++ 32 ∷ word.now) }
+{
+    out.push(b' ')?;
+    out.extend_from_slice(word)
+}
+
+// The least digit of a number.
+fn digit(number: u32) -> u8
+    ensures { result ≡ 48 + number % 10 }
+{
+    b'0' + (number % 10) as u8
+}
+
+// Writes a space and a factor of so many thousandths, with three digits behind its point.
+fn put_factor<A: Allocator>(out: &mut Vec<u8, A>, thousandths: u32) -> Result<(), AllocError>
+    ensures { OnOk result (out.new.items ≡ out.old.items ++ 32 ∷ factor_text thousandths) }
+{
     let mut whole = Buffer::new();
-    out.extend_from_slice(whole.format(thousandths / 1000).as_bytes())?;
-    out.push(b'.')?;
-    for unit in [100, 10, 1] {
-        out.push(b'0' + (thousandths / unit % 10) as u8)?;
-    }
-    Ok(())
+    put_word(out, whole.format(thousandths / 1000).as_bytes())?;
+    let behind = [
+        b'.',
+        digit(thousandths / 100),
+        digit(thousandths / 10),
+        digit(thousandths),
+    ];
+    out.extend_from_slice(&behind)
 }
 
 /// Sets shares and age factors: `lru tune HOT WARM HOT_FACTOR WARM_FACTOR`, shares in per cent.
-pub fn put_tune<A: Allocator>(out: &mut Vec<u8, A>, tune: Tune) -> Result<(), AllocError> {
+pub fn put_tune<A: Allocator>(out: &mut Vec<u8, A>, tune: Tune) -> Result<(), AllocError>
+    ensures { OnOk result (Adds out.old.items out.new.items (TuneLine tune ∷ [])) }
+{
     let mut hot = Buffer::new();
     let mut warm = Buffer::new();
-    out.extend_from_slice(b"lru tune ")?;
-    out.extend_from_slice(hot.format(tune.hot_share()).as_bytes())?;
-    out.push(b' ')?;
-    out.extend_from_slice(warm.format(tune.warm_share()).as_bytes())?;
-    out.push(b' ')?;
-    put_thousandths(out, tune.hot_factor())?;
-    out.push(b' ')?;
-    put_thousandths(out, tune.warm_factor())?;
+    out.extend_from_slice(b"lru")?;
+    put_word(out, b"tune")?;
+    put_word(out, hot.format(tune.hot_share()).as_bytes())?;
+    put_word(out, warm.format(tune.warm_share()).as_bytes())?;
+    put_factor(out, tune.hot_factor())?;
+    put_factor(out, tune.warm_factor())?;
     out.extend_from_slice(b"\r\n")
 }

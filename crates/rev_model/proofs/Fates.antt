@@ -58,12 +58,6 @@ live_life s (Some i) a e = some_same (is_live s (Some i)) a e
 pub fate-alive : (s : State) (k : List ℕ) (a : Bool) → fate s k ≡ Some a → alive s k ≡ a
 fate-alive s k a e = live_life s (item_of s (find s k)) a e
 
-pub fate-some : (s : State) (k : List ℕ) → Indexed s → held s k ≡ true → fate s k ≡ Some (alive s k)
-fate-some s k d h = go (fate s k) refl (fate-held s k d ∙ h) where
-  go : (o : Option Bool) → fate s k ≡ o → is_some o ≡ true → o ≡ Some (alive s k)
-  go None e f = absurd (false≢true f)
-  go (Some a) e f = ap Some (sym (fate-alive s k a e))
-
 pub fate-none : (s : State) (k : List ℕ) → Indexed s → fate s k ≡ None → held s k ≡ false
 fate-none s k d e = sym (fate-held s k d) ∙ ap is_some e
 

@@ -2,13 +2,15 @@
 use Rattle.std.specs.Prelude.{◌||◌, ℕ, zero, suc, ◌≡◌, Bool, true, false, cond, not, List, [], ◌∷◌, ◌++◌, Option, None, Some, is_some, refl}
 use Rattle.std.proofs.Common.{sym, ◌∙◌, ap, subst}
 use Rattle.std.proofs.lemmas.Bool.{false≢true}
+use Rattle.std.proofs.lemmas.List.Elements.{filter-append}
 use Rattle.rev_items.specs.Plain.{PlainItem}
 use Rattle.rev_model.specs.State.{State, item_at, queue_of, free_of}
 use Rattle.rev_model.specs.Move.{with_free}
 use Rattle.rev_model.specs.Words.{is_dead, tail, over, idle, dropped, counted, inactive}
 use Rattle.rev_model.specs.Pull.{evicts, takes_all, warmed, cooled, pull, pull_tail, pull_item, pull_live, page_of, fronted, carved, or_carved, given, squeezed, squeezed_by, taken_or, room_by, room}
 use Rattle.rev_model.specs.Track.{same_key, Removal, removal}
-use Rattle.rev_model.proofs.Track.{first_removal}
+use Rattle.rev_model.proofs.Laws.{same_key-exact}
+use Rattle.rev_model.proofs.Track.{key_removals}
 use Rattle.rev_model.specs.Causes.{live_removals, item_removals, tail_removals, pull_removals, squeeze_removals, squeeze_removals_by, none_or, room_removals_by, room_removals}
 use Rattle.rev_model.specs.Events.{ByRoom, cause_by}
 use Rattle.rev_model.proofs.Fates.{Indexed, fate, Stays, stays, Drops, Refreshes, stays_fate, stays_indexed, drops_own, drops_other, drops_was, drops_indexed, Carries, carries_fate, carries_indexed, refreshes_fate, refreshes_indexed}
@@ -26,10 +28,14 @@ use Rattle.rev_model.specs.declared.PullMode.TheVariants.{Plain, Evicting, Share
 use Rattle.rev_model.specs.declared.Queue.{Queue}
 use Rattle.rev_model.specs.declared.Queue.TheVariants.{Hot, Warm, Cold, Temp}
 
--- what a part does to the key: it leaves it as it was, or takes it out and tells why
+-- the removal that tells that the key left for this cause
+abbrev pub removal_of : List ℕ → Cause → List Removal
+removal_of k c = record { key = k; note = Some c } ∷ []
+
+-- what a part does to the key: it leaves it as it was, and tells nothing of it, or takes it out and tells once why
 pub data Does (f : Bool → Cause) (k : List ℕ) (s t : State) (rs : List Removal) : Type 0 where
-  keeps : first_removal k rs ≡ None → fate t k ≡ fate s k → Does f k s t rs
-  takes : (a : Bool) → fate s k ≡ Some a → fate t k ≡ None → first_removal k rs ≡ Some (Some (f a)) → Does f k s t rs
+  keeps : key_removals k rs ≡ [] → fate t k ≡ fate s k → Does f k s t rs
+  takes : (a : Bool) → fate s k ≡ Some a → fate t k ≡ None → key_removals k rs ≡ removal_of k (f a) → Does f k s t rs
 
 pub record Goes (f : Bool → Cause) (k : List ℕ) (s t : State) (rs : List Removal) : Type 0 where
   pub does : Does f k s t rs
@@ -48,31 +54,21 @@ goes_drops f k s t x i c d h e = record { does = go (same_key k i.key) refl; ind
   go : (b : Bool) → same_key k i.key ≡ b → Does f k s t (removal (Some i) (Some c))
   go true g =
       takes (not (is_dead s.globals i)) (drops_was s t x i k d h g) (drops_own s t x i k h g)
-      (ap (λ b. cond b (Some (Some c)) None) g ∙ ap (λ u. Some (Some u)) e)
-  go false g = keeps (ap (λ b. cond b (Some (Some c)) None) g) (drops_other s t x i k d h g)
+      (ap (λ b. cond b (removal_of i.key c) []) g ∙ ap (λ l. removal_of l c) (sym (same_key-exact k i.key g)) ∙ ap (removal_of k) e)
+  go false g = keeps (ap (λ b. cond b (removal_of i.key c) []) g) (drops_other s t x i k d h g)
 
 pub goes_carries : (f : Bool → Cause) (k : List ℕ) (s t : State) (x y : ChunkRef) (i : PlainItem) → Indexed s → Carries s t x y i → Goes f k s t []
 goes_carries f k s t x y i d h = record { does = keeps refl (carries_fate s t x y i k d h); indexed = carries_indexed s t x y i d h }
 
 -- ---- one part after another
 
-abbrev pub or_later : Option (Option Cause) → Option (Option Cause) → Option (Option Cause)
-or_later None o = o
-or_later (Some n) o = Some n
-
-cond_later : (b : Bool) (n : Option Cause) (p o : Option (Option Cause)) → cond b (Some n) (or_later p o) ≡ or_later (cond b (Some n) p) o
-cond_later true n p o = refl
-cond_later false n p o = refl
-
-pub first_removal-append : (k : List ℕ) (xs ys : List Removal) → first_removal k (xs ++ ys) ≡ or_later (first_removal k xs) (first_removal k ys)
-first_removal-append k [] ys = refl
-first_removal-append k (r ∷ rs) ys =
-    ap (λ o. cond (same_key k r.key) (Some r.note) o) (first_removal-append k rs ys) ∙ cond_later (same_key k r.key) r.note (first_removal k rs) (first_removal k ys)
+pub key_removals-append : (k : List ℕ) (xs ys : List Removal) → key_removals k (xs ++ ys) ≡ key_removals k xs ++ key_removals k ys
+key_removals-append k xs ys = filter-append (λ (r : Removal). same_key k r.key) xs ys
 
 does_then : (f : Bool → Cause) (k : List ℕ) (s t u : State) (xs ys : List Removal) → Does f k s t xs → Does f k t u ys → Does f k s u (xs ++ ys)
-does_then f k s t u xs ys (keeps n e) (keeps m g) = keeps (first_removal-append k xs ys ∙ ap (λ o. or_later o (first_removal k ys)) n ∙ m) (g ∙ e)
-does_then f k s t u xs ys (keeps n e) (takes a w g r) = takes a (sym e ∙ w) g (first_removal-append k xs ys ∙ ap (λ o. or_later o (first_removal k ys)) n ∙ r)
-does_then f k s t u xs ys (takes a w e r) (keeps m g) = takes a w (g ∙ e) (first_removal-append k xs ys ∙ ap (λ o. or_later o (first_removal k ys)) r)
+does_then f k s t u xs ys (keeps n e) (keeps m g) = keeps (key_removals-append k xs ys ∙ ap (λ l. l ++ key_removals k ys) n ∙ m) (g ∙ e)
+does_then f k s t u xs ys (keeps n e) (takes a w g r) = takes a (sym e ∙ w) g (key_removals-append k xs ys ∙ ap (λ l. l ++ key_removals k ys) n ∙ r)
+does_then f k s t u xs ys (takes a w e r) (keeps m g) = takes a w (g ∙ e) (key_removals-append k xs ys ∙ ap (λ l. l ++ key_removals k ys) r ∙ ap (λ l. removal_of k (f a) ++ l) m)
 does_then f k s t u xs ys (takes a w e r) (takes b v g p) = absurd (false≢true (ap is_some (sym e ∙ v)))
 
 pub goes_then : (f : Bool → Cause) (k : List ℕ) (s t u : State) (xs ys : List Removal) → Goes f k s t xs → Goes f k t u ys → Goes f k s u (xs ++ ys)

@@ -1,5 +1,6 @@
--- The removals that a step's record tells give the cause that is read off the states of the step's parts.
-use Rattle.std.specs.Prelude.{ℕ, ◌≡◌, Bool, true, false, cond, not, List, [], ◌∷◌, ◌++◌, Option, None, Some, is_some, refl}
+-- What becomes of a key as a step's parts go one after another, and that the removals which the step's record tells
+-- say so, with the cause that is read off the states of the parts.
+use Rattle.std.specs.Prelude.{ℕ, ◌≡◌, Bool, true, false, cond, not, ◌&&◌, List, [], ◌∷◌, ◌++◌, Option, None, Some, is_some, refl}
 use Rattle.std.proofs.Common.{sym, ◌∙◌, ap, subst}
 use Rattle.std.proofs.lemmas.Bool.{false≢true}
 use Rattle.rev_items.specs.Plain.{PlainItem}
@@ -7,14 +8,15 @@ use Rattle.rev_model.specs.State.{State, item_at, find, owner_of}
 use Rattle.rev_model.specs.Words.{is_dead, dropped, queue_with}
 use Rattle.rev_model.specs.Client.{lookup, looked_at, looked_item, removed}
 use Rattle.rev_model.specs.Track.{held, Removal, removal}
-use Rattle.rev_model.proofs.Track.{first_removal}
+use Rattle.rev_model.proofs.Track.{key_removals}
 use Rattle.rev_model.specs.Causes.{dead_removals, looked_removals, look_removals, found_removals}
-use Rattle.rev_model.specs.Events.{Part, ByLookup, Stage, cause_by, cause_among}
+use Rattle.rev_model.specs.Events.{Part, ByLookup, Stage, cause_by, cause_among, is_stored}
 use Rattle.rev_model.proofs.Fates.{Indexed, fate, fate-held, fate-none, stays}
-use Rattle.rev_model.proofs.Leaving.{Does, keeps, takes, Goes, goes_stays, goes_drops, or_later, first_removal-append}
+use Rattle.rev_model.proofs.Leaving.{Does, keeps, takes, removal_of, Goes, goes_stays, goes_drops, key_removals-append}
 use Rattle.rev_model.specs.declared.ChunkRef.{ChunkRef}
 use Rattle.rev_model.specs.declared.Cause.{Cause}
 use Rattle.rev_model.specs.declared.Cause.TheVariants.{ReclaimedByHit}
+use Rattle.rev_model.specs.declared.Outcome.{Outcome}
 
 -- ---- a lookup, and what it found
 
@@ -76,38 +78,48 @@ cleared_goes f c k s d e (Some (x, i)) h =
 
 -- ---- from parts to the cause
 
--- the parts of a step with their removals, and behind them a rest that takes nothing out
-abbrev pub Walked : List ℕ → State → List Stage → List Removal → State → Type 0
-Walked k s [] rs t = held s k ≡ true → held t k ≡ true
-Walked k s (g ∷ gs) rs t = (first : List Removal) × (later : List Removal) × (rs ≡ first ++ later) × Goes (cause_by g.part) k s g.after first × Walked k g.after gs later t
+-- what stands behind the last part of a step, of a key that the step may store or not: where it does not, the key is
+-- held as it was, and nothing is told of it
+abbrev pub Ends : List ℕ → Bool → State → List Removal → State × Outcome → Type 0
+Ends k own s rs r = own && is_stored r.1 ≡ false → (held r.0 k ≡ held s k) × (key_removals k rs ≡ [])
 
--- the first removal of the key tells the cause
-pub record Caused (k : List ℕ) (rs : List Removal) (cause : Option Cause) : Type 0 where
-  pub by : Cause
-  pub is : cause ≡ Some by
-  pub told : first_removal k rs ≡ Some (Some by)
+-- the parts of a step with their removals, and what stands behind them
+abbrev pub Walked : List ℕ → Bool → State → List Stage → List Removal → State × Outcome → Type 0
+Walked k own s [] rs r = Ends k own s rs r
+Walked k own s (g ∷ gs) rs r = (first : List Removal) × (later : List Removal) × (rs ≡ first ++ later) × Goes (cause_by g.part) k s g.after first × Walked k own g.after gs later r
 
--- after one part
-caused_on : (k : List ℕ) (p : Part) (s t : State) (xs ys : List Removal) (later : Option Cause) (a : Bool) → fate s k ≡ Some a → Indexed t → Does (cause_by p) k s t xs → (fate t k ≡ Some a → Caused k ys later) → Caused k (xs ++ ys) (cond (held t k) later (Some (cause_by p a)))
-caused_on k p s t xs ys later a e d (keeps n f) h =
-    let rest : Caused k ys later = h (f ∙ e) in
-    let stays : held t k ≡ true = sym (fate-held t k d) ∙ ap is_some (f ∙ e) in
-    record {
-      by = rest.by;
-      is = ap (λ b. cond b later (Some (cause_by p a))) stays ∙ rest.is;
-      told = first_removal-append k xs ys ∙ ap (λ o. or_later o (first_removal k ys)) n ∙ rest.told;
-    }
-caused_on k p s t xs ys later a e d (takes b w f n) h =
-    let same : b ≡ a = cc in
-    let gone : held t k ≡ false = fate-none t k d f in
-    record {
-      by = cause_by p a;
-      is = ap (λ v. cond v later (Some (cause_by p a))) gone;
-      told = first_removal-append k xs ys ∙ ap (λ o. or_later o (first_removal k ys)) n ∙ ap (λ v. Some (Some (cause_by p v))) same;
-    }
+-- a key is held as it was, and nothing is told of it, or it left, which is told once, with the cause
+pub data Leaves (k : List ℕ) (s t : State) (rs : List Removal) (cause : Option Cause) : Type 0 where
+  stays_so : held t k ≡ held s k → key_removals k rs ≡ [] → Leaves k s t rs cause
+  leaves : (c : Cause) → held s k ≡ true → held t k ≡ false → key_removals k rs ≡ removal_of k c → cause ≡ Some c → Leaves k s t rs cause
 
-pub walked_caused : (k : List ℕ) (s : State) (gs : List Stage) (rs : List Removal) (t : State) (a : Bool) → Indexed s → Walked k s gs rs t → fate s k ≡ Some a → held t k ≡ false → Caused k rs (cause_among a k gs)
-walked_caused k s [] rs t a d w e gone = absurd (false≢true (sym gone ∙ w (sym (fate-held s k d) ∙ ap is_some e)))
-walked_caused k s (g ∷ gs) rs t a d w e gone =
-    subst (λ l. Caused k l (cause_among a k (g ∷ gs))) (sym w.2)
-    (caused_on k g.part s g.after w.0 w.1 (cause_among a k gs) a e w.3.indexed w.3.does (λ f. walked_caused k g.after gs w.1 t a w.3.indexed w.4 f gone))
+-- the life of the key's item, where it is held
+abbrev Lives : List ℕ → State → Bool → Type 0
+Lives k s a = (b : Bool) → fate s k ≡ Some b → b ≡ a
+
+-- after one part, which took nothing out
+left_later : (k : List ℕ) (p : Part) (s t u : State) (xs ys : List Removal) (later : Option Cause) (a : Bool) → held t k ≡ held s k → key_removals k xs ≡ [] → Leaves k t u ys later → Leaves k s u (xs ++ ys) (cond (held t k) later (Some (cause_by p a)))
+left_later k p s t u xs ys later a same n (stays_so h m) = stays_so (h ∙ same) (key_removals-append k xs ys ∙ ap (λ l. l ++ key_removals k ys) n ∙ m)
+left_later k p s t u xs ys later a same n (leaves c was gone told is) =
+    leaves c (sym same ∙ was) gone (key_removals-append k xs ys ∙ ap (λ l. l ++ key_removals k ys) n ∙ told) (ap (λ b. cond b later (Some (cause_by p a))) was ∙ is)
+
+-- after one part, which took the key out
+left_here : (k : List ℕ) (p : Part) (s t u : State) (xs ys : List Removal) (later : Option Cause) (a : Bool) → held s k ≡ true → held t k ≡ false → key_removals k xs ≡ removal_of k (cause_by p a) → Leaves k t u ys later → Leaves k s u (xs ++ ys) (cond (held t k) later (Some (cause_by p a)))
+left_here k p s t u xs ys later a was gone told (stays_so h m) =
+    leaves (cause_by p a) was (h ∙ gone) (key_removals-append k xs ys ∙ ap (λ l. l ++ key_removals k ys) told ∙ ap (λ l. removal_of k (cause_by p a) ++ l) m)
+    (ap (λ b. cond b later (Some (cause_by p a))) gone)
+left_here k p s t u xs ys later a was gone told (leaves c held_there g n is) = absurd (false≢true (sym gone ∙ held_there))
+
+left_on : (k : List ℕ) (p : Part) (s t u : State) (xs ys : List Removal) (later : Option Cause) (a : Bool) → Indexed s → Indexed t → Lives k s a → Does (cause_by p) k s t xs → (Lives k t a → Leaves k t u ys later) → Leaves k s u (xs ++ ys) (cond (held t k) later (Some (cause_by p a)))
+left_on k p s t u xs ys later a d e l (keeps n f) h =
+    left_later k p s t u xs ys later a (sym (fate-held t k e) ∙ ap is_some f ∙ fate-held s k d) n (h (λ b g. l b (sym f ∙ g)))
+left_on k p s t u xs ys later a d e l (takes b w f n) h =
+    left_here k p s t u xs ys later a (sym (fate-held s k d) ∙ ap is_some w) (fate-none t k e f) (n ∙ ap (λ v. removal_of k (cause_by p v)) (l b w))
+    (h (λ v g. absurd (false≢true (ap is_some (sym f ∙ g)))))
+
+-- what becomes of a key that the step does not store
+pub walked_leaves : (k : List ℕ) (own : Bool) (s : State) (gs : List Stage) (rs : List Removal) (r : State × Outcome) (a : Bool) → Indexed s → Lives k s a → Walked k own s gs rs r → own && is_stored r.1 ≡ false → Leaves k s r.0 rs (cause_among a k gs)
+walked_leaves k own s [] rs r a d l w h = let e = w h in stays_so e.0 e.1
+walked_leaves k own s (g ∷ gs) rs r a d l w h =
+    subst (λ q. Leaves k s r.0 q (cause_among a k (g ∷ gs))) (sym w.2)
+    (left_on k g.part s g.after r.0 w.0 w.1 (cause_among a k gs) a d w.3.indexed l w.3.does (λ m. walked_leaves k own g.after gs w.1 r a w.3.indexed m w.4 h))

@@ -1,23 +1,30 @@
 -- A key that a step stores is held after it.
-use Rattle.std.specs.Prelude.{ℕ, ℤ, ◌≡◌, Bool, true, false, cond, ◌&&◌, List, Option, None, Some, nat_eq, refl}
+use Rattle.std.specs.Prelude.{ℕ, ℤ, ◌≡◌, Bool, true, false, cond, List, Option, None, Some, is_some, nat_eq, refl}
 use Rattle.std.proofs.Common.{sym, ◌∙◌, ap}
 use Rattle.std.proofs.lemmas.Bool.{false≢true}
 use Rattle.std.specs.Fmt.{decimal}
 use Rattle.rev_items.specs.Plain.{PlainItem}
 use Rattle.rev_items.specs.Rules.{moment}
-use Rattle.rev_model.specs.State.{State}
+use Rattle.rev_model.specs.State.{State, find}
+use Rattle.rev_model.specs.Words.{linked, new_item}
 use Rattle.rev_model.specs.Pull.{room}
-use Rattle.rev_model.specs.Client.{ClientStep, Stores, Joins, Gets, Touches, Deletes, Flushes, Counts, Verb, Sets, Adds, Replaces, Cases, Side, Sum, Payload, Bytes, bytes_of, lookup, class_for, joined, is_number, digits_from, summed, refusal, failed, settled_by, stored_room, stored_class, rewritten_old, rewritten_room, rewritten_class, rewritten, join_found, count_as, count_found, client}
+use Rattle.rev_model.specs.Client.{ClientStep, Stores, Joins, Gets, Touches, Deletes, Flushes, Counts, Verb, Sets, Adds, Replaces, Cases, Side, Sum, Payload, Bytes, bytes_of, lookup, removed, renewed, class_for, joined, is_number, digits_from, summed, refusal, failed, settled_by, stored_room, stored_class, rewritten_old, rewritten_room, rewritten_class, rewritten, join_found, count_as, count_found, client}
 use Rattle.rev_model.specs.Actor.{Step, Client, Pull, Bump, CrawlStart, Crawl, Schedule, Advance, Clock, Tune, TempTtl, step}
-use Rattle.rev_model.specs.Track.{held, same_key}
-use Rattle.rev_model.proofs.Laws.{same_key-exact}
-use Rattle.rev_model.specs.Events.{stores, is_stored}
-use Rattle.rev_model.proofs.Fates.{Indexed}
+use Rattle.rev_model.specs.Track.{held}
+use Rattle.rev_model.proofs.Laws.{same_key-self, same_key-exact}
+use Rattle.rev_model.specs.Events.{stores, is_stored, is_key}
+use Rattle.rev_model.proofs.Fates.{Indexed, key_inserted}
 use Rattle.rev_model.proofs.Stages.{found_is}
-use Rattle.rev_model.proofs.Walks.{renewed_own}
 use Rattle.rev_model.specs.declared.ChunkRef.{ChunkRef}
 use Rattle.rev_model.specs.declared.Outcome.{Outcome}
 use Rattle.rev_model.specs.declared.Outcome.TheVariants as outcome
+
+-- the key of a new item is held
+linked_own : (c : ℕ) (x : ChunkRef) (i : PlainItem) (s : State) → held (linked c x i s) i.key ≡ true
+linked_own c x i s = ap is_some (key_inserted s i.key x i.key ∙ ap (λ b. cond b (Some x) (find s i.key)) (same_key-self i.key))
+
+renewed_own : (c : ℕ) (x : ChunkRef) (l value : List ℕ) (flags m : ℕ) (o : Option (ChunkRef × PlainItem)) (s : State) → held (renewed c x l value flags m o s) l ≡ true
+renewed_own c x l value flags m o s = linked_own c x (new_item s l value flags m) (removed o s)
 
 -- where the answer is that it was stored, the key is held
 abbrev Holds : List ℕ → State × Outcome → Type 0
@@ -92,33 +99,36 @@ count_holds l side n s (Some (x, i)) own = go (is_number i.value) where
       ∙ rewritten_holds s i (Bytes (decimal (summed side (digits_from 0 i.value) n))) outcome.NotFound (outcome.Number (summed side (digits_from 0 i.value) n)) refl h
   go false h = absurd (false≢true h)
 
-both : (a b : Bool) → a && b ≡ true → (a ≡ true) × (b ≡ true)
-both true true e = (refl, refl)
-both true false e = absurd (false≢true e)
-both false b e = absurd (false≢true e)
+-- a key that was stored is the step's, and the answer is that it was stored
+stored_as : (k : List ℕ) (l : Option (List ℕ)) (b : Bool) → is_key k (cond b l None) ≡ true → (is_key k l ≡ true) × (b ≡ true)
+stored_as k l true e = (e, refl)
+stored_as k l false e = absurd (false≢true e)
 
-own_key : (k l : List ℕ) (r : State × Outcome) → Holds l r → same_key k l && is_stored r.1 ≡ true → held r.0 k ≡ true
+own_key : (k l : List ℕ) (r : State × Outcome) → Holds l r → is_key k (cond (is_stored r.1) (Some l) None) ≡ true → held r.0 k ≡ true
 own_key k l r h e =
-    let w = both (same_key k l) (is_stored r.1) e in
+    let w = stored_as k (Some l) (is_stored r.1) e in
     ap (held r.0) (same_key-exact k l w.0) ∙ h w.1
+
+other_key : (k : List ℕ) (r : State × Outcome) → is_key k (cond (is_stored r.1) None None) ≡ true → held r.0 k ≡ true
+other_key k r e = absurd (false≢true (stored_as k None (is_stored r.1) e).0)
 
 client_stored : (s : State) → Indexed s → (e : ClientStep) (k : List ℕ) → stores s (Client e) k ≡ true → held (client s e).0 k ≡ true
 client_stored s d (Stores v l flags e p) k h = own_key k l (client s (Stores v l flags e p)) (stored_class_holds s v l (bytes_of p) flags e (class_for s l flags p)) h
 client_stored s d (Joins side l p) k h = own_key k l (client s (Joins side l p)) (join_holds l side p (lookup s l).0 (lookup s l).1 (λ x i f. (found_is s l d x i f).key)) h
 client_stored s d (Counts side l n) k h = own_key k l (client s (Counts side l n)) (count_holds l side n (lookup s l).0 (lookup s l).1 (λ x i f. (found_is s l d x i f).key)) h
-client_stored s d (Gets l) k h = absurd (false≢true h)
-client_stored s d (Touches l e) k h = absurd (false≢true h)
-client_stored s d (Deletes l) k h = absurd (false≢true h)
-client_stored s d (Flushes n) k h = absurd (false≢true h)
+client_stored s d (Gets l) k h = other_key k (client s (Gets l)) h
+client_stored s d (Touches l e) k h = other_key k (client s (Touches l e)) h
+client_stored s d (Deletes l) k h = other_key k (client s (Deletes l)) h
+client_stored s d (Flushes n) k h = other_key k (client s (Flushes n)) h
 
 pub stored_held : (s : State) → Indexed s → (e : Step) (k : List ℕ) → stores s e k ≡ true → held (step s e).0 k ≡ true
 stored_held s d (Client e) k h = client_stored s d e k h
-stored_held s d (Pull c q) k h = absurd (false≢true h)
-stored_held s d Bump k h = absurd (false≢true h)
-stored_held s d (CrawlStart set) k h = absurd (false≢true h)
-stored_held s d (Crawl c q) k h = absurd (false≢true h)
-stored_held s d (Schedule src dst) k h = absurd (false≢true h)
-stored_held s d Advance k h = absurd (false≢true h)
-stored_held s d (Clock n) k h = absurd (false≢true h)
-stored_held s d (Tune a b c f) k h = absurd (false≢true h)
-stored_held s d (TempTtl n) k h = absurd (false≢true h)
+stored_held s d (Pull c q) k h = other_key k (step s (Pull c q)) h
+stored_held s d Bump k h = other_key k (step s Bump) h
+stored_held s d (CrawlStart set) k h = other_key k (step s (CrawlStart set)) h
+stored_held s d (Crawl c q) k h = other_key k (step s (Crawl c q)) h
+stored_held s d (Schedule src dst) k h = other_key k (step s (Schedule src dst)) h
+stored_held s d Advance k h = other_key k (step s Advance) h
+stored_held s d (Clock n) k h = other_key k (step s (Clock n)) h
+stored_held s d (Tune a b c f) k h = other_key k (step s (Tune a b c f)) h
+stored_held s d (TempTtl n) k h = other_key k (step s (TempTtl n)) h

@@ -1,4 +1,5 @@
--- The parts of each step with their removals, and the cause of a removal. That a key which a step stores is held after it stands in Storing.antt.
+-- The parts of each step with their removals, and what becomes of each key at a step. That a key which a step stores is
+-- held after it stands in Storing.antt.
 use Rattle.std.specs.Prelude.{ℕ, ℤ, ◌≡◌, Bool, true, false, cond, not, ◌&&◌, List, [], ◌∷◌, ◌++◌, Option, None, Some, is_some, length, slice_set, nat_eq, nat_lt, nat_le, refl}
 use Rattle.std.proofs.Common.{sym, ◌∙◌, ap, subst}
 use Rattle.std.proofs.lemmas.Bool.{false≢true}
@@ -11,19 +12,20 @@ use Rattle.rev_model.specs.Chunk.{same_chunk, same_entry}
 use Rattle.rev_model.specs.Lists.{has, without, before}
 use Rattle.rev_model.specs.Move.{falling, is_class, names, names_other, marked}
 use Rattle.rev_model.specs.State.{State, WellFormed, item_at, find, owner_of, queue_of, free_of, per_page, last_class}
-use Rattle.rev_model.specs.Words.{is_dead, dropped, unlinked, counted, headed, queue_with, linked, new_item, with_item}
+use Rattle.rev_model.specs.Words.{is_dead, dropped, unlinked, counted, headed, queue_with, with_item}
 use Rattle.rev_model.specs.Sound.{Sound}
 use Rattle.rev_model.specs.Pull.{pull, room, lowest_page}
 use Rattle.rev_model.specs.Client.{ClientStep, Stores, Joins, Gets, Touches, Deletes, Flushes, Counts, Verb, Sets, Adds, Replaces, Cases, Side, Sum, Payload, Bytes, bytes_of, lookup, removed, hit, hit_again, renewed, class_for, joined, is_number, digits_from, summed, refusal, failed, settled_by, stored_room, stored_class, rewritten_old, rewritten_room, rewritten_class, rewritten, join_found, count_as, count_found, get_found, until, touch_found, delete_found, flush_at, flush_moment, client}
 use Rattle.rev_model.specs.Actor.{Step, Client, Pull, Bump, CrawlStart, Crawl, Schedule, Advance, Clock, Tune, TempTtl, step, bump_item, bump_from, is_busy, passed, crawl_item, crawl_entry, owned_pages, scheduled, spare, rescued, cleared, next_slot, handed, advance_of, with_globals, at_clock}
 use Rattle.rev_model.proofs.Undo.{tells_chunk}
 use Rattle.rev_model.specs.Track.{held, same_key, Removal, removal}
-use Rattle.rev_model.proofs.Laws.{same_key-self, same_key-exact}
+use Rattle.rev_model.proofs.Track.{first_removal, key_removals, key_removals-first}
 use Rattle.rev_model.specs.Causes.{look_removals, found_removals, clear_removals, failed_removals, settled_removals, after_room, store_in_removals, stored_removals, after_rewrite, rewrite_in_removals, rewritten_removals, rewrite_removals, join_found_removals, count_found_removals, client_removals, pull_removals, pull_step_removals, crawl_item_removals, crawl_entry_removals, crawl_removals, rescue_removals, cleared_removals, advance_removals_of, advance_removals, step_removals, room_removals}
-use Rattle.rev_model.specs.Events.{Part, ByRoom, ByLookup, ByDelete, ByFailedSet, ByPull, ByCrawl, ByAdvance, Stage, then, clear_stages, lookup_stages, failed_stages, room_stages, store_in_stages, store_stages, rewrite_room_stages, rewrite_in_stages, rewrite_class_stages, rewrite_stages, join_found_stages, count_found_stages, client_stages, stages, cause_by, cause_of, alive}
-use Rattle.rev_model.proofs.Fates.{Indexed, indexed_sound, fate-some, Stays, stays, key_removed, key_inserted}
+use Rattle.rev_model.specs.Events.{Part, ByRoom, ByLookup, ByDelete, ByFailedSet, ByPull, ByCrawl, ByAdvance, Stage, then, clear_stages, lookup_stages, failed_stages, room_stages, store_in_stages, store_stages, rewrite_room_stages, rewrite_in_stages, rewrite_class_stages, rewrite_stages, join_found_stages, count_found_stages, client_stages, stages, cause_by, cause_of, alive, is_key, key_to_store, is_stored, stores}
+use Rattle.rev_model.proofs.Fates.{Indexed, indexed_sound, fate-alive, Stays, stays, key_removed, key_inserted}
 use Rattle.rev_model.proofs.Leaving.{Goes, goes_stays, goes_drops, goes_carries, goes_cond, pull_goes, room_goes}
-use Rattle.rev_model.proofs.Stages.{look_goes, found_is, cleared_goes, Walked, Caused, walked_caused}
+use Rattle.rev_model.proofs.Stages.{look_goes, found_is, cleared_goes, Ends, Walked, Leaves, stays_so, leaves, walked_leaves}
+use Rattle.rev_model.proofs.Storing.{stored_held}
 use Rattle.rev_model.specs.declared.ChunkRef.{ChunkRef}
 use Rattle.rev_model.specs.declared.Cause.{Cause}
 use Rattle.rev_model.specs.declared.Cause.TheVariants.{ReclaimedByCrawler, ReclaimedByMover, EvictedByMover, Deleted, DroppedByFailedSet}
@@ -38,76 +40,78 @@ use Rattle.rev_model.specs.declared.PullMode.TheVariants.{Plain}
 use Rattle.rev_model.specs.declared.Queue.{Queue}
 use Rattle.rev_model.specs.declared.Queue.TheVariants.{Hot, Warm, Cold, Temp}
 
--- ---- what holds a key
+-- ---- what stands behind the parts
 
--- where nothing leaves the index
-same_index : (s t : State) (k : List ℕ) → t.index ≡ s.index → held s k ≡ true → held t k ≡ true
-same_index s t k e h = ap (λ m. is_some (map.get m k)) e ∙ h
+-- where nothing leaves the index and nothing is told
+ends_same : (k : List ℕ) (own : Bool) (s : State) (r : State × Outcome) → r.0.index ≡ s.index → Ends k own s [] r
+ends_same k own s r e = λ n. (ap (λ m. is_some (map.get m k)) e, refl)
 
 index_either : (s : State) (b : Bool) (p q : State × Outcome) → p.0.index ≡ s.index → q.0.index ≡ s.index → (cond b p q).0.index ≡ s.index
 index_either s true p q e f = e
 index_either s false p q e f = f
 
--- the key of a new item is held
-linked_own : (c : ℕ) (x : ChunkRef) (i : PlainItem) (s : State) → held (linked c x i s) i.key ≡ true
-linked_own c x i s = ap is_some (key_inserted s i.key x i.key ∙ ap (λ b. cond b (Some x) (find s i.key)) (same_key-self i.key))
+-- what was found is the item of this key
+abbrev IsOf : List ℕ → Option (ChunkRef × PlainItem) → Type 0
+IsOf l o = (x : ChunkRef) (i : PlainItem) → o ≡ Some (x, i) → i.key ≡ l
 
-linked_kept : (c : ℕ) (x : ChunkRef) (i : PlainItem) (s : State) (k : List ℕ) → held s k ≡ true → held (linked c x i s) k ≡ true
-linked_kept c x i s k h = ap is_some (key_inserted s i.key x k) ∙ go (same_key k i.key) where
-  go : (b : Bool) → is_some (cond b (Some x) (find s k)) ≡ true
-  go true = refl
-  go false = h
+-- another key is held as it was where the old item of this one makes way
+removed_other : (s : State) (o : Option (ChunkRef × PlainItem)) (l k : List ℕ) → IsOf l o → same_key k l ≡ false → held (removed o s) k ≡ held s k
+removed_other s None l k own ne = refl
+removed_other s (Some (x, i)) l k own ne = ap is_some (key_removed s i.key k ∙ ap (λ b. cond b None (find s k)) (ap (same_key k) (own x i refl) ∙ ne))
 
--- the old item of the key makes way, and no other
-removed_kept : (s : State) (o : Option (ChunkRef × PlainItem)) (l k : List ℕ) → ((x : ChunkRef) (i : PlainItem) → o ≡ Some (x, i) → i.key ≡ l) → same_key k l ≡ false → held s k ≡ true → held (removed o s) k ≡ true
-removed_kept s None l k own ne h = h
-removed_kept s (Some (x, i)) l k own ne h =
-    ap is_some (key_removed s i.key k ∙ ap (λ b. cond b None (find s k)) (ap (same_key k) (own x i refl) ∙ ne)) ∙ h
+renewed_other : (c : ℕ) (x : ChunkRef) (l value : List ℕ) (flags m : ℕ) (o : Option (ChunkRef × PlainItem)) (s : State) (k : List ℕ) → IsOf l o → same_key k l ≡ false → held (renewed c x l value flags m o s) k ≡ held s k
+renewed_other c x l value flags m o s k own ne =
+    ap is_some (key_inserted (removed o s) l x k ∙ ap (λ b. cond b (Some x) (find (removed o s) k)) ne) ∙ removed_other s o l k own ne
 
-pub renewed_own : (c : ℕ) (x : ChunkRef) (l value : List ℕ) (flags m : ℕ) (o : Option (ChunkRef × PlainItem)) (s : State) → held (renewed c x l value flags m o s) l ≡ true
-renewed_own c x l value flags m o s = linked_own c x (new_item s l value flags m) (removed o s)
+-- and nothing is told of it
+found_other : (n : Option Cause) (o : Option (ChunkRef × PlainItem)) (l k : List ℕ) → IsOf l o → same_key k l ≡ false → key_removals k (found_removals n o) ≡ []
+found_other n None l k own ne = refl
+found_other n (Some (x, i)) l k own ne = ap (λ b. cond b (record { key = i.key; note = n } ∷ []) []) (ap (same_key k) (own x i refl) ∙ ne)
 
-renewed_kept : (c : ℕ) (x : ChunkRef) (l value : List ℕ) (flags m : ℕ) (o : Option (ChunkRef × PlainItem)) (s : State) (k : List ℕ) → ((x : ChunkRef) (i : PlainItem) → o ≡ Some (x, i) → i.key ≡ l) → held s k ≡ true → held (renewed c x l value flags m o s) k ≡ true
-renewed_kept c x l value flags m o s k own h = go (same_key k l) refl where
-  go : (b : Bool) → same_key k l ≡ b → held (renewed c x l value flags m o s) k ≡ true
-  go true e = ap (held (renewed c x l value flags m o s)) (same_key-exact k l e) ∙ renewed_own c x l value flags m o s
-  go false e = linked_kept c x (new_item s l value flags m) (removed o s) k (removed_kept s o l k own e h)
+other_key : (b c : Bool) → c ≡ true → b && c ≡ false → b ≡ false
+other_key true true e h = h
+other_key false c e h = refl
+other_key true false e h = absurd (false≢true e)
+
+-- the new item of the key l is in the place of the old one
+renewed_ends : (k : List ℕ) (c : ℕ) (x : ChunkRef) (l value : List ℕ) (flags m : ℕ) (done : Outcome) (s : State) (o : Option (ChunkRef × PlainItem)) → IsOf l o → is_stored done ≡ true
+    → Ends k (same_key k l) s (found_removals None o) (renewed c x l value flags m o s, done)
+renewed_ends k c x l value flags m done s o own e h =
+    let ne : same_key k l ≡ false = other_key (same_key k l) (is_stored done) e h in
+    (renewed_other c x l value flags m o s k own ne, found_other None o l k own ne)
 
 -- ---- lookups and what follows them
 
-one_part : (k : List ℕ) (p : Part) (s t : State) (rs : List Removal) → Goes (cause_by p) k s t rs → Walked k s (then p t []) rs t
-one_part k p s t rs g = (rs, [], sym (append-nil rs), g, λ h. h)
+-- a part behind which the index stays as it is
+one_part : (k : List ℕ) (own : Bool) (p : Part) (s t : State) (rs : List Removal) (r : State × Outcome) → Goes (cause_by p) k s t rs → r.0.index ≡ t.index → Walked k own s (then p t []) rs r
+one_part k own p s t rs r g e = (rs, [], sym (append-nil rs), g, ends_same k own t r e)
 
--- a part that leaves the index as it is, behind the parts
-held_after : (k : List ℕ) (s : State) (gs : List Stage) (rs : List Removal) (t u : State) → (held t k ≡ true → held u k ≡ true) → Walked k s gs rs t → Walked k s gs rs u
-held_after k s [] rs t u h w = λ e. h (w e)
-held_after k s (g ∷ gs) rs t u h w = (w.0, w.1, w.2, w.3, held_after k g.after gs w.1 t u h w.4)
-
-clear_walk : (k : List ℕ) (s : State) → Indexed s → (p : Part) (c : Cause) → ((a : Bool) → c ≡ cause_by p a) → (l : List ℕ) → Walked k s (clear_stages p s l) (clear_removals (Some c) s l) (removed (lookup s l).1 (lookup s l).0)
-clear_walk k s d p c e l =
-    let look = look_goes k s d l in (
+clear_walk : (k : List ℕ) (own : Bool) (s : State) → Indexed s → (p : Part) (c : Cause) → ((a : Bool) → c ≡ cause_by p a) → (l : List ℕ) (o : Outcome) → Walked k own s (clear_stages p s l) (clear_removals (Some c) s l) (removed (lookup s l).1 (lookup s l).0, o)
+clear_walk k own s d p c e l o =
+    let look = look_goes k s d l in
+    let gone = removed (lookup s l).1 (lookup s l).0 in (
       look_removals s l,
       found_removals (Some c) (lookup s l).1,
       refl,
       look,
-      one_part k p (lookup s l).0 (removed (lookup s l).1 (lookup s l).0) (found_removals (Some c) (lookup s l).1)
-          (cleared_goes (cause_by p) c k (lookup s l).0 look.indexed e (lookup s l).1 (λ x i f. (found_is s l d x i f).there)),
+      one_part k own p (lookup s l).0 (removed (lookup s l).1 (lookup s l).0) (found_removals (Some c) (lookup s l).1) (gone, o)
+          (cleared_goes (cause_by p) c k (lookup s l).0 look.indexed e (lookup s l).1 (λ x i f. (found_is s l d x i f).there)) refl,
     )
 
-failed_walk : (k : List ℕ) (s : State) → Indexed s → (v : Verb) (l : List ℕ) (o : Outcome) → Walked k s (failed_stages v s l) (failed_removals v s l) (failed v l o s).0
-failed_walk k s d Sets l o = clear_walk k s d ByFailedSet DroppedByFailedSet (λ a. refl) l
-failed_walk k s d Adds l o = λ h. h
-failed_walk k s d Replaces l o = λ h. h
-failed_walk k s d (Cases n) l o = λ h. h
+failed_walk : (k : List ℕ) (own : Bool) (s : State) → Indexed s → (v : Verb) (l : List ℕ) (o : Outcome) → Walked k own s (failed_stages v s l) (failed_removals v s l) (failed v l o s)
+failed_walk k own s d Sets l o = clear_walk k own s d ByFailedSet DroppedByFailedSet (λ a. refl) l o
+failed_walk k own s d Adds l o = ends_same k own s (s, o) refl
+failed_walk k own s d Replaces l o = ends_same k own s (s, o) refl
+failed_walk k own s d (Cases n) l o = ends_same k own s (s, o) refl
 
 -- ---- set, add, replace, cas
 
-settled_kept : (k : List ℕ) (c : ℕ) (x : ChunkRef) (l value : List ℕ) (flags : ℕ) (e : ℤ) (s : State) (o : Option (ChunkRef × PlainItem)) → ((x : ChunkRef) (i : PlainItem) → o ≡ Some (x, i) → i.key ≡ l) → (r : Option Outcome) → held s k ≡ true → held (settled_by c x l value flags e (s, o) r).0 k ≡ true
-settled_kept k c x l value flags e s o own None h = renewed_kept c x l value flags (moment s.globals.clock e) o s k own h
-settled_kept k c x l value flags e s o own (Some r) h = h
+settled_ends : (k : List ℕ) (c : ℕ) (x : ChunkRef) (l value : List ℕ) (flags : ℕ) (e : ℤ) (s : State) (o : Option (ChunkRef × PlainItem)) → IsOf l o → (r : Option Outcome) → Ends k (same_key k l) s (settled_removals o r) (settled_by c x l value flags e (s, o) r)
+settled_ends k c x l value flags e s o own None = renewed_ends k c x l value flags (moment s.globals.clock e) outcome.Stored s o own refl
+settled_ends k c x l value flags e s o own (Some r) = ends_same k (same_key k l) s (settled_by c x l value flags e (s, o) (Some r)) refl
 
-store_room_walk : (k : List ℕ) (s : State) (v : Verb) (c : ℕ) (l value : List ℕ) (flags : ℕ) (e : ℤ) (rs : List Removal) (r : State × Option ChunkRef) → Goes (cause_by ByRoom) k s r.0 rs → Walked k s (room_stages v l r) (rs ++ after_room v l r) (stored_room v c l value flags e r).0
-store_room_walk k s v c l value flags e rs (t, None) g = (rs, failed_removals v t l, refl, g, failed_walk k t g.indexed v l outcome.NoChunk)
+store_room_walk : (k : List ℕ) (s : State) (v : Verb) (c : ℕ) (l value : List ℕ) (flags : ℕ) (e : ℤ) (rs : List Removal) (r : State × Option ChunkRef) → Goes (cause_by ByRoom) k s r.0 rs → Walked k (same_key k l) s (room_stages v l r) (rs ++ after_room v l r) (stored_room v c l value flags e r)
+store_room_walk k s v c l value flags e rs (t, None) g = (rs, failed_removals v t l, refl, g, failed_walk k (same_key k l) t g.indexed v l outcome.NoChunk)
 store_room_walk k s v c l value flags e rs (t, Some x) g =
     let look = look_goes k t g.indexed l in (
       rs,
@@ -119,27 +123,28 @@ store_room_walk k s v c l value flags e rs (t, Some x) g =
         settled_removals (lookup t l).1 (refusal v (lookup t l).1),
         refl,
         look,
-        settled_kept k c x l value flags e (lookup t l).0 (lookup t l).1 (λ y i f. (found_is t l g.indexed y i f).key) (refusal v (lookup t l).1),
+        settled_ends k c x l value flags e (lookup t l).0 (lookup t l).1 (λ y i f. (found_is t l g.indexed y i f).key) (refusal v (lookup t l).1),
       ),
     )
 
-store_in_walk : (k : List ℕ) (s : State) → Indexed s → (v : Verb) (c : ℕ) (l value : List ℕ) (flags : ℕ) (e : ℤ) → Walked k s (store_in_stages s v c l) (store_in_removals s v c l) (stored_room v c l value flags e (room s c)).0
+store_in_walk : (k : List ℕ) (s : State) → Indexed s → (v : Verb) (c : ℕ) (l value : List ℕ) (flags : ℕ) (e : ℤ) → Walked k (same_key k l) s (store_in_stages s v c l) (store_in_removals s v c l) (stored_room v c l value flags e (room s c))
 unfolding store_in_stages store_in_removals
 store_in_walk k s d v c l value flags e = store_room_walk k s v c l value flags e (room_removals s c) (room s c) (room_goes k s c d)
 
-store_walk : (k : List ℕ) (s : State) → Indexed s → (v : Verb) (l value : List ℕ) (flags : ℕ) (e : ℤ) (o : Option ℕ) → Walked k s (store_stages s v l o) (stored_removals s v l o) (stored_class s v l value flags e o).0
-store_walk k s d v l value flags e None = failed_walk k s d v l outcome.TooLarge
+store_walk : (k : List ℕ) (s : State) → Indexed s → (v : Verb) (l value : List ℕ) (flags : ℕ) (e : ℤ) (o : Option ℕ) → Walked k (same_key k l) s (store_stages s v l o) (stored_removals s v l o) (stored_class s v l value flags e o)
+store_walk k s d v l value flags e None = failed_walk k (same_key k l) s d v l outcome.TooLarge
 store_walk k s d v l value flags e (Some c) = store_in_walk k s d v c l value flags e
 
 -- ---- append, prepend, incr, decr
 
-rewritten_kept : (k : List ℕ) (c : ℕ) (x : ChunkRef) (l value : List ℕ) (flags m : ℕ) (gone done : Outcome) (s : State) (o : Option (ChunkRef × PlainItem)) → ((x : ChunkRef) (i : PlainItem) → o ≡ Some (x, i) → i.key ≡ l) → held s k ≡ true → held (rewritten_old c x l value flags m gone done (s, o)).0 k ≡ true
-rewritten_kept k c x l value flags m gone done s None own h = h
-rewritten_kept k c x l value flags m gone done s (Some f) own h = renewed_kept c x l value flags m (Some f) s k own h
+rewritten_ends : (k : List ℕ) (c : ℕ) (x : ChunkRef) (l value : List ℕ) (flags m : ℕ) (gone done : Outcome) (s : State) (o : Option (ChunkRef × PlainItem)) → IsOf l o → is_stored done ≡ true → Ends k (same_key k l) s (found_removals None o) (rewritten_old c x l value flags m gone done (s, o))
+rewritten_ends k c x l value flags m gone done s None own e = ends_same k (same_key k l) s (rewritten_old c x l value flags m gone done (s, None)) refl
+rewritten_ends k c x l value flags m gone done s (Some f) own e = renewed_ends k c x l value flags m done s (Some f) own e
 
-rewrite_room_walk : (k : List ℕ) (s : State) (c : ℕ) (l value : List ℕ) (flags m : ℕ) (gone done : Outcome) (rs : List Removal) (r : State × Option ChunkRef) → Goes (cause_by ByRoom) k s r.0 rs → Walked k s (rewrite_room_stages l r) (rs ++ after_rewrite l r) (rewritten_room c l value flags m gone done r).0
-rewrite_room_walk k s c l value flags m gone done rs (t, None) g = (rs, [], refl, g, λ h. h)
-rewrite_room_walk k s c l value flags m gone done rs (t, Some x) g =
+rewrite_room_walk : (k : List ℕ) (s : State) (c : ℕ) (l value : List ℕ) (flags m : ℕ) (gone done : Outcome) → is_stored done ≡ true → (rs : List Removal) (r : State × Option ChunkRef) → Goes (cause_by ByRoom) k s r.0 rs
+    → Walked k (same_key k l) s (rewrite_room_stages l r) (rs ++ after_rewrite l r) (rewritten_room c l value flags m gone done r)
+rewrite_room_walk k s c l value flags m gone done e rs (t, None) g = (rs, [], refl, g, ends_same k (same_key k l) t (t, outcome.NoChunk) refl)
+rewrite_room_walk k s c l value flags m gone done e rs (t, Some x) g =
     let look = look_goes k t g.indexed l in (
       rs,
       clear_removals None t l,
@@ -150,31 +155,34 @@ rewrite_room_walk k s c l value flags m gone done rs (t, Some x) g =
         found_removals None (lookup t l).1,
         refl,
         look,
-        rewritten_kept k c x l value flags m gone done (lookup t l).0 (lookup t l).1 (λ y i f. (found_is t l g.indexed y i f).key),
+        rewritten_ends k c x l value flags m gone done (lookup t l).0 (lookup t l).1 (λ y i f. (found_is t l g.indexed y i f).key) e,
       ),
     )
 
-rewrite_in_walk : (k : List ℕ) (s : State) → Indexed s → (c : ℕ) (l value : List ℕ) (flags m : ℕ) (gone done : Outcome) → Walked k s (rewrite_in_stages s c l) (rewrite_in_removals s c l) (rewritten_room c l value flags m gone done (room s c)).0
+rewrite_in_walk : (k : List ℕ) (s : State) → Indexed s → (c : ℕ) (l value : List ℕ) (flags m : ℕ) (gone done : Outcome) → is_stored done ≡ true → Walked k (same_key k l) s (rewrite_in_stages s c l) (rewrite_in_removals s c l) (rewritten_room c l value flags m gone done (room s c))
 unfolding rewrite_in_stages rewrite_in_removals
-rewrite_in_walk k s d c l value flags m gone done = rewrite_room_walk k s c l value flags m gone done (room_removals s c) (room s c) (room_goes k s c d)
+rewrite_in_walk k s d c l value flags m gone done e = rewrite_room_walk k s c l value flags m gone done e (room_removals s c) (room s c) (room_goes k s c d)
 
-rewrite_class_walk : (k : List ℕ) (s : State) → Indexed s → (l value : List ℕ) (flags m : ℕ) (gone done : Outcome) (o : Option ℕ) → Walked k s (rewrite_class_stages s l o) (rewritten_removals s l o) (rewritten_class s l value flags m gone done o).0
-rewrite_class_walk k s d l value flags m gone done None = λ h. h
-rewrite_class_walk k s d l value flags m gone done (Some c) = rewrite_in_walk k s d c l value flags m gone done
+rewrite_class_walk : (k : List ℕ) (s : State) → Indexed s → (l value : List ℕ) (flags m : ℕ) (gone done : Outcome) → is_stored done ≡ true → (o : Option ℕ) → Walked k (same_key k l) s (rewrite_class_stages s l o) (rewritten_removals s l o) (rewritten_class s l value flags m gone done o)
+rewrite_class_walk k s d l value flags m gone done e None = ends_same k (same_key k l) s (s, outcome.TooLarge) refl
+rewrite_class_walk k s d l value flags m gone done e (Some c) = rewrite_in_walk k s d c l value flags m gone done e
 
-rewrite_walk : (k : List ℕ) (s : State) → Indexed s → (i : PlainItem) (p : Payload) (gone done : Outcome) → Walked k s (rewrite_stages s i p) (rewrite_removals s i p) (rewritten s i p gone done).0
-rewrite_walk k s d i p gone done = rewrite_class_walk k s d i.key (bytes_of p) i.flags i.moment gone done (class_for s i.key i.flags p)
+-- of the item of the key l
+rewrite_walk : (k : List ℕ) (s : State) → Indexed s → (l : List ℕ) (i : PlainItem) → i.key ≡ l → (p : Payload) (gone done : Outcome) → is_stored done ≡ true → Walked k (same_key k l) s (rewrite_stages s i p) (rewrite_removals s i p) (rewritten s i p gone done)
+rewrite_walk k s d l i own p gone done e =
+    subst (λ m. Walked k (same_key k m) s (rewrite_stages s i p) (rewrite_removals s i p) (rewritten s i p gone done)) own
+    (rewrite_class_walk k s d i.key (bytes_of p) i.flags i.moment gone done e (class_for s i.key i.flags p))
 
-join_walk : (k : List ℕ) (side : Side) (p : Payload) (s : State) (o : Option (ChunkRef × PlainItem)) → Indexed s → Walked k s (join_found_stages side p (s, o)) (join_found_removals side p (s, o)) (join_found side p (s, o)).0
-join_walk k side p s None d = λ h. h
-join_walk k side p s (Some (x, i)) d = rewrite_walk k s d i (joined side i.value p) outcome.NotStored outcome.Stored
+join_walk : (k l : List ℕ) (side : Side) (p : Payload) (s : State) (o : Option (ChunkRef × PlainItem)) → IsOf l o → Indexed s → Walked k (same_key k l) s (join_found_stages side p (s, o)) (join_found_removals side p (s, o)) (join_found side p (s, o))
+join_walk k l side p s None own d = ends_same k (same_key k l) s (s, outcome.NotStored) refl
+join_walk k l side p s (Some (x, i)) own d = rewrite_walk k s d l i (own x i refl) (joined side i.value p) outcome.NotStored outcome.Stored refl
 
-count_walk : (k : List ℕ) (side : Sum) (n : ℕ) (s : State) (o : Option (ChunkRef × PlainItem)) → Indexed s → Walked k s (count_found_stages side n (s, o)) (count_found_removals side n (s, o)) (count_found side n (s, o)).0
-count_walk k side n s None d = λ h. h
-count_walk k side n s (Some (x, i)) d = go (is_number i.value) where
-  go : (b : Bool) → Walked k s (cond b (rewrite_stages s i (Bytes (decimal (summed side (digits_from 0 i.value) n)))) []) (cond b (rewrite_removals s i (Bytes (decimal (summed side (digits_from 0 i.value) n)))) []) (cond b (count_as s i (summed side (digits_from 0 i.value) n)) (s, outcome.NotNumber)).0
-  go true = rewrite_walk k s d i (Bytes (decimal (summed side (digits_from 0 i.value) n))) outcome.NotFound (outcome.Number (summed side (digits_from 0 i.value) n))
-  go false = λ h. h
+count_walk : (k l : List ℕ) (side : Sum) (n : ℕ) (s : State) (o : Option (ChunkRef × PlainItem)) → IsOf l o → Indexed s → Walked k (same_key k l) s (count_found_stages side n (s, o)) (count_found_removals side n (s, o)) (count_found side n (s, o))
+count_walk k l side n s None own d = ends_same k (same_key k l) s (s, outcome.NotFound) refl
+count_walk k l side n s (Some (x, i)) own d = go (is_number i.value) where
+  go : (b : Bool) → Walked k (same_key k l) s (cond b (rewrite_stages s i (Bytes (decimal (summed side (digits_from 0 i.value) n)))) []) (cond b (rewrite_removals s i (Bytes (decimal (summed side (digits_from 0 i.value) n)))) []) (cond b (count_as s i (summed side (digits_from 0 i.value) n)) (s, outcome.NotNumber))
+  go true = rewrite_walk k s d l i (own x i refl) (Bytes (decimal (summed side (digits_from 0 i.value) n))) outcome.NotFound (outcome.Number (summed side (digits_from 0 i.value) n)) refl
+  go false = ends_same k (same_key k l) s (s, outcome.NotNumber) refl
 
 -- ---- get, touch, delete, flush_all
 
@@ -206,12 +214,12 @@ touch_index : (e : ℤ) (s : State) (o : Option (ChunkRef × PlainItem)) → (to
 touch_index e s None = refl
 touch_index e s (Some (x, i)) = until_index (moment s.globals.clock e) x (item_at (hit s x i) x) (hit s x i) ∙ hit_index s x i
 
-look_walk : (k : List ℕ) (s : State) → Indexed s → (l : List ℕ) (t : State) → t.index ≡ (lookup s l).0.index → Walked k s (lookup_stages s l) (look_removals s l) t
-look_walk k s d l t e = held_after k s (lookup_stages s l) (look_removals s l) (lookup s l).0 t (same_index (lookup s l).0 t k e) (one_part k ByLookup s (lookup s l).0 (look_removals s l) (look_goes k s d l))
+look_walk : (k : List ℕ) (s : State) → Indexed s → (l : List ℕ) (r : State × Outcome) → r.0.index ≡ (lookup s l).0.index → Walked k false s (lookup_stages s l) (look_removals s l) r
+look_walk k s d l r e = one_part k false ByLookup s (lookup s l).0 (look_removals s l) r (look_goes k s d l) e
 
-delete_end : (s : State) (o : Option (ChunkRef × PlainItem)) → removed o s ≡ (delete_found (s, o)).0
-delete_end s None = refl
-delete_end s (Some f) = refl
+delete_walk : (k : List ℕ) (s : State) (gs : List Stage) (rs : List Removal) (t : State) (o : Option (ChunkRef × PlainItem)) → ((a : Outcome) → Walked k false s gs rs (removed o t, a)) → Walked k false s gs rs (delete_found (t, o))
+delete_walk k s gs rs t None w = w outcome.NotFound
+delete_walk k s gs rs t (Some f) w = w outcome.Deleted
 
 flush_index : (s : State) (m : ℕ) → (flush_at s m).index ≡ s.index
 flush_index s m = go (nat_le m s.globals.clock) where
@@ -219,18 +227,18 @@ flush_index s m = go (nat_le m s.globals.clock) where
   go true = refl
   go false = refl
 
-client_walk : (k : List ℕ) (s : State) → Indexed s → (e : ClientStep) → Walked k s (client_stages s e) (client_removals s e) (client s e).0
+client_walk : (k : List ℕ) (s : State) → Indexed s → (e : ClientStep) → Walked k (is_key k (key_to_store (Client e))) s (client_stages s e) (client_removals s e) (client s e)
 client_walk k s d (Stores v l flags e p) = store_walk k s d v l (bytes_of p) flags e (class_for s l flags p)
 client_walk k s d (Joins side l p) =
     let look = look_goes k s d l in
-    (look_removals s l, join_found_removals side p (lookup s l), refl, look, join_walk k side p (lookup s l).0 (lookup s l).1 look.indexed)
-client_walk k s d (Gets l) = look_walk k s d l (get_found (lookup s l)).0 (get_index (lookup s l).0 (lookup s l).1)
-client_walk k s d (Touches l e) = look_walk k s d l (touch_found e (lookup s l)).0 (touch_index e (lookup s l).0 (lookup s l).1)
-client_walk k s d (Deletes l) = subst (Walked k s (clear_stages ByDelete s l) (clear_removals (Some Deleted) s l)) (delete_end (lookup s l).0 (lookup s l).1) (clear_walk k s d ByDelete Deleted (λ a. refl) l)
-client_walk k s d (Flushes n) = same_index s (flush_at s (flush_moment s.globals.clock n)) k (flush_index s (flush_moment s.globals.clock n))
+    (look_removals s l, join_found_removals side p (lookup s l), refl, look, join_walk k l side p (lookup s l).0 (lookup s l).1 (λ x i f. (found_is s l d x i f).key) look.indexed)
+client_walk k s d (Gets l) = look_walk k s d l (get_found (lookup s l)) (get_index (lookup s l).0 (lookup s l).1)
+client_walk k s d (Touches l e) = look_walk k s d l (touch_found e (lookup s l)) (touch_index e (lookup s l).0 (lookup s l).1)
+client_walk k s d (Deletes l) = delete_walk k s (clear_stages ByDelete s l) (clear_removals (Some Deleted) s l) (lookup s l).0 (lookup s l).1 (clear_walk k false s d ByDelete Deleted (λ a. refl) l)
+client_walk k s d (Flushes n) = ends_same k false s (client s (Flushes n)) (flush_index s (flush_moment s.globals.clock n))
 client_walk k s d (Counts side l n) =
     let look = look_goes k s d l in
-    (look_removals s l, count_found_removals side n (lookup s l), refl, look, count_walk k side n (lookup s l).0 (lookup s l).1 look.indexed)
+    (look_removals s l, count_found_removals side n (lookup s l), refl, look, count_walk k l side n (lookup s l).0 (lookup s l).1 (λ x i f. (found_is s l d x i f).key) look.indexed)
 
 -- ---- the actors
 
@@ -339,25 +347,59 @@ scheduled_index : (s : State) (src dst : ℕ) (o : Option ℕ) → (scheduled s 
 scheduled_index s src dst None = refl
 scheduled_index s src dst (Some p) = index_either s (nat_lt (owned_pages src s.owner) 2) (s, outcome.NoSpare) (with_globals (record s.globals { mover = Some record { src = src; dst = dst; page = p; slot = 0 } }) s, outcome.Okay) refl refl
 
-step_walk : (k : List ℕ) (s : State) → Indexed s → WellFormed s → (e : Step) → Walked k s (stages s e) (step_removals s e) (step s e).0
+step_walk : (k : List ℕ) (s : State) → Indexed s → WellFormed s → (e : Step) → Walked k (is_key k (key_to_store e)) s (stages s e) (step_removals s e) (step s e)
 step_walk k s d well (Client e) = client_walk k s d e
-step_walk k s d well (Pull c q) = one_part k ByPull s (step s (Pull c q)).0 (pull_step_removals s c q) (pull_step_goes k s d c q)
-step_walk k s d well Bump = same_index s (step s Bump).0 k (bump_index s s.bump)
-step_walk k s d well (CrawlStart set) = same_index s (step s (CrawlStart set)).0 k
+step_walk k s d well (Pull c q) = one_part k false ByPull s (step s (Pull c q)).0 (pull_step_removals s c q) (step s (Pull c q)) (pull_step_goes k s d c q) refl
+step_walk k s d well Bump = ends_same k false s (step s Bump) (bump_index s s.bump)
+step_walk k s d well (CrawlStart set) = ends_same k false s (step s (CrawlStart set))
     (index_either s (names_other 64 s set) (s, outcome.BadClass) (cond (is_busy 64 s set) (s, outcome.Busy) (record s { queues = marked (names s set) 0 s.queues }, outcome.Okay)) refl
     (index_either s (is_busy 64 s set) (s, outcome.Busy) (record s { queues = marked (names s set) 0 s.queues }, outcome.Okay) refl refl))
-step_walk k s d well (Crawl c q) = one_part k ByCrawl s (step s (Crawl c q)).0 (crawl_removals s c q) (crawl_goes k s d c q)
-step_walk k s d well (Schedule src dst) = same_index s (step s (Schedule src dst)).0 k
+step_walk k s d well (Crawl c q) = one_part k false ByCrawl s (step s (Crawl c q)).0 (crawl_removals s c q) (step s (Crawl c q)) (crawl_goes k s d c q) refl
+step_walk k s d well (Schedule src dst) = ends_same k false s (step s (Schedule src dst))
     (index_either s (is_some s.globals.mover) (s, outcome.Busy) (cond (nat_eq src dst) (s, outcome.Same) (cond (is_class s src && nat_le dst (last_class s)) (scheduled s src dst (lowest_page s src)) (s, outcome.BadClass))) refl
     (index_either s (nat_eq src dst) (s, outcome.Same) (cond (is_class s src && nat_le dst (last_class s)) (scheduled s src dst (lowest_page s src)) (s, outcome.BadClass)) refl
     (index_either s (is_class s src && nat_le dst (last_class s)) (scheduled s src dst (lowest_page s src)) (s, outcome.BadClass) (scheduled_index s src dst (lowest_page s src)) refl)))
-step_walk k s d well Advance = one_part k ByAdvance s (step s Advance).0 (advance_removals s) (advance_goes k s d well s.globals.mover)
-step_walk k s d well (Clock n) = same_index s (step s (Clock n)).0 k (index_either s (nat_lt n s.globals.clock) (s, outcome.Idle) (with_globals (at_clock n s.globals) s, outcome.Okay) refl refl)
-step_walk k s d well (Tune hot warm f g) = λ h. h
-step_walk k s d well (TempTtl n) = λ h. h
+step_walk k s d well Advance = one_part k false ByAdvance s (step s Advance).0 (advance_removals s) (step s Advance) (advance_goes k s d well s.globals.mover) refl
+step_walk k s d well (Clock n) = ends_same k false s (step s (Clock n)) (index_either s (nat_lt n s.globals.clock) (s, outcome.Idle) (with_globals (at_clock n s.globals) s, outcome.Okay) refl refl)
+step_walk k s d well (Tune hot warm f g) = ends_same k false s (step s (Tune hot warm f g)) refl
+step_walk k s d well (TempTtl n) = ends_same k false s (step s (TempTtl n)) refl
+
+and_true : (b : Bool) → b && true ≡ b
+and_true true = refl
+and_true false = refl
+
+and_false : (b : Bool) → b && false ≡ false
+and_false true = refl
+and_false false = refl
+
+-- what becomes of a key that the step does not store
+pub step_leaves : (s : State) → Sound s → (e : Step) (k : List ℕ) → stores s e k ≡ false → Leaves k s (step s e).0 (step_removals s e) (cause_of s e k)
+step_leaves s sound e k h =
+    let d : Indexed s = indexed_sound None s sound in
+    walked_leaves k (is_key k (key_to_store e)) s (stages s e) (step_removals s e) (step s e) (alive s k) d (λ b f. sym (fate-alive s k b f)) (step_walk k s d sound.well e)
+    (sym (key_stored (is_stored (step s e).1)) ∙ h)
+  where
+    key_stored : (b : Bool) → is_key k (cond b (key_to_store e) None) ≡ is_key k (key_to_store e) && b
+    key_stored true = sym (and_true (is_key k (key_to_store e)))
+    key_stored false = sym (and_false (is_key k (key_to_store e)))
+
+-- the first removal of the key tells the cause
+pub record Caused (k : List ℕ) (rs : List Removal) (cause : Option Cause) : Type 0 where
+  pub by : Cause
+  pub is : cause ≡ Some by
+  pub told : first_removal k rs ≡ Some (Some by)
+
+left_caused : (k : List ℕ) (s t : State) (rs : List Removal) (cause : Option Cause) → held s k ≡ true → held t k ≡ false → Leaves k s t rs cause → Caused k rs cause
+left_caused k s t rs cause h gone (stays_so e n) = absurd (false≢true (sym gone ∙ e ∙ h))
+left_caused k s t rs cause h gone (leaves c was g n is) = record { by = c; is = is; told = key_removals-first k rs (record { key = k; note = Some c }) [] n }
+
+unstored : (s : State) → Indexed s → (e : Step) (k : List ℕ) → held (step s e).0 k ≡ false → stores s e k ≡ false
+unstored s d e k gone = go (stores s e k) refl where
+  go : (b : Bool) → stores s e k ≡ b → b ≡ false
+  go true f = absurd (false≢true (sym gone ∙ stored_held s d e k f))
+  go false f = refl
 
 -- where a key leaves the index, the removals that the step's record tells give its cause
 pub step_caused : (s : State) → Sound s → (e : Step) (k : List ℕ) → held s k ≡ true → held (step s e).0 k ≡ false → Caused k (step_removals s e) (cause_of s e k)
 step_caused s sound e k h gone =
-    let d : Indexed s = indexed_sound None s sound in
-    walked_caused k s (stages s e) (step_removals s e) (step s e).0 (alive s k) d (step_walk k s d sound.well e) (fate-some s k d h) gone
+    left_caused k s (step s e).0 (step_removals s e) (cause_of s e k) h gone (step_leaves s sound e k (unstored s (indexed_sound None s sound) e k gone))

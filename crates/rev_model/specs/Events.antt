@@ -1,6 +1,6 @@
 -- What a step does to a key, told by the states at its two ends, and the cause where the key leaves the index.
 -- Rule of this project: what an event of a key is, said by states alone and not by how the step is made.
-use Rattle.std.specs.Prelude.{ℕ, Bool, true, false, cond, not, ◌&&◌, ◌==◌, List, [], ◌∷◌, Option, None, Some, is_some}
+use Rattle.std.specs.Prelude.{ℕ, Bool, true, false, cond, not, ◌==◌, List, [], ◌∷◌, Option, None, Some, is_some}
 use Rattle.std.specs.Option.{option_map}
 use Rattle.rev_items.specs.Plain.{PlainItem}
 use Rattle.rev_model.specs.State.{State, item_at, find, queue_number}
@@ -162,12 +162,12 @@ cause_of s e k = cause_among (alive s k) k (stages s e)
 
 -- ---- the event of a key at a step
 
--- a command that stores under this key: set, add, replace, cas, append, prepend, incr, decr
-abbrev pub may_store : Step → List ℕ → Bool
-may_store (Client (Stores v l flags e d)) k = same_key k l
-may_store (Client (Joins side l d)) k = same_key k l
-may_store (Client (Counts side l d)) k = same_key k l
-may_store e k = false
+-- the key under which a command may store: of set, add, replace, cas, append, prepend, incr, decr
+abbrev pub key_to_store : Step → Option (List ℕ)
+key_to_store (Client (Stores v l flags e d)) = Some l
+key_to_store (Client (Joins side l d)) = Some l
+key_to_store (Client (Counts side l d)) = Some l
+key_to_store e = None
 
 -- the answers of a command that did
 abbrev pub is_stored : Outcome → Bool
@@ -175,9 +175,18 @@ is_stored outcome.Stored = true
 is_stored (outcome.Number n) = true
 is_stored o = false
 
+-- the key that a step stored which answered this
+abbrev pub stored_key : Step → Outcome → Option (List ℕ)
+stored_key e o = cond (is_stored o) (key_to_store e) None
+
+-- there is a key, and it is k
+abbrev pub is_key : List ℕ → Option (List ℕ) → Bool
+is_key k None = false
+is_key k (Some l) = same_key k l
+
 -- the step stores the key
 abbrev pub stores : State → Step → List ℕ → Bool
-stores s e k = may_store e k && is_stored (step s e).1
+stores s e k = is_key k (stored_key e (step s e).1)
 
 -- of a key that was stored: whether it was held before, and its queue after
 abbrev pub stored_event : Bool → Option ClassQueue → Option EventKind

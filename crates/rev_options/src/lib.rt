@@ -1,11 +1,15 @@
 //! The command line of `lrudb`: which words ask for what.
 #![tactic(auto)]
 
-ghost use Rattle.std.specs.Prelude.{◌≡◌, ◌≤◌, length, IfOk, IfSome, true};
-ghost use Rattle.rev_options.specs.Request.{IsInRange, IsHeap, is_temp_ttl};
+mod import;
 
+ghost use Rattle.std.specs.Prelude.{◌≡◌, ◌≤◌, length, map, IfOk, IfSome, true, false};
+ghost use Rattle.rev_options.specs.Request.{IsInRange, IsHeap, IsOfWords, asks_import, is_temp_ttl};
+
+use crate::import::{asks_import, import, import_command};
 use clap::error::ErrorKind;
 use clap::{Arg, ArgAction, ArgMatches, Command, Error, value_parser};
+pub use import::{STANDARD, WatchImport};
 use rev_classes::Config;
 use std::alloc::{AllocError, Global};
 use std::convert::AsStr;
@@ -25,10 +29,21 @@ pub const MAX_HEAP: usize = 1073741824;
 /// What a command line asks for.
 #[derive(Debug, Drop)]
 pub enum Request {
-    /// Run the script of the standard input. With `heap`, all that the run keeps lies in one heap of so many bytes.
-    Run { config: Config, heap: Option<usize> },
-    /// Play the scripts of one to eight files at once, each as an actor.
-    Record { config: Config, files: Vec<String> },
+    /// Run the script of the standard input, from the state that the steps of the files `starts` leave. With `heap`, all
+    /// that the run keeps lies in one heap of so many bytes.
+    Run {
+        config: Config,
+        heap: Option<usize>,
+        starts: Vec<String>,
+    },
+    /// Play the scripts of one to eight files at once, each as an actor, from the state that the steps of `starts` leave.
+    Record {
+        config: Config,
+        starts: Vec<String>,
+        files: Vec<String>,
+    },
+    /// Make a script of logs.
+    ImportWatch(WatchImport),
 }
 
 /// Why there is no request.
@@ -96,7 +111,7 @@ const ABOUT: &str =
     "Replays memcached's storage commands and the steps of its segmented LRU, forwards and backwards";
 
 const AFTER: &str =
-    "A script has one command a line: memcached's own (set, get, delete, ..) and questions (:item KEY, :back, ..).\n\nExit status: 0 done, 2 command line or configuration, 3 out of memory, 4 input or output, 5 a recorded file has a line that is not a step, 6 the log differs.";
+    "A script has one command a line: memcached's own (set, get, delete, ..) and questions (:item KEY, :back, ..).\n\nExit status: 0 done, 2 command line or configuration, 3 out of memory, 4 input or output, 5 a file of steps has a line that is not a step, or what is imported is at fault, 6 the log differs.";
 
 fn option<'a>(alloc: Global, of: &'static Number) -> Arg<'a> {
     Arg::new(alloc, of.name)
@@ -135,11 +150,21 @@ fn heap<'a>(alloc: Global) -> Arg<'a> {
         )
 }
 
+fn start<'a>(alloc: Global) -> Arg<'a> {
+    Arg::new(alloc, "start")
+        .long("start")
+        .value_name("FILE")
+        .action(ArgAction::Append)
+        .help(
+            "Plays the steps of a file first, of any number: the tree's root is the state after them [may be given again]",
+        )
+}
+
 fn run_command<'a>(alloc: Global) -> Result<Command<'a>, AllocError> {
     let run = Command::new(alloc, "run").about(
         "Runs a script from the standard input, and answers each line",
     );
-    with_config(alloc, run)?.arg(heap(alloc))
+    with_config(alloc, run)?.arg(heap(alloc))?.arg(start(alloc))
 }
 
 fn files<'a>(alloc: Global) -> Arg<'a> {
@@ -155,7 +180,9 @@ fn record_command<'a>(alloc: Global) -> Result<Command<'a>, AllocError> {
     let record = Command::new(alloc, "record").about(
         "Plays the scripts of files at once, each by an actor on a thread, and tells in which order their steps came",
     );
-    with_config(alloc, record)?.arg(files(alloc))
+    with_config(alloc, record)?
+        .arg(start(alloc))?
+        .arg(files(alloc))
 }
 
 fn whole_command<'a>(alloc: Global) -> Result<Command<'a>, AllocError> {
@@ -167,7 +194,8 @@ fn whole_command<'a>(alloc: Global) -> Result<Command<'a>, AllocError> {
         .subcommand_required(true)
         .arg_required_else_help(true)
         .subcommand(run_command(alloc)?)?
-        .subcommand(record_command(alloc)?)
+        .subcommand(record_command(alloc)?)?
+        .subcommand(import_command(alloc)?)
 }
 
 // Each number has a default and passed its parser, so none is absent.
@@ -213,17 +241,23 @@ fn heap_of(alloc: Global, matches: &ArgMatches<'_>) -> Result<Option<usize>, Err
 
 // The run that the words ask for, or the parser's error.
 fn run(alloc: Global, matches: &ArgMatches<'_>) -> Result<Request, Error>
-    ensures { IfOk result IsInRange }
+    ensures range { IfOk result IsInRange }
+    ensures words { IfOk result (IsOfWords false) }
 {
     let config = config_of(matches);
     let heap = heap_of(alloc, matches)?;
-    Ok(Request::Run { config, heap })
+    let starts = files_of(alloc, matches, "start")?;
+    Ok(Request::Run {
+        config,
+        heap,
+        starts,
+    })
 }
 
-// The names of the files, in order.
-fn files_of(alloc: Global, matches: &ArgMatches<'_>) -> Result<Vec<String>, AllocError> {
+// The names of the files that an argument has, in order.
+fn files_of(alloc: Global, matches: &ArgMatches<'_>, of: &str) -> Result<Vec<String>, AllocError> {
     let mut files = Vec::new(alloc);
-    if let Some(names) = matches.get_strs("files") {
+    if let Some(names) = matches.get_strs(of) {
         for name in names {
             files.push(String::from_str(alloc, name)?)?;
         }
@@ -238,10 +272,12 @@ fn fault(alloc: Global, kind: ErrorKind, text: &str) -> Result<Error, AllocError
 
 // The recording that the words ask for, or the parser's error.
 fn recording(alloc: Global, matches: &ArgMatches<'_>) -> Result<Request, Error>
-    ensures { IfOk result IsInRange }
+    ensures range { IfOk result IsInRange }
+    ensures words { IfOk result (IsOfWords false) }
 {
     let config = config_of(matches);
-    let files = files_of(alloc, matches)?;
+    let starts = files_of(alloc, matches, "start")?;
+    let files = files_of(alloc, matches, "files")?;
     // The parser has counted them, and its contracts do not say so.
     if files.is_empty() {
         return Err(fault(alloc, ErrorKind::TooFewValues, "record: no file")?);
@@ -249,12 +285,18 @@ fn recording(alloc: Global, matches: &ArgMatches<'_>) -> Result<Request, Error>
     if files.len() > MOST_FILES {
         return Err(fault(alloc, ErrorKind::TooManyValues, "record: more than 8 files")?);
     }
-    Ok(Request::Record { config, files })
+    Ok(Request::Record {
+        config,
+        starts,
+        files,
+    })
 }
 
-// What the words ask for by the parser's reading of them, or the parser's error.
-fn request_of(alloc: Global, matches: &ArgMatches<'_>) -> Result<Request, Error>
-    ensures { IfOk result IsInRange }
+// What the words ask for by the parser's reading of them, or the parser's error. Whether the first word says `import` is
+// told apart, since the parser's contracts do not say so.
+fn request_of(alloc: Global, matches: &ArgMatches<'_>, asks_import: bool) -> Result<Request, Error>
+    ensures range { IfOk result IsInRange }
+    ensures words { IfOk result (IsOfWords asks_import) }
 {
     if let Some(inner) = matches.subcommand_matches("run") {
         return run(alloc, inner);
@@ -262,15 +304,21 @@ fn request_of(alloc: Global, matches: &ArgMatches<'_>) -> Result<Request, Error>
     if let Some(inner) = matches.subcommand_matches("record") {
         return recording(alloc, inner);
     }
+    if asks_import {
+        if let Some(inner) = matches.subcommand_matches("import") {
+            return import(alloc, inner);
+        }
+    }
     Err(fault(alloc, ErrorKind::MissingSubcommand, "run")?)
 }
 
 // What the words ask for, or the parser's error.
 fn parsed<S: AsStr>(alloc: Global, words: &[S]) -> Result<Request, Error>
-    ensures { IfOk result IsInRange }
+    ensures range { IfOk result IsInRange }
+    ensures words { IfOk result (IsOfWords (asks_import (map S.text words.now))) }
 {
     let matches = whole_command(alloc)?.try_get_matches_from(words)?;
-    request_of(alloc, &matches)
+    request_of(alloc, &matches, asks_import(words))
 }
 
 fn told(alloc: Global, error: Error) -> Refused {
@@ -286,9 +334,10 @@ fn told(alloc: Global, error: Error) -> Refused {
 /// What the words behind the program's name ask for.
 ///
 /// Words that ask for nothing that there is are refused with the parser's text, and so is a wish for help; a want of
-/// memory is told apart. Whether a store can be opened with the numbers is `rev_classes::fault_of`'s to say.
+/// memory is told apart. An import is asked for by the first word `import` alone. Whether a store can be opened with the numbers is `rev_classes::fault_of`'s to say.
 pub fn parse_words<S: AsStr>(alloc: Global, words: &[S]) -> Result<Request, Refused>
-    ensures { IfOk result IsInRange }
+    ensures range { IfOk result IsInRange }
+    ensures words { IfOk result (IsOfWords (asks_import (map S.text words.now))) }
 {
     match parsed(alloc, words) {
         Ok(asked) => Ok(asked),

@@ -1,2 +1,1 @@
 pub mod Sink
-pub mod ToWrite

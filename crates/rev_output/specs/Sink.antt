@@ -3,6 +3,16 @@
 use Rattle.std.specs.Prelude.{◌≡◌, ℕ, ◌+◌, ◌%◌, Bool, true, false, ◌==◌, ◌&&◌, nat_lt, List, ◌++◌, Option, Result, Ok, Err}
 use Rattle.std.specs.Io.KnownBytes.{Appends}
 
+-- what a contract sees of a writer: the bytes that it holds, where they are known, and how many writes and flushes failed,
+-- counted modulo 2 ^ 64
+pub record PlainSink : Type 0 where
+  pub contents : Option (List ℕ)
+  pub failures : ℕ
+
+-- a writer with these
+abbrev pub sink_at : Option (List ℕ) → ℕ → PlainSink
+sink_at contents failures = record { contents = contents; failures = failures }
+
 -- an error, or no byte of some
 abbrev pub failed_of : {E : Type 0} → Result ℕ E → ℕ → Bool
 failed_of (Ok n) size = (n == 0) && nat_lt 0 size

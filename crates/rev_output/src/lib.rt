@@ -9,6 +9,7 @@ ghost use Rattle.std.specs.Io.KnownBytes.{Keeps, Appends, WriteAppends};
 ghost use Rattle.rev_output.specs.Sink.{WroteFront, one_more};
 
 use std::io::{ErrorKind, Write};
+use std::marker::Model;
 use thiserror::Error;
 
 /// A write failed, and took no byte.
@@ -71,19 +72,26 @@ const MOST_TRIES: u32 = 1000000;
 
 /// Any writer of std as a sink. A write that was interrupted is tried again.
 #[derive(Drop)]
-pub struct ToWrite<W> {
+pub struct ToWrite<W: Write> {
     writer: W,
     // How many writes and flushes failed. It begins at 0 again behind the largest number.
     failures: u64,
 }
 
+impl<W: Write> Model for ToWrite<W> {
+    ghost use Rattle.rev_output.specs.Sink.{PlainSink, sink_at};
+
+    ghost Value = { PlainSink };
+
+    ghost view = { λ s. sink_at (W.contents s.writer) s.failures };
+}
+
 impl<W: Write> ToWrite<W> {
-    ghost use Rattle.rev_output.specs.ToWrite.{writer_in, failures_of};
+    ghost use Rattle.rev_output.specs.Sink.{sink_at};
 
     /// A sink that has not failed yet.
     pub fn new(writer: W) -> ToWrite<W>
-        ensures writer { writer_in result ≡ writer }
-        ensures failures { failures_of result ≡ 0 }
+        ensures { result ≡ sink_at (W.contents writer) 0 }
     {
         ToWrite {
             writer,
@@ -111,7 +119,7 @@ fn write_again<W: Write>(writer: &mut W, buf: &[u8]) -> Result<usize, WriteFaile
 }
 
 impl<W: Write> Sink for ToWrite<W> {
-    ghost contents = { λ s. W.contents s.writer };
+    ghost contents = { λ s. s.contents };
 
     ghost failures = { λ s. s.failures };
 

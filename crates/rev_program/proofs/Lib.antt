@@ -3,3 +3,4 @@ pub mod Logs
 mod Scripts
 mod Ends
 mod Parts
+mod Stops

@@ -9,8 +9,8 @@ use Rattle.rev_program.specs.declared.fault.RecordingFault.{RecordingFault}
 use Rattle.rev_program.specs.declared.fault.RecordingFault.TheVariants.{CannotWrite}
 use Rattle.rev_program.specs.declared.stop.Stop.{Stop}
 
--- 0 done, 2 command line or configuration, 3 memory, 4 input or output, 5 a recorded file has a line that is not a step,
--- 6 the log of a recording differs
+-- 0 done, 2 command line or configuration, 3 memory, 4 input or output, 5 a file of steps has a line that is not a step,
+-- or what is imported is at fault, 6 the log of a recording differs
 abbrev pub IsStatus : ℕ → Type 0
 IsStatus n = (n ≤ 6) × (n ≢ 1)
 

@@ -1,16 +1,27 @@
 -- What the user is told when the program ends before all is done.
 -- Rule of this project: exit statuses and their texts: the command line, the configuration, and a run that ends early.
-use Rattle.std.specs.Prelude.{ℕ, List, ◌++◌, codes, string_bytes}
+use Rattle.std.specs.Prelude.{ℕ, List, [], ◌∷◌, ◌++◌, codes, decimal, String, string_bytes}
+use Rattle.std.specs.declared.alloc.Global.{Global}
 use Rattle.rev_classes.specs.declared.ConfigFault.{ConfigFault}
 use Rattle.rev_classes.specs.declared.ConfigFault.TheVariants as fault
 use Rattle.rev_options.specs.declared.Refused.{Refused}
 use Rattle.rev_options.specs.declared.Refused.TheVariants as words
+use Rattle.rev_shell.specs.declared.quiet.TraceFault.{TraceFault}
+use Rattle.rev_shell.specs.declared.quiet.TraceFault.TheVariants as trace_fault
 use Rattle.rev_shell.specs.declared.run.RunFault.{RunFault}
 use Rattle.rev_shell.specs.declared.run.RunFault.TheVariants as run_fault
+use Rattle.rev_watch.specs.Field.{name_of}
+use Rattle.rev_watch.specs.Settings.{stat_name}
+use Rattle.rev_watch.specs.declared.fault.LineFault.{LineFault}
+use Rattle.rev_watch.specs.declared.fault.LineFault.TheVariants as line
+use Rattle.rev_watch.specs.declared.settings.StatFault.{StatFault}
+use Rattle.rev_watch.specs.declared.settings.StatFault.TheVariants as stat
+use Rattle.rev_program.specs.Telling.{joined}
 use Rattle.rev_program.specs.declared.stop.Stop.{Stop}
-use Rattle.rev_program.specs.declared.stop.Stop.TheVariants.{Usage, BadPage, BadFactor, TooManyClasses, BadLimit, Memory, CannotRead, CannotOpen, CannotWrite, TooLong}
+use Rattle.rev_program.specs.declared.stop.Stop.TheVariants.{Usage, BadPage, BadFactor, TooManyClasses, BadLimit, Memory, CannotRead, CannotOpen, NotAStep, CannotWrite, TooLong, CannotWriteFile, BadLine, BadStats, NoEvent}
 
--- the exit status: 2 the command line or the configuration, 3 memory, 4 input or output
+-- the exit status: 2 the command line or the configuration, 3 memory, 4 input or output, 5 a line that is not a step, or what
+-- is imported
 abbrev pub status : Stop → ℕ
 status (Usage told) = 2
 status BadPage = 2
@@ -20,8 +31,38 @@ status BadLimit = 2
 status Memory = 3
 status CannotRead = 4
 status (CannotOpen name) = 4
+status (NotAStep file line) = 5
 status CannotWrite = 4
 status TooLong = 4
+status (CannotWriteFile name) = 4
+status (BadLine log n fault) = 5
+status (BadStats file fault) = 5
+status (NoEvent log) = 5
+
+-- why a line of a log is none, in three parts
+abbrev pub line_parts : LineFault → List (List ℕ)
+line_parts line.Memory = codes "out of memory" ∷ [] ∷ [] ∷ []
+line_parts (line.Missing field) = codes "no field `" ∷ name_of field ∷ codes "`" ∷ []
+line_parts (line.Twice field) = codes "field `" ∷ name_of field ∷ codes "` stands twice" ∷ []
+line_parts (line.BadValue field) = codes "field `" ∷ name_of field ∷ codes "` has a value that it cannot have" ∷ []
+line_parts line.BadEscape = codes "a `%` without two hexadecimal digits in the key" ∷ [] ∷ [] ∷ []
+line_parts line.BadKey = codes "the key, decoded, is no key" ∷ [] ∷ [] ∷ []
+line_parts line.TooManyFields = codes "more than 32 fields" ∷ [] ∷ [] ∷ []
+line_parts line.TooLong = codes "more than 4096 bytes" ∷ [] ∷ [] ∷ []
+
+-- why a text of statistics says too little, in three parts
+abbrev pub stat_parts : StatFault → List (List ℕ)
+stat_parts (stat.Missing of) = codes "no line `STAT " ∷ stat_name of ∷ codes "`" ∷ []
+stat_parts (stat.Twice of) = codes "`STAT " ∷ stat_name of ∷ codes "` stands twice" ∷ []
+stat_parts (stat.BadValue of) = codes "`STAT " ∷ stat_name of ∷ codes "` has a value that it cannot have" ∷ []
+
+-- what is told of a line that is none, by the log's name, its number and the fault
+abbrev pub line_told : List ℕ → List ℕ → List (List ℕ) → List ℕ
+line_told log n fault = joined (codes "lrudb: " ∷ log ∷ codes ": line " ∷ n ∷ codes ": " ∷ (fault ++ codes "\n" ∷ []))
+
+-- and of statistics that say too little
+abbrev pub stats_told : List ℕ → List (List ℕ) → List ℕ
+stats_told file fault = joined (codes "lrudb: " ∷ file ∷ codes ": " ∷ (fault ++ codes "\n" ∷ []))
 
 -- the text on the standard error; of a command line, what its parser says
 abbrev pub text : Stop → List ℕ
@@ -33,8 +74,13 @@ text BadLimit = codes "lrudb: bad configuration: limit\n"
 text Memory = codes "lrudb: out of memory\n"
 text CannotRead = codes "lrudb: cannot read\n"
 text (CannotOpen name) = codes "lrudb: " ++ string_bytes name ++ codes ": cannot read\n"
+text (NotAStep file line) = codes "lrudb: " ++ string_bytes file ++ codes ": line " ++ decimal line ++ codes ": not a step\n"
 text CannotWrite = codes "lrudb: cannot write\n"
 text TooLong = codes "lrudb: input too long\n"
+text (CannotWriteFile name) = codes "lrudb: " ++ string_bytes name ++ codes ": cannot write\n"
+text (BadLine log n fault) = line_told (string_bytes log) (decimal n) (line_parts fault)
+text (BadStats file fault) = stats_told (string_bytes file) (stat_parts fault)
+text (NoEvent log) = codes "lrudb: " ++ string_bytes log ++ codes ": no event\n"
 
 -- the end of a program whose words ask for nothing that there is
 abbrev pub stop_of_words : Refused → Stop
@@ -55,3 +101,10 @@ stop_of_run (run_fault.Memory line) = Memory
 stop_of_run run_fault.Read = CannotRead
 stop_of_run run_fault.Write = CannotWrite
 stop_of_run run_fault.TooLong = TooLong
+
+-- the end of a program where a file of steps of this name is at fault
+abbrev pub stop_of_trace : TraceFault → String Global → Stop
+stop_of_trace (trace_fault.NotAStep line) file = NotAStep file line
+stop_of_trace trace_fault.Memory file = Memory
+stop_of_trace trace_fault.Read file = CannotOpen file
+stop_of_trace trace_fault.TooLong file = TooLong

@@ -3,9 +3,11 @@
 #![tactic(auto)]
 
 mod fault;
+pub mod import;
 pub mod play;
 pub mod program;
 mod rows;
+mod starts;
 mod steps;
 mod stop;
 mod telling;

@@ -2,7 +2,6 @@
 ghost use Rattle.std.specs.Prelude.{[], ◌≡◌, ◌≢◌, ◌≤◌, ◌++◌, length, map, All, IfOk, IfErr, OnOk};
 ghost use Rattle.std.specs.List.{zip};
 ghost use Rattle.std.specs.Io.KnownBytes.{Appends, Keeps};
-ghost use Rattle.rev_classes.specs.Limits.{IsWithinLimits};
 ghost use Rattle.rev_requests.specs.Plain.{plain_step};
 ghost use Rattle.rev_recorder.specs.Hands.{Settles};
 ghost use Rattle.rev_recorder.specs.Settling.{AreNew, IsLegalLog};
@@ -14,13 +13,12 @@ ghost use Rattle.rev_program.specs.declared.fault.RecordingFault.{RecordingFault
 use crate::fault::{RecordingFault, ended};
 use crate::rows::{put_end, text_of};
 use crate::steps::read_steps;
-use rev_classes::Config;
 use rev_output::Sink;
 use rev_recorder::{Gate, Hand, RecordFault, Recorder, Settled, run_actors};
 use rev_requests::Step;
 use rev_script::dialect::Dialect;
 use rev_script::source::FromRead;
-use rev_shell::run::open_session;
+use rev_undotree::Session;
 use std::alloc::{AllocError, Global};
 use std::collections::VecDeque;
 use std::io::{Read, Write};
@@ -84,20 +82,16 @@ fn read_files<F: Read + Drop>(
     Ok(scripts)
 }
 
-// A recorder of an empty store, with a hand for each player.
+// A recorder of the session, with a hand for each player.
 fn open_recorder(
     alloc: Global,
-    config: &Config,
+    session: Session<Global>,
     players: usize,
 ) -> Result<(Recorder, Vec<Hand>), RecordingFault>
-    requires players { (1 ≤ players) × (players ≤ 8) }
-    requires limits { IsWithinLimits config.now }
+    requires { (1 ≤ players) × (players ≤ 8) }
     ensures ok { IfOk result (λ r. (r.0.seal ≡ 1) × AreNew 1 players r.1.items) }
     ensures err { IfErr result (λ e. IsOfPlay e) }
 {
-    let Some(session) = open_session(&alloc, config) else {
-        return Err(RecordingFault::Memory);
-    };
     match Recorder::open(alloc, session, players, SEAL) {
         Ok(opened) => Ok(opened),
         Err(refused) => {
@@ -184,19 +178,18 @@ fn settled(recorder: Recorder, hands: Vec<Hand>, stopped: Vec<u8>) -> Result<Pla
     }
 }
 
-// Plays the scripts, each a player's, on an empty store.
+// Plays the scripts, each a player's, on the session.
 fn play_scripts<R: Threads + Wait + Sync>(
     rt: &R,
     alloc: Global,
-    config: &Config,
+    session: Session<Global>,
     scripts: Vec<Vec<Step<Global>>>,
 ) -> Result<Played, RecordingFault>
-    requires players { (1 ≤ length scripts.items) × (length scripts.items ≤ 8) }
-    requires limits { IsWithinLimits config.now }
+    requires { (1 ≤ length scripts.items) × (length scripts.items ≤ 8) }
     ensures ok { IfOk result (λ played. IsPlayed scripts.items played.settled.log.items played.settled.session played.stopped.items) }
     ensures err { IfErr result (λ e. IsOfPlay e) }
 {
-    let (recorder, hands) = match open_recorder(alloc, config, scripts.len()) {
+    let (recorder, hands) = match open_recorder(alloc, session, scripts.len()) {
         Ok(opened) => opened,
         Err(fault) => return Err(fault),
     };
@@ -228,21 +221,27 @@ fn print<W: Write>(played: Played, writer: &mut W) -> Result<(), RecordingFault>
     }
 }
 
-// Reads all files, plays their steps, and prints how it went.
+// Reads all files, plays their steps on the session, and prints how it went.
 fn record<R: Threads + Wait + Sync + AllocGlobal, F: Read + Drop, W: Write>(
     rt: &R,
-    config: &Config,
+    session: Session<Global>,
     files: Vec<(String, F)>,
     writer: &mut W,
 ) -> Result<(), RecordingFault>
-    requires count { (1 ≤ length files.items) × (length files.items ≤ 8) }
-    requires limits { IsWithinLimits config.now }
+    requires { (1 ≤ length files.items) × (length files.items ≤ 8) }
     ensures ok { OnOk result (IsRecorded F.remaining files.items (W.contents writer.old) (W.contents writer.new)) }
     ensures err { IfErr result (λ e. e ≢ RecordingFault.CannotWrite → Keeps (W.contents writer.old) (W.contents writer.new)) }
     ensures why { IfErr result (λ e. EndedBy F.remaining files.items e) }
 {
-    let scripts = read_files(rt.alloc(), files)?;
-    let played = play_scripts(rt, rt.alloc(), config, scripts)?;
+    let scripts = match read_files(rt.alloc(), files) {
+        Ok(scripts) => scripts,
+        Err(fault) => {
+            // The program ends here, and all memory goes back at once.
+            let _session = ManuallyDrop::new(session);
+            return Err(fault);
+        }
+    };
+    let played = play_scripts(rt, rt.alloc(), session, scripts)?;
     match print(played, writer) {
         Ok(()) => Ok(()),
         Err(fault) => Err(fault),
@@ -250,24 +249,23 @@ fn record<R: Threads + Wait + Sync + AllocGlobal, F: Read + Drop, W: Write>(
 }
 
 /// `lrudb record` once its files are open, each a name and a reader: reads them in order and line by line, plays them at
-/// once, the i-th file from 0 as player i, and writes the rows to `writer`. A file that is not steps from its first line to
-/// its last ends it before anything is played. Answers the exit status, 0, 3, 4, 5 or 6. At status 0 nothing goes to
+/// once on the session, the i-th file from 0 as player i, and writes the rows to `writer`. A file that is not steps from
+/// its first line to its last ends it before anything of it is played. Answers the exit status, 0, 3, 4, 5 or 6. At status 0 nothing goes to
 /// `errors`; at any other the text of the reason does, whole where no write to `errors` has failed, and nothing is written
 /// to `writer` but where a write to it failed. Threads may wait for one another.
 pub fn play_files<R: Threads + Wait + Sync + AllocGlobal, F: Read + Drop, W: Write, E: Sink>(
     rt: &R,
-    config: &Config,
+    session: Session<Global>,
     files: Vec<(String, F)>,
     writer: &mut W,
     errors: &mut E,
 ) -> u8
-    requires count { (1 ≤ length files.items) × (length files.items ≤ 8) }
-    requires limits { IsWithinLimits config.now }
+    requires { (1 ≤ length files.items) × (length files.items ≤ 8) }
     ensures status { IsStatus result }
     ensures rows { result ≡ 0 → IsRecorded F.remaining files.items (W.contents writer.old) (W.contents writer.new) }
     ensures fault { result ≢ 0 → (e : RecordingFault) × HasNoRows F.remaining files.items (W.contents writer.old) (W.contents writer.new)
         (E.contents errors.old) (E.contents errors.new) (E.failures errors.old) (E.failures errors.new) result e }
     ensures quiet { result ≡ 0 → Keeps (E.contents errors.old) (E.contents errors.new) }
 {
-    ended(record(rt, config, files, writer), errors)
+    ended(record(rt, session, files, writer), errors)
 }

@@ -1,12 +1,15 @@
 //! The whole program.
-ghost use Rattle.std.specs.Prelude.{◌≡◌, ◌≢◌, ◌≤◌, length, Err, IfOk, IfErr, IfSome, MatchResult};
+ghost use Rattle.std.specs.Prelude.{◌≡◌, ◌≢◌, ◌≤◌, length, map, false, Err, IfOk, IfErr, IfSome, MatchResult};
 ghost use Rattle.std.specs.Io.KnownBytes.{Keeps};
 ghost use Rattle.rev_classes.specs.Limits.{IsWithinLimits, fault_of};
+ghost use Rattle.rev_options.specs.Request.{asks_import};
 ghost use Rattle.rev_program.specs.Program.{IsStatus, StopsBy, EndsEarly, EndsUnwritten};
 ghost use Rattle.rev_program.specs.Stop.{status, text, stop_of_config};
 ghost use Rattle.rev_program.specs.Telling.{Told};
 
+use crate::import::import_watch;
 use crate::play::play_files;
+use crate::starts::started;
 use crate::stop::Stop;
 use linked_list_allocator::LocalHeap;
 use rev_classes::{Config, fault_of};
@@ -16,6 +19,7 @@ use rev_output::{Sink, ToWrite};
 use rev_script::dialect::Dialect;
 use rev_script::source::FromRead;
 use rev_shell::run::{RunFault, run_at_last};
+use rev_undotree::Session;
 use std::alloc::{Allocator, Global};
 use std::convert::AsStr;
 use std::io::{Read, Write};
@@ -24,8 +28,8 @@ use std::sync::Wait;
 use std::thread::Threads;
 use std::{fs, io};
 
-// The status of a program that ended so. Where it was stopped its user is told, and where it was not nothing is.
-fn ended<E: Sink>(done: Result<(), Stop>, errors: &mut E) -> u8
+/// The status of a program that ended so. Where it was stopped its user is told, and where it was not nothing is.
+pub(crate) fn ended<E: Sink>(done: Result<(), Stop>, errors: &mut E) -> u8
     ensures status { MatchResult done (λ _. result ≡ 0) (λ stop. result ≡ status stop) }
     ensures range { IsStatus result }
     ensures quiet { result ≡ 0 → Keeps (E.contents errors.old) (E.contents errors.new) }
@@ -41,10 +45,11 @@ fn ended<E: Sink>(done: Result<(), Stop>, errors: &mut E) -> u8
     }
 }
 
-// Runs the script of the reader, with all that the run keeps in `alloc`.
-fn run_in<A: Allocator + Clone, I: Read, O: Write + Drop>(
+// Runs the script of the reader behind the steps of the starts, with all that the run keeps in `alloc`.
+fn run_in<A: Allocator + Clone, F: Read + Drop, I: Read, O: Write + Drop>(
     alloc: &A,
     config: &Config,
+    starts: Vec<(String, F)>,
     reader: I,
     exchange: &Exchange<O>,
 ) -> Result<(), Stop>
@@ -52,9 +57,13 @@ where
     I: Drop,
     requires { IsWithinLimits config.now }
 {
+    let session = match started(alloc, config, starts) {
+        Err(stop) => return Err(stop),
+        Ok(session) => session,
+    };
     let mut source = FromRead::new(reader);
     let mut sink = ToWrite::new(Outgoing::new(exchange));
-    let done = run_at_last(alloc, config, Dialect::CrLf, &mut source, &mut sink);
+    let done = run_at_last(alloc, session, Dialect::CrLf, &mut source, &mut sink);
     // What was answered before a fault is sent all the same.
     let sent = exchange.send();
     match done {
@@ -66,11 +75,12 @@ where
     }
 }
 
-// Runs the script of the reader, with all that the run keeps in one heap of so many bytes.
-fn run_in_heap<I: Read + Drop, O: Write + Drop>(
+// Runs the script of the reader behind the steps of the starts, with all that the run keeps in one heap of so many bytes.
+fn run_in_heap<F: Read + Drop, I: Read + Drop, O: Write + Drop>(
     alloc: Global,
     bytes: usize,
     config: &Config,
+    starts: Vec<(String, F)>,
     reader: I,
     exchange: &Exchange<O>,
 ) -> Result<(), Stop>
@@ -79,24 +89,20 @@ fn run_in_heap<I: Read + Drop, O: Write + Drop>(
     let Ok(heap) = LocalHeap::new(alloc, bytes) else {
         return Err(Stop::Memory);
     };
-    run_in(&&heap, config, reader, exchange)
+    run_in(&&heap, config, starts, reader, exchange)
 }
 
-/// Runs the script of the reader and writes its answers. With `heap`, all that the run keeps lies in one heap of so many
-/// bytes, but for the buffers of the streams. A configuration at fault is told before anything is read and before the heap
-/// is made.
-pub fn run_script<I: Read + Drop, O: Write + Drop>(
+// Runs the script of the reader behind the steps of the starts, with a heap or none.
+fn run_sound<F: Read + Drop, I: Read + Drop, O: Write + Drop>(
     alloc: Global,
-    config: Config,
+    config: &Config,
     heap: Option<usize>,
+    starts: Vec<(String, F)>,
     reader: I,
     writer: O,
 ) -> Result<(), Stop>
-    ensures { IfSome (fault_of config) (λ fault. result ≡ Err (stop_of_config fault)) }
+    requires { IsWithinLimits config.now }
 {
-    if let Some(fault) = fault_of(&config) {
-        return Err(Stop::from(fault));
-    }
     let Ok(exchange) = Exchange::new(alloc, writer) else {
         return Err(Stop::Memory);
     };
@@ -104,8 +110,8 @@ pub fn run_script<I: Read + Drop, O: Write + Drop>(
         return Err(Stop::Memory);
     };
     match heap {
-        None => run_in(&alloc, &config, incoming, &exchange),
-        Some(bytes) => run_in_heap(alloc, bytes, &config, incoming, &exchange),
+        None => run_in(&alloc, config, starts, incoming, &exchange),
+        Some(bytes) => run_in_heap(alloc, bytes, config, starts, incoming, &exchange),
     }
 }
 
@@ -136,12 +142,52 @@ fn all_opened<R: Files>(
     Ok(files)
 }
 
-// Plays the scripts of the files at once, each as a player, and writes the rows. A configuration at fault is told before
-// a file is opened, and a file that cannot be opened before one is read. Answers the exit status, and tells as
-// `play_files` does.
+/// Runs the script of the reader, from the state that the steps of the files `starts` leave one after another, and writes
+/// its answers. With `heap`, all that the run keeps lies in one heap of so many bytes, but for the buffers of the streams.
+/// A configuration at fault is told before a file is opened, and a file that cannot be opened before anything is read and
+/// before the heap is made.
+pub fn run_script<R: Files + AllocGlobal, I: Read + Drop, O: Write + Drop>(
+    rt: &R,
+    config: Config,
+    heap: Option<usize>,
+    starts: Vec<String>,
+    reader: I,
+    writer: O,
+) -> Result<(), Stop>
+    ensures { IfSome (fault_of config) (λ fault. result ≡ Err (stop_of_config fault)) }
+{
+    if let Some(fault) = fault_of(&config) {
+        return Err(Stop::from(fault));
+    }
+    match all_opened(rt, rt.alloc(), starts) {
+        Err(stop) => Err(stop),
+        Ok(starts) => run_sound(rt.alloc(), &config, heap, starts, reader, writer),
+    }
+}
+
+// The starts and the files, opened in order, and a session on which the steps of the starts were played.
+fn opened_for_recording<R: Files + AllocGlobal>(
+    rt: &R,
+    config: &Config,
+    starts: Vec<String>,
+    names: Vec<String>,
+) -> Result<(Session<Global>, Vec<(String, R::File)>), Stop>
+    requires { IsWithinLimits config.now }
+    ensures { IfOk result (λ opened. length opened.1.items ≡ length names.items) }
+{
+    let starts = all_opened(rt, rt.alloc(), starts)?;
+    let files = all_opened(rt, rt.alloc(), names)?;
+    let session = started(&rt.alloc(), config, starts)?;
+    Ok((session, files))
+}
+
+// Plays the scripts of the files at once, each as a player, from the state that the steps of the files `starts` leave, and
+// writes the rows. A configuration at fault is told before a file is opened, and a file that cannot be opened before one
+// is read. Answers the exit status, and tells as `play_files` does.
 fn record_files<R: Files + Threads + Wait + Sync + AllocGlobal, O: Write, E: Sink>(
     rt: &R,
     config: Config,
+    starts: Vec<String>,
     names: Vec<String>,
     writer: &mut O,
     errors: &mut E,
@@ -156,15 +202,15 @@ fn record_files<R: Files + Threads + Wait + Sync + AllocGlobal, O: Write, E: Sin
     if let Some(fault) = fault_of(&config) {
         return ended(Err(Stop::from(fault)), errors);
     }
-    match all_opened(rt, rt.alloc(), names) {
+    match opened_for_recording(rt, &config, starts, names) {
         Err(stop) => ended(Err(stop), errors),
-        Ok(files) => play_files(rt, &config, files, writer, errors),
+        Ok((session, files)) => play_files(rt, session, files, writer, errors),
     }
 }
 
 /// The whole program: does what the words behind its name ask for, and answers its exit status, 0 or 2 to 6.
 ///
-/// Answers go to `writer`. At status 0 nothing goes to `errors`; at any other the text of the reason does, whole where no
+/// Answers go to `writer`. At status 0 nothing goes to `errors`, but what an import tells of itself; at any other the text of the reason does, whole where no
 /// write to `errors` has failed. The players of a recording wait for one another.
 pub fn program<
     R: Files + Threads + Wait + Sync + AllocGlobal,
@@ -175,15 +221,22 @@ pub fn program<
 >(rt: &R, words: &[S], reader: I, mut writer: O, errors: &mut E) -> u8
     ensures status { IsStatus result }
     ensures early { result ≢ 0 → EndsEarly (E.contents errors.old) (E.contents errors.new) (E.failures errors.old) (E.failures errors.new) result }
-    ensures quiet { result ≡ 0 → Keeps (E.contents errors.old) (E.contents errors.new) }
+    ensures quiet { result ≡ 0 → asks_import (map S.text words.now) ≡ false → Keeps (E.contents errors.old) (E.contents errors.new) }
 {
     match parse_words(rt.alloc(), words) {
         Err(refused) => ended(Err(Stop::from(refused)), errors),
-        Ok(Request::Run { config, heap }) => {
-            ended(run_script(rt.alloc(), config, heap, reader, writer), errors)
+        Ok(Request::Run {
+            config,
+            heap,
+            starts,
+        }) => {
+            ended(run_script(rt, config, heap, starts, reader, writer), errors)
         }
-        Ok(Request::Record { config, files }) => {
-            record_files(rt, config, files, &mut writer, errors)
-        }
+        Ok(Request::Record {
+            config,
+            starts,
+            files,
+        }) => record_files(rt, config, starts, files, &mut writer, errors),
+        Ok(Request::ImportWatch(asked)) => import_watch(rt, asked, reader, &mut writer, errors),
     }
 }

@@ -1,15 +1,20 @@
 //! Why the program ends before all is done, in the words and statuses that its user sees.
-ghost use Rattle.std.specs.Prelude.{◌≡◌, ◌≢◌, OnOk, OnErr};
+ghost use Rattle.std.specs.Prelude.{◌≡◌, ◌≢◌, [], ◌∷◌, decimal, OnOk, OnErr};
 ghost use Rattle.std.specs.Io.KnownBytes.{Appends};
-ghost use Rattle.rev_program.specs.Stop.{status, text, stop_of_config, stop_of_run};
+ghost use Rattle.rev_program.specs.Stop.{status, text, line_parts, line_told, stat_parts, stats_told, stop_of_config, stop_of_run, stop_of_trace};
 ghost use Rattle.rev_output.specs.Sink.{one_more};
 ghost use Rattle.rev_program.specs.Telling.{Told};
 
 use crate::telling::tell_parts;
+use itoa::Buffer;
 use rev_classes::ConfigFault;
 use rev_options::Refused;
 use rev_output::{Sink, WriteFailed};
+use rev_shell::quiet::TraceFault;
 use rev_shell::run::RunFault;
+use rev_watch::fault::LineFault;
+use rev_watch::settings::StatFault;
+use std::alloc::AllocError;
 
 /// Why the program ends before all is done.
 #[derive(Debug, Drop)]
@@ -22,16 +27,126 @@ pub enum Stop {
     BadLimit,
     Memory,
     CannotRead,
-    /// A file of this name cannot be opened.
+    /// A file of this name cannot be opened or read.
     CannotOpen(String),
+    /// The first line of a file that makes no step, counted from 1, where each is to make some.
+    NotAStep { file: String, line: u64 },
     CannotWrite,
-    /// The input has more lines than can be counted.
+    /// The input has more bytes than a script may have, or a line of a start has.
     TooLong,
+    /// A file of this name cannot be written.
+    CannotWriteFile(String),
+    /// A line of a log begins like one, and is none. Lines are numbered from 1.
+    BadLine {
+        log: String,
+        line: u64,
+        fault: LineFault,
+    },
+    /// A text of statistics says too little.
+    BadStats {
+        file: String,
+        fault: StatFault,
+    },
+    /// Logs, of which this is the first, have no event that is asked for.
+    NoEvent(String),
+}
+
+// What a fault of a line says, in three parts.
+fn line_fault(fault: LineFault) -> (&'static str, &'static str, &'static str)
+    ensures { result.0.now ∷ result.1.now ∷ result.2.now ∷ [] ≡ line_parts fault }
+{
+    match fault {
+        LineFault::Memory => ("out of memory", "", ""),
+        LineFault::Missing(field) => ("no field `", field.name(), "`"),
+        LineFault::Twice(field) => ("field `", field.name(), "` stands twice"),
+        LineFault::BadValue(field) => {
+            ("field `", field.name(), "` has a value that it cannot have")
+        }
+        LineFault::BadEscape => ("a `%` without two hexadecimal digits in the key", "", ""),
+        LineFault::BadKey => ("the key, decoded, is no key", "", ""),
+        LineFault::TooManyFields => ("more than 32 fields", "", ""),
+        LineFault::TooLong => ("more than 4096 bytes", "", ""),
+    }
+}
+
+// What a fault of a text of statistics says, in three parts.
+fn stat_fault(fault: StatFault) -> (&'static str, &'static str, &'static str)
+    ensures { result.0.now ∷ result.1.now ∷ result.2.now ∷ [] ≡ stat_parts fault }
+{
+    match fault {
+        StatFault::Missing(stat) => ("no line `STAT ", stat.name(), "`"),
+        StatFault::Twice(stat) => ("`STAT ", stat.name(), "` stands twice"),
+        StatFault::BadValue(stat) => {
+            ("`STAT ", stat.name(), "` has a value that it cannot have")
+        }
+    }
+}
+
+// Tells a line of a log and why it is none, by the three parts of that.
+fn tell_line_by<'a, E: Sink>(
+    errors: &mut E,
+    log: &'a str,
+    digits: &'a str,
+    front: &'a str,
+    field: &'a str,
+    back: &'a str,
+) -> Result<(), WriteFailed>
+    ensures told { Told (E.contents errors.old) (E.contents errors.new) (E.failures errors.old) (E.failures errors.new) (line_told log.now digits.now (front.now ∷ field.now ∷ back.now ∷ [])) }
+    ensures ok { OnOk result (Appends (E.contents errors.old) (E.contents errors.new) (line_told log.now digits.now (front.now ∷ field.now ∷ back.now ∷ []))) }
+    ensures err { OnErr result (E.failures errors.new ≡ one_more (E.failures errors.old)) }
+{
+    tell_parts(
+        errors,
+        &[
+            "lrudb: ", log, ": line ", digits, ": ", front, field, back, "\n",
+        ],
+    )
+}
+
+// Tells why a line of a log is none.
+fn tell_line<E: Sink>(
+    errors: &mut E,
+    log: &str,
+    line: u64,
+    fault: LineFault,
+) -> Result<(), WriteFailed>
+    ensures told { Told (E.contents errors.old) (E.contents errors.new) (E.failures errors.old) (E.failures errors.new) (line_told log.now (decimal line) (line_parts fault)) }
+    ensures ok { OnOk result (Appends (E.contents errors.old) (E.contents errors.new) (line_told log.now (decimal line) (line_parts fault))) }
+    ensures err { OnErr result (E.failures errors.new ≡ one_more (E.failures errors.old)) }
+{
+    let mut number = Buffer::new();
+    let (front, field, back) = line_fault(fault);
+    tell_line_by(errors, log, number.format(line), front, field, back)
+}
+
+// Tells why a text of statistics says too little, by the three parts of that.
+fn tell_stats_by<'a, E: Sink>(
+    errors: &mut E,
+    file: &'a str,
+    front: &'a str,
+    stat: &'a str,
+    back: &'a str,
+) -> Result<(), WriteFailed>
+    ensures told { Told (E.contents errors.old) (E.contents errors.new) (E.failures errors.old) (E.failures errors.new) (stats_told file.now (front.now ∷ stat.now ∷ back.now ∷ [])) }
+    ensures ok { OnOk result (Appends (E.contents errors.old) (E.contents errors.new) (stats_told file.now (front.now ∷ stat.now ∷ back.now ∷ []))) }
+    ensures err { OnErr result (E.failures errors.new ≡ one_more (E.failures errors.old)) }
+{
+    tell_parts(errors, &["lrudb: ", file, ": ", front, stat, back, "\n"])
+}
+
+// Tells why a text of statistics says too little.
+fn tell_stats<E: Sink>(errors: &mut E, file: &str, fault: StatFault) -> Result<(), WriteFailed>
+    ensures told { Told (E.contents errors.old) (E.contents errors.new) (E.failures errors.old) (E.failures errors.new) (stats_told file.now (stat_parts fault)) }
+    ensures ok { OnOk result (Appends (E.contents errors.old) (E.contents errors.new) (stats_told file.now (stat_parts fault))) }
+    ensures err { OnErr result (E.failures errors.new ≡ one_more (E.failures errors.old)) }
+{
+    let (front, stat, back) = stat_fault(fault);
+    tell_stats_by(errors, file, front, stat, back)
 }
 
 impl Stop {
     /// The status that the program ends with: 2 for the command line or the configuration, 3 for memory, 4 for input
-    /// or output (this project's own numbers).
+    /// or output, 5 for a line that is not a step, or for what is imported (this project's own numbers).
     pub fn status(&self) -> u8
         ensures status { result ≡ status self.now }
         ensures some { result ≢ 0 }
@@ -41,6 +156,9 @@ impl Stop {
             Stop::BadPage | Stop::BadFactor | Stop::TooManyClasses | Stop::BadLimit => 2,
             Stop::Memory => 3,
             Stop::CannotRead | Stop::CannotOpen(_) | Stop::CannotWrite | Stop::TooLong => 4,
+            Stop::CannotWriteFile(_) => 4,
+            Stop::NotAStep { .. } => 5,
+            Stop::BadLine { .. } | Stop::BadStats { .. } | Stop::NoEvent(_) => 5,
         }
     }
 
@@ -61,8 +179,37 @@ impl Stop {
             Stop::CannotOpen(name) => {
                 tell_parts(errors, &["lrudb: ", name.as_str(), ": cannot read\n"])
             }
+            Stop::NotAStep { file, line } => {
+                let mut number = Buffer::new();
+                let digits = number.format(*line);
+                let file = file.as_str();
+                tell_parts(
+                    errors,
+                    &["lrudb: ", file, ": line ", digits, ": not a step\n"],
+                )
+            }
             Stop::CannotWrite => tell_parts(errors, &["lrudb: cannot write\n"]),
             Stop::TooLong => tell_parts(errors, &["lrudb: input too long\n"]),
+            Stop::CannotWriteFile(name) => {
+                tell_parts(errors, &["lrudb: ", name.as_str(), ": cannot write\n"])
+            }
+            Stop::BadLine { log, line, fault } => tell_line(errors, log.as_str(), *line, *fault),
+            Stop::BadStats { file, fault } => tell_stats(errors, file.as_str(), *fault),
+            Stop::NoEvent(name) => tell_parts(errors, &["lrudb: ", name.as_str(), ": no event\n"]),
+        }
+    }
+}
+
+impl Stop {
+    /// What a fault of a file of steps of this name is.
+    pub fn of(fault: TraceFault, file: String) -> Stop
+        ensures { result ≡ stop_of_trace fault file }
+    {
+        match fault {
+            TraceFault::NotAStep { line } => Stop::NotAStep { file, line },
+            TraceFault::Memory => Stop::Memory,
+            TraceFault::Read => Stop::CannotOpen(file),
+            TraceFault::TooLong => Stop::TooLong,
         }
     }
 }
@@ -91,6 +238,17 @@ impl From<ConfigFault> for Stop {
             ConfigFault::BadLimit => Stop::BadLimit,
             ConfigFault::Memory => Stop::Memory,
         }
+    }
+}
+
+impl From<AllocError> for Stop {
+    ghost use Rattle.std.specs.Prelude.{◌≡◌};
+    ghost use Rattle.rev_program.specs.declared.stop.Stop.{Stop};
+
+    ghost from_gives = { λ refused stop. stop ≡ Stop.Memory };
+
+    fn from(_fault: AllocError) -> Stop {
+        Stop::Memory
     }
 }
 

@@ -14,10 +14,14 @@ pub record PlainTune : Type 0 where
 abbrev pub is_within : ℕ → ℕ → ℕ → Bool
 is_within least most n = nat_le least n && nat_le n most
 
+-- the most that both shares may be together, in per cent
+abbrev pub most_shares : ℕ
+most_shares = 80
+
 -- each share is 1 to 79 and both together at most 80, and each factor is 1 to 1000000
 abbrev pub is_tune : ℕ → ℕ → ℕ → ℕ → Bool
 is_tune hot warm hot_factor warm_factor =
-    is_within 1 79 hot && (is_within 1 79 warm && (nat_le (hot + warm) 80 && (is_within 1 1000000 hot_factor && is_within 1 1000000 warm_factor)))
+    is_within 1 79 hot && (is_within 1 79 warm && (nat_le (hot + warm) most_shares && (is_within 1 1000000 hot_factor && is_within 1 1000000 warm_factor)))
 
 -- the settings with the four numbers
 abbrev pub tuned : PlainTune → Settings → Settings

@@ -11,4 +11,4 @@ pub use actors::ActorStep;
 pub use clients::{Arithmetic, ClientStep, JoinSide, KeyCommand, StoreVerb};
 pub use payloads::Payload;
 pub use steps::Step;
-pub use tuning::{BadTune, Tune};
+pub use tuning::{BadTune, MOST_SHARES, Tune};

@@ -7,6 +7,9 @@ use rev_model::Settings;
 use std::marker::Model;
 use thiserror::Error;
 
+/// The most that the shares of HOT and WARM may be together, in per cent (memcached's own).
+pub const MOST_SHARES: u64 = 80;
+
 /// The four numbers of `lru tune` (protocol.txt), within their limits (this project's own): the shares of HOT and WARM
 /// in per cent, each 1 to 79 and both together at most 80, and their age factors in thousandths, each 1 to 1000000.
 #[derive(Clone, Copy, Debug, PartialEq, Eq)]
@@ -46,7 +49,7 @@ fn is_tune(hot_share: u32, warm_share: u32, hot_factor: u32, warm_factor: u32) -
 {
     let hot = is_within(1, 79, hot_share);
     let warm = is_within(1, 79, warm_share);
-    let both = u64::from(hot_share) + u64::from(warm_share) <= 80;
+    let both = u64::from(hot_share) + u64::from(warm_share) <= MOST_SHARES;
     let factors = is_within(1, 1000000, hot_factor) && is_within(1, 1000000, warm_factor);
     hot && warm && both && factors
 }
@@ -76,9 +79,10 @@ impl Tune {
         })
     }
 
-    /// HOT's share of a class's bytes, 1 to 79 per cent.
+    /// HOT's share of a class's bytes, 1 to 79 per cent. The four numbers are within their limits.
     pub fn hot_share(self) -> u8
-        ensures { result ≡ self.hot_share }
+        ensures value { result ≡ self.hot_share }
+        ensures within { is_tune self.hot_share self.warm_share self.hot_factor self.warm_factor ≡ true }
     {
         self.hot_share
     }

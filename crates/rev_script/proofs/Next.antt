@@ -14,7 +14,7 @@ use Rattle.rev_script.specs.Words.{words, word}
 use Rattle.rev_script.specs.declared.command.StorageCommand.{StorageCommand}
 use Rattle.std.proofs.Common.{ℤ, ◌||◌, Option, None, Result, Ok, Err, IfOk, IfErr}
 use Rattle.rev_script.specs.Script.{StorageLine, payload_of, has_lf, after_lf, ScriptLine, BadLine, line_of, storage_line_of, is_ending, block_size, is_passed, passes, onwards, cuts, whole_lines, IsWhole, IsLast}
-use Rattle.rev_script.specs.Line.{PlainInput, has_block, IsNext, IsFault, IsStorageLine, IsStorageNext}
+use Rattle.rev_script.specs.Line.{PlainInput, has_block, IsNext, IsBehindRest, IsFault, IsStorageLine, IsStorageNext}
 use Rattle.rev_script.specs.declared.dialect.Dialect.{Dialect}
 use Rattle.rev_script.specs.declared.byte_reader.LineFault.{LineFault}
 use Rattle.rev_script.specs.declared.byte_reader.LineFault.TheVariants as faults
@@ -242,6 +242,23 @@ pub rested_ok : {A : Type 0} {old mid : PlainReader} (new : PlainInput) (f : A �
     IfOk r (λ a. IsNext (here d mid) new (f a)) → IfOk r (λ a. IsNext (within d old) new (f a))
 rested_ok new f d (Ok a) k n = rest_next new d (f a) k n
 rested_ok new f d (Err e) k n = tt
+
+-- the same, whether there is a rest or not
+pub onward_ok : {A : Type 0} {old mid : PlainReader} {d e : Dialect} (p q : Bool) (new : PlainInput) (f : A → Option ScriptLine) (r : Result A LineFault) →
+    IsBehindRest (record { bytes = old; dialect = d; passes = p }) (record { bytes = mid; dialect = e; passes = q }) →
+    IfOk r (λ a. IsNext (record { bytes = mid; dialect = e; passes = q }) new (f a)) → IfOk r (λ a. IsNext (record { bytes = old; dialect = d; passes = p }) new (f a))
+onward_ok {d = d} true q new f r b n =
+    let m = rw (b.begins, b.dialect_is) at n in
+    rested_ok new f d r (b.rest refl) m
+onward_ok false q new f r b n = rw (b.begins, b.dialect_is, b.none refl) at n
+
+pub onward_err : {A : Type 0} {old mid : PlainReader} {d e : Dialect} (p q : Bool) (new : PlainReader) (r : Result A LineFault) →
+    IsBehindRest (record { bytes = old; dialect = d; passes = p }) (record { bytes = mid; dialect = e; passes = q }) →
+    IfErr r (λ f. IsFault (record { bytes = mid; dialect = e; passes = q }) (here d new) f) → IfErr r (λ f. IsFault (record { bytes = old; dialect = d; passes = p }) (here d new) f)
+onward_err {d = d} true q new r b n =
+    let m = rw (b.begins, b.dialect_is) at n in
+    rested new d r (b.rest refl) m
+onward_err false q new r b n = rw (b.begins, b.dialect_is, b.none refl) at n
 
 -- ---- behind a look at the piece, which takes nothing
 

@@ -10,7 +10,7 @@ use Rattle.rev_script.specs.Number.{number, number_u32, signed, is_factor, facto
 use Rattle.rev_script.specs.Words.{words, word, is_name, are_words}
 use Rattle.rev_items.specs.Keys.{is_key}
 use Rattle.rev_model.specs.declared.ClassSet.TheVariants.{All, These}
-use Rattle.rev_requests.specs.Limits.{is_tune}
+use Rattle.rev_requests.specs.Limits.{most_shares, is_tune}
 use Rattle.rev_script.specs.declared.command.BadAnswer.TheVariants.{Error, BadFormat, DeleteUsage, BadExptime, BadDelta, SharesOver80, LineTooLong, BadCommand}
 use Rattle.rev_model.specs.declared.Queue.{Queue}
 use Rattle.rev_model.specs.declared.Queue.TheVariants.{Hot, Warm, Cold, Temp}
@@ -184,7 +184,7 @@ abbrev pub tune_percent : Option ℕ → Option ℕ → List (List ℕ) → Comm
 tune_percent None warm ws = Bad BadFormat
 tune_percent (Some hot) None ws = Bad BadFormat
 tune_percent (Some hot) (Some warm) ws =
-    if nat_lt 80 (hot + warm) then Bad SharesOver80 else tune_of hot warm (factor (word ws 4)) (factor (word ws 5))
+    if nat_lt most_shares (hot + warm) then Bad SharesOver80 else tune_of hot warm (factor (word ws 4)) (factor (word ws 5))
 
 unfoldable pub tune_command : List (List ℕ) → Command
 tune_command ws =

@@ -11,4 +11,3 @@ pub mod DataBlock
 pub mod Line
 pub mod Lines
 pub mod Input
-pub mod FromRead

@@ -7,6 +7,7 @@ use Rattle.rev_script.specs.declared.command.StorageCommand.{StorageCommand}
 use Rattle.rev_script.specs.declared.command.Command.{Command}
 use Rattle.rev_script.specs.declared.command.Command.TheVariants as commands
 use Rattle.rev_script.specs.ByteReader.{PlainReader, Took, Broke, AtEnd}
+use Rattle.rev_script.specs.RawLine.{IsRest}
 use Rattle.rev_script.specs.Script.{ScriptLine, StorageLine, RetrievalLine, UpdateLine, FlushLine, ActorLine, TuneLine, DebugLine, QueryLine, BookmarkLine, BadLine, line_of, storage_line_of, ending_size, is_ending, is_passed, onwards, cuts, whole_lines, IsWhole, IsLast}
 use Rattle.rev_script.specs.declared.dialect.Dialect.{Dialect}
 use Rattle.rev_script.specs.declared.byte_reader.LineFault.{LineFault}
@@ -64,6 +65,13 @@ IsNext old new None =
 IsNext old new (Some line) =
     (taken : List ℕ) × Took old.bytes new.bytes taken × (new.dialect ≡ old.dialect) ×
     (IsWhole old.dialect old.passes new.passes taken line ⊎ (IsLast old.dialect old.passes taken line × AtEnd new.bytes))
+
+-- the rest of a line that is passed over was taken, where there is one in front, and a line begins behind it
+pub record IsBehindRest (old new : PlainInput) : Type 0 where
+  pub begins : new.passes ≡ false
+  pub dialect_is : new.dialect ≡ old.dialect
+  pub rest : old.passes ≡ true → IsRest old.bytes new.bytes true
+  pub none : old.passes ≡ false → new.bytes ≡ old.bytes
 
 -- a part of a line was taken (at Memory perhaps all of it), and then a fault came
 abbrev pub IsFault : PlainInput → PlainInput → LineFault → Type 0

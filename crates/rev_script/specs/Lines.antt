@@ -22,3 +22,7 @@ at_first t d = record {
 -- nothing of its source was read yet
 abbrev pub IsFirst : PlainLines → Type 0
 IsFirst l = l ≡ at_first l.input.bytes.source l.input.dialect
+
+-- the same reader, whose bytes are counted from here on
+abbrev pub counted_anew : PlainLines → PlainLines
+counted_anew l = record l { input = record l.input { bytes = record l.input.bytes { given = 0 } } }

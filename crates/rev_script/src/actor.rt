@@ -7,7 +7,7 @@ use crate::command::{BadAnswer, Command};
 use crate::number::{factor, ids, is_factor, number_u32, signed};
 use crate::words::{is_word, word};
 use rev_model::{ClassSet, Queue};
-use rev_requests::{ActorStep, Tune};
+use rev_requests::{ActorStep, MOST_SHARES, Tune};
 
 #[tactic(auto, unfolding(crate::specs::Commands::crawler_command))]
 pub fn crawler_command(words: &[&[u8]]) -> Command
@@ -57,7 +57,7 @@ fn tune_command(words: &[&[u8]]) -> Command
     let Some(warm_share) = number_u32(word(words, 3)) else {
         return Command::Bad(BadAnswer::BadFormat);
     };
-    if hot_share as u64 + warm_share as u64 > 80 {
+    if hot_share as u64 + warm_share as u64 > MOST_SHARES {
         return Command::Bad(BadAnswer::SharesOver80);
     }
     let Some(hot_factor) = factor(word(words, 4)) else {

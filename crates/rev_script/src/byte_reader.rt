@@ -152,6 +152,13 @@ impl<S: Source> ByteReader<S> {
         self.given
     }
 
+    /// Counts the bytes that are taken from here on alone: so many more may be taken.
+    pub fn count_anew(&mut self)
+        ensures { self.new ≡ record self.old { given = 0 } }
+    {
+        self.given = 0;
+    }
+
     /// The source, as it is now.
     pub fn into_source(self) -> S
         ensures { S.told result ≡ self.source }

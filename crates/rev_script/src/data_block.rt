@@ -72,6 +72,7 @@ fn is_crlf(first: u8, second: u8) -> bool
 }
 
 // Takes two bytes, where there are so many; true where they are CR LF.
+#[inline(always)]
 fn take_crlf<S: Source>(bytes: &mut ByteReader<S>) -> Result<bool, LineFault>
     ensures ok { IfOk result (λ sound. IsEnding CrLf bytes.old bytes.new sound) }
     ensures err { IfErr result (λ e. IsUnended CrLf bytes.old bytes.new e) }

@@ -1,5 +1,5 @@
 //! The lines of a script, one after another.
-ghost use Rattle.std.specs.Prelude.{◌≡◌, ◌≢◌, [], ◌∷◌, ◌++◌, false, take, ◌≤◌, ◌<◌, ◌+◌, ℕ, List, length, IfOk, IfErr, IfSome, Some, None, Err, Ok, true, nat_lt, if◌then◌else◌};
+ghost use Rattle.std.specs.Prelude.{◌≡◌, ◌≢◌, [], ◌∷◌, ◌++◌, false, take, ◌≤◌, ◌<◌, ◌+◌, ℕ, List, length, IfOk, IfErr, IfSome, Some, None, Err, Ok, true, nat_lt, not, if◌then◌else◌};
 ghost use Rattle.std.specs.Prelude.{map, drop};
 ghost use Rattle.std.specs.Option.{option_map};
 ghost use Rattle.std.specs.List.{list_all};
@@ -13,7 +13,7 @@ ghost use Rattle.rev_script.specs.declared.dialect.Dialect.TheVariants.{CrLf};
 ghost use Rattle.rev_script.specs.Keyed.{HasKeys};
 ghost use Rattle.rev_script.specs.Words.{words, word};
 ghost use Rattle.rev_script.specs.Script.{line_of, has_lf};
-ghost use Rattle.rev_script.specs.Line.{view, IsAsked, IsNext, IsFault, IsStorageNext};
+ghost use Rattle.rev_script.specs.Line.{view, IsAsked, IsNext, IsBehindRest, IsFault, IsStorageNext};
 ghost use Rattle.rev_script.specs.Input.{input_of};
 ghost use Rattle.rev_script.specs.ByteReader.{Took, Broke, IsEnded, front};
 ghost use Rattle.rev_script.specs.DataBlock.{IsBroken};
@@ -225,10 +225,15 @@ fn payload_of<A: Allocator + Clone>(
     if size > MOST_DATA {
         return Ok(Payload::Skipped(size));
     }
+    // (no filler begins and ends with other bytes)
+    if kept.first() != kept.last() {
+        return Payload::from_vec(kept);
+    }
     Ok(Payload::Bytes(filler.data(kept)?))
 }
 
 // Takes a storage line's data block, and makes the line.
+#[inline(always)]
 fn storage_line<S: Source, A: Allocator + Clone>(
     input: &mut Input<S, A>,
     alloc: A,
@@ -449,23 +454,24 @@ fn line_here<S: Source, A: Allocator + Clone>(
     }
 }
 
-// Passes over the rest of a line, and reads the line behind it.
-fn line_behind_rest<S: Source, A: Allocator + Clone>(
-    input: &mut Input<S, A>,
-    text: &mut Vec<u8, A>,
-) -> Result<Option<Line<A>>, LineFault>
-    requires { input.old.passes ≡ true }
-    ensures ok { IfOk result (λ line. IsNext (input_of input.old) (input_of input.new) (option_map view line)) }
+// Passes over the rest of a line, where a bad data block has left one. At `false` the end came first.
+fn pass_rest<S: Source, A: Allocator>(input: &mut Input<S, A>) -> Result<bool, LineFault>
+    ensures some { IfOk result (λ some. some ≡ true → IsBehindRest (input_of input.old) (input_of input.new)) }
+    ensures none { IfOk result (λ some. some ≡ false → IsNext (input_of input.old) (input_of input.new) None) }
     ensures err { IfErr result (λ e. IsFault (input_of input.old) (input_of input.new) e) }
-    ensures stays { IsEnded input.old.bytes → (result ≡ Ok None) × Took input.old.bytes input.new.bytes [] }
+    ensures stays { IsEnded input.old.bytes → (result ≡ Ok (not input.old.passes)) × Took input.old.bytes input.new.bytes [] }
 {
-    match pass_line(&mut input.bytes) {
-        Err(e) => return Err(e),
-        Ok(false) => return Ok(None),
-        Ok(true) => {}
+    if !input.passes {
+        return Ok(true);
     }
-    input.passes = false;
-    line_here(input, text)
+    match pass_line(&mut input.bytes) {
+        Err(e) => Err(e),
+        Ok(false) => Ok(false),
+        Ok(true) => {
+            input.passes = false;
+            Ok(true)
+        }
+    }
 }
 
 // Reads the next line, through its data block.
@@ -477,11 +483,12 @@ fn next_line<S: Source, A: Allocator + Clone>(
     ensures err { IfErr result (λ e. IsFault (input_of input.old) (input_of input.new) e) }
     ensures stays { IsEnded input.old.bytes → (result ≡ Ok None) × Took input.old.bytes input.new.bytes [] }
 {
-    if input.passes {
-        line_behind_rest(input, text)
-    } else {
-        line_here(input, text)
+    match pass_rest(input) {
+        Err(e) => return Err(e),
+        Ok(false) => return Ok(None),
+        Ok(true) => {}
     }
+    line_here(input, text)
 }
 
 /// The lines of a script, from a source that gives its bytes in pieces of any size.
@@ -503,7 +510,7 @@ impl<S: Source, A: Allocator> Model for Lines<S, A> {
 }
 
 impl<S: Source, A: Allocator + Clone> Lines<S, A> {
-    ghost use Rattle.rev_script.specs.Lines.{at_first};
+    ghost use Rattle.rev_script.specs.Lines.{at_first, counted_anew};
 
     /// The lines of all that the source will give, where data end in CR LF. No memory is taken.
     pub fn over(alloc: A, source: S) -> Lines<S, A>
@@ -555,6 +562,13 @@ impl<S: Source, A: Allocator + Clone> Lines<S, A> {
                 Err(e)
             }
         }
+    }
+
+    /// Counts the bytes from here on alone: a script that is too long ends behind so many more. Nothing is read.
+    pub fn count_anew(&mut self)
+        ensures { self.new ≡ counted_anew self.old }
+    {
+        self.input.bytes.count_anew();
     }
 
     /// The source, as it is now: a `&mut` is so handed back.

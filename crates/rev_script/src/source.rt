@@ -4,6 +4,7 @@ ghost use Rattle.std.specs.Io.KnownBytes.{ReadConsumes};
 ghost use Rattle.std.specs.Prelude.{Option};
 
 use std::io::{ErrorKind, Read};
+use std::marker::Model;
 use thiserror::Error;
 
 /// What the last read did.
@@ -56,22 +57,28 @@ impl<S: Source> Source for &mut S {
 
 /// Any reader of std as a source. A read that was interrupted is tried again.
 #[derive(Drop)]
-pub struct FromRead<R> {
+pub struct FromRead<R: Read> {
     reader: R,
     last: LastRead,
     // How many reads failed. It begins at 0 again behind the largest number.
     failures: u64,
 }
 
+impl<R: Read> Model for FromRead<R> {
+    ghost use Rattle.rev_script.specs.Source.{Told, told_of};
+
+    ghost Value = { Told };
+
+    ghost view = { λ s. told_of (R.remaining s.reader) s.last s.failures };
+}
+
 impl<R: Read> FromRead<R> {
-    ghost use Rattle.rev_script.specs.FromRead.{reader_in, last_read, failures_of};
+    ghost use Rattle.rev_script.specs.Source.{told_of};
     ghost use Rattle.rev_script.specs.declared.source.LastRead.{LastRead};
 
     /// A source that has read nothing yet.
     pub fn new(reader: R) -> FromRead<R>
-        ensures reader { reader_in result ≡ reader }
-        ensures last { last_read result ≡ LastRead.Gave }
-        ensures failures { failures_of result ≡ 0 }
+        ensures { result ≡ told_of (R.remaining reader) LastRead.Gave 0 }
     {
         FromRead {
             reader,
@@ -101,9 +108,7 @@ fn read_again<R: Read>(reader: &mut R, buf: &mut [u8]) -> Result<usize, ReadFail
 }
 
 impl<R: Read> Source for FromRead<R> {
-    ghost use Rattle.rev_script.specs.Source.{told_of};
-
-    ghost told = { λ s. told_of (R.remaining s.reader) s.last s.failures };
+    ghost told = { λ s. s };
 
     fn read(&mut self, buf: &mut [u8]) -> Result<usize, ReadFailed> {
         match self.last {

@@ -13,10 +13,10 @@ use Rattle.rev_script.specs.declared.byte_reader.LineFault.TheVariants as faults
 use Rattle.rev_script.proofs.Known.{Took-then, Took-broke}
 use Rattle.rev_script.proofs.Front.{take_front}
 use Rattle.rev_script.proofs.Scripts.{lines-last, lines-whole}
-use Rattle.rev_output.specs.Sink.{WroteFront, one_more}
-use Rattle.rev_shell.specs.Answers.{MarkedSession, after, answer}
+use Rattle.rev_output.specs.Sink.{WroteFront, one_more, PlainSink}
+use Rattle.rev_shell.specs.Answers.{BookmarkedSession, after, answer}
 use Rattle.rev_output.proofs.Written.{Appends-then, Appends-none}
-use Rattle.rev_shell.specs.Run.{answers, session_after, out, text, PlainSink, Because, IsDone, IsLeft, IsStopped, run_fault}
+use Rattle.rev_shell.specs.Run.{answers, session_after, out, text, Because, IsDone, IsLeft, IsStopped, run_fault}
 use Rattle.rev_shell.specs.declared.run.Summary.{Summary}
 use Rattle.rev_shell.specs.declared.run.RunFault.{RunFault}
 use Rattle.rev_shell.specs.declared.run.RunFault.TheVariants as run_faults
@@ -32,7 +32,7 @@ pub record AreWhole (d : Dialect) (passes : Bool) (read : List ℕ) (done : List
   pub cuts_are : (more : List ℕ) → cuts d (read ++ more) ≡ wholes done ++ cuts d (onwards passes more)
 
 -- so far: the lines of what was taken are done; they lie whole in it, or the input is at its end
-pub record IsSoFar (d : Dialect) (start now : PlainInput) (old new : PlainSink) (m0 m : MarkedSession) (count : ℕ) : Type 0 where
+pub record IsSoFar (d : Dialect) (start now : PlainInput) (old new : PlainSink) (m0 m : BookmarkedSession) (count : ℕ) : Type 0 where
   pub done : List ScriptLine
   pub read : List ℕ
   pub took : Took start.bytes now.bytes read
@@ -43,15 +43,15 @@ pub record IsSoFar (d : Dialect) (start now : PlainInput) (old new : PlainSink) 
   pub wrote : Appends old.contents new.contents (answers m0 done)
   pub writes : new.failures ≡ old.failures
 
-answers-append : (s : MarkedSession) (xs ys : List ScriptLine) → answers s (xs ++ ys) ≡ answers s xs ++ answers (session_after s xs) ys
+answers-append : (s : BookmarkedSession) (xs ys : List ScriptLine) → answers s (xs ++ ys) ≡ answers s xs ++ answers (session_after s xs) ys
 answers-append s [] ys = refl
 answers-append s (x ∷ xs) ys = ap (λ t. answer s x ++ t) (answers-append (after s x) xs ys) ∙ sym (append_assoc (answer s x) (answers (after s x) xs) (answers (session_after (after s x) xs) ys))
 
-session_after-append : (s : MarkedSession) (xs : List ScriptLine) (y : ScriptLine) → session_after s (xs ++ y ∷ []) ≡ after (session_after s xs) y
+session_after-append : (s : BookmarkedSession) (xs : List ScriptLine) (y : ScriptLine) → session_after s (xs ++ y ∷ []) ≡ after (session_after s xs) y
 session_after-append s [] y = refl
 session_after-append s (x ∷ xs) y = session_after-append (after s x) xs y
 
-answers-one : (s : MarkedSession) (xs : List ScriptLine) (y : ScriptLine) → answers s (xs ++ y ∷ []) ≡ answers s xs ++ answer (session_after s xs) y
+answers-one : (s : BookmarkedSession) (xs : List ScriptLine) (y : ScriptLine) → answers s (xs ++ y ∷ []) ≡ answers s xs ++ answer (session_after s xs) y
 answers-one s xs y = answers-append s xs (y ∷ []) ∙ ap (λ t. answers s xs ++ t) (append-nil (answer (session_after s xs) y))
 
 -- ---- lines that lie whole in front
@@ -90,7 +90,7 @@ pub last_then : (d : Dialect) (before : Bool) (read taken : List ℕ) (done : Li
 last_then d before read taken done line w n = lines-more d before read taken done w ∙ ap (λ t. done ++ t) (lines-last d before taken line n)
 
 -- the first lines of what was read are those that are done
-text-more : (d : Dialect) (passes : Bool) (s0 : MarkedSession) (read more : List ℕ) (done : List ScriptLine) → AreWhole d passes read done → text d s0 (read ++ more) (length done) ≡ answers s0 done
+text-more : (d : Dialect) (passes : Bool) (s0 : BookmarkedSession) (read more : List ℕ) (done : List ScriptLine) → AreWhole d passes read done → text d s0 (read ++ more) (length done) ≡ answers s0 done
 unfolding text
 text-more d passes s0 read more done w =
     ap (λ l. answers s0 (take (length done) l)) (lines-more d passes read more done w) ∙ ap (λ l. answers s0 l) (take-append_seam done (lines d (onwards passes more)))
@@ -162,15 +162,15 @@ then_line {b} {c} d read done line same w n = elim (in_dialect d same n) [
 ]
 
 -- a line that was given tells that the input was not at its end before
-pub still_whole : {d : Dialect} {start b : PlainInput} {old mid : PlainSink} {s0 s : MarkedSession} {count : ℕ} (f : IsSoFar d start b old mid s0 s count) →
+pub still_whole : {d : Dialect} {start b : PlainInput} {old mid : PlainSink} {s0 s : BookmarkedSession} {count : ℕ} (f : IsSoFar d start b old mid s0 s count) →
     (AtEnd b.bytes → ⊥) → AreWhole d b.passes f.read f.done
 still_whole f never = elim f.lines_are [
   | inl w ↦ w
   | inr p ↦ absurd (never p.1)
 ]
 
-module _ (d : Dialect) (start b c : PlainInput) (old mid new : PlainSink) (s0 s : MarkedSession) (count : ℕ) (fresh : start.bytes.unused ≡ []) (none_given : start.bytes.given ≡ 0) (f : IsSoFar d start b old mid s0 s count) where
-  pub progress : (line : ScriptLine) (t : MarkedSession) → AreWhole d b.passes f.read f.done → IsNext b c (Some line) → t ≡ after s line →
+module _ (d : Dialect) (start b c : PlainInput) (old mid new : PlainSink) (s0 s : BookmarkedSession) (count : ℕ) (fresh : start.bytes.unused ≡ []) (none_given : start.bytes.given ≡ 0) (f : IsSoFar d start b old mid s0 s count) where
+  pub progress : (line : ScriptLine) (t : BookmarkedSession) → AreWhole d b.passes f.read f.done → IsNext b c (Some line) → t ≡ after s line →
       Appends mid.contents new.contents (answer s line) → new.failures ≡ mid.failures → IsSoFar d start c old new s0 t (count + 1)
   progress line t w n is a same =
       record {
@@ -284,7 +284,7 @@ module _ (d : Dialect) (start b c : PlainInput) (old mid new : PlainSink) (s0 s 
       }
 
 -- a run that never began
-pub nothing_read : (d : Dialect) (reader : Told) (sink : PlainSink) (start : MarkedSession) → IsStopped d reader reader sink sink start (run_faults.Memory 0)
+pub nothing_read : (d : Dialect) (reader : Told) (sink : PlainSink) (start : BookmarkedSession) → IsStopped d reader reader sink sink start (run_faults.Memory 0)
 unfolding text
 nothing_read d reader sink start = record { read = []; took = keep_all reader.remaining; because = tt; wrote = Appends-none sink.contents }
 
@@ -296,7 +296,7 @@ because_told run_faults.Read read a b n m old new p = p
 because_told run_faults.Write read a b n m old new p = p
 because_told run_faults.TooLong read a b n m old new p = p
 
-abbrev done_told : {d : Dialect} {old new : PlainSink} {start : MarkedSession} {sum : Summary} (a b : Told) (n m : ℕ) → IsDone d (told_by a n) (told_by b m) old new start sum → IsDone d a b old new start sum
+abbrev done_told : {d : Dialect} {old new : PlainSink} {start : BookmarkedSession} {sum : Summary} (a b : Told) (n m : ℕ) → IsDone d (told_by a n) (told_by b m) old new start sum → IsDone d a b old new start sum
 done_told a b n m x = record {
   read = x.read;
   took = x.took;
@@ -309,9 +309,9 @@ done_told a b n m x = record {
   plays_are = x.plays_are;
 }
 
-pub left_told : {d : Dialect} {old new : PlainSink} {start left : MarkedSession} {sum : Summary} (a b : Told) (n m : ℕ) → IsLeft d (told_by a n) (told_by b m) old new start left sum →
+pub left_told : {d : Dialect} {old new : PlainSink} {start left : BookmarkedSession} {sum : Summary} (a b : Told) (n m : ℕ) → IsLeft d (told_by a n) (told_by b m) old new start left sum →
     IsLeft d a b old new start left sum
 left_told a b n m x = record { done = done_told a b n m x.done; left_is = x.left_is }
 
-pub stopped_told : {d : Dialect} {old new : PlainSink} {start : MarkedSession} {e : RunFault} (a b : Told) (n m : ℕ) → IsStopped d (told_by a n) (told_by b m) old new start e → IsStopped d a b old new start e
+pub stopped_told : {d : Dialect} {old new : PlainSink} {start : BookmarkedSession} {e : RunFault} (a b : Told) (n m : ℕ) → IsStopped d (told_by a n) (told_by b m) old new start e → IsStopped d a b old new start e
 stopped_told {e = e} a b n m x = record { read = x.read; took = x.took; because = because_told e x.read a b n m _ _ x.because; wrote = x.wrote }

@@ -20,7 +20,7 @@ use Rattle.rev_script.specs.declared.command.BookmarkCommand.TheVariants as book
 use Rattle.rev_script.specs.Script.{ScriptLine, StorageLine, RetrievalLine, UpdateLine, FlushLine, ActorLine, TuneLine, DebugLine, QueryLine, BookmarkLine, BadLine}
 use Rattle.rev_shell.specs.Texts.{output, bad_text, outcome_text, found_value, item_of, found_text, place_text, entries_text, chunks_text, pages_text, counters_text, globals_text, node_text, parent_text}
 use Rattle.rev_shell.specs.Trees.{gone_to, child_at, child_text, go_text, gone, prune_text, after_prune, tree_text}
-use Rattle.rev_shell.specs.Bookmarks.{marked, with_mark, mark_text, marks_text, goto_text, gone_by}
+use Rattle.rev_shell.specs.Bookmarks.{bookmarked, with_bookmark, bookmarked_text, bookmarks_text, goto_text, gone_by}
 use Rattle.rev_requests.specs.Plain.{plain_actor}
 use Rattle.rev_script.specs.Steps.{storage_step, keyed_step, flush_step, tune_step, get}
 use Rattle.rev_explain.specs.Story.{story, why_of}
@@ -115,13 +115,13 @@ after_gets m (k ∷ ks) = if_played (reply m (get k)) (after_gets (after_step m 
 -- ---- a session and the bookmarks beside it, which belong to the run and are not undone
 
 -- a session with its bookmarks
-pub record MarkedSession : Type 0 where
+pub record BookmarkedSession : Type 0 where
   pub session : SessionState
   pub bookmarks : List (List ℕ × ℕ)
 
 -- a session and its bookmarks
-abbrev pub with_bookmarks : SessionState → List (List ℕ × ℕ) → MarkedSession
-with_bookmarks m marks = record { session = m; bookmarks = marks }
+abbrev pub with_bookmarks : SessionState → List (List ℕ × ℕ) → BookmarkedSession
+with_bookmarks m names = record { session = m; bookmarks = names }
 
 -- ---- debug commands; they make no node
 
@@ -130,7 +130,7 @@ abbrev pub of_class : State → ℕ → List ℕ → List ℕ
 of_class s c text = cond (is_class s c) text (output (codes "NOCLASS"))
 
 -- what is answered to a line that begins with `:`
-abbrev pub debug_text : MarkedSession → DebugCommand → List ℕ
+abbrev pub debug_text : BookmarkedSession → DebugCommand → List ℕ
 debug_text d debugs.At = node_text d.session.current
 debug_text d debugs.Back = parent_text (parent_of d.session.rows d.session.current)
 debug_text d (debugs.Forward i) = child_text (child_at d.session i)
@@ -142,7 +142,7 @@ debug_text d debugs.Pages = pages_text 0 (state_of d.session).owner ++ output (c
 debug_text d (debugs.Counters c) = of_class (state_of d.session) c (counters_text (state_of d.session) c)
 debug_text d debugs.Globals = globals_text (state_of d.session)
 debug_text d debugs.Tree = tree_text d.session
-debug_text d debugs.Marks = marks_text d.bookmarks
+debug_text d debugs.Marks = bookmarks_text d.bookmarks
 debug_text d (debugs.Prune n) = prune_text d.session n
 debug_text d (debugs.Gone limit) = departures_text (last_of limit (departures d.session.root d.session.rows d.session.current))
 debug_text d (debugs.Step n) = step_text d.session n (row_of d.session.rows n)
@@ -176,19 +176,19 @@ query_text m queries.Why k = why_text (why_of m.root m.rows m.current k)
 query_text m queries.Story k = events_text (story m.root m.rows m.current k)
 
 -- what is answered to a line of bookmarks
-abbrev pub bookmark_text : MarkedSession → BookmarkCommand → List ℕ → List ℕ
-bookmark_text d bookmarks.Mark name = mark_text name d.session.current
-bookmark_text d bookmarks.Goto name = goto_text d.session (marked d.bookmarks name)
+abbrev pub bookmark_text : BookmarkedSession → BookmarkCommand → List ℕ → List ℕ
+bookmark_text d bookmarks.Mark name = bookmarked_text name d.session.current
+bookmark_text d bookmarks.Goto name = goto_text d.session (bookmarked d.bookmarks name)
 
 -- the session after it
-abbrev pub after_bookmark : MarkedSession → BookmarkCommand → List ℕ → MarkedSession
-after_bookmark d bookmarks.Mark name = with_bookmarks d.session (with_mark d.bookmarks name d.session.current)
-after_bookmark d bookmarks.Goto name = with_bookmarks (gone_by d.session (marked d.bookmarks name)) d.bookmarks
+abbrev pub after_bookmark : BookmarkedSession → BookmarkCommand → List ℕ → BookmarkedSession
+after_bookmark d bookmarks.Mark name = with_bookmarks d.session (with_bookmark d.bookmarks name d.session.current)
+after_bookmark d bookmarks.Goto name = with_bookmarks (gone_by d.session (bookmarked d.bookmarks name)) d.bookmarks
 
 -- ---- a line
 
 -- what a line answers
-abbrev pub answer : MarkedSession → ScriptLine → List ℕ
+abbrev pub answer : BookmarkedSession → ScriptLine → List ℕ
 answer d (StorageLine c k flags exptime payload noreply) = reply_text noreply (reply d.session (storage_step c k flags exptime payload))
 answer d (RetrievalLine ks with_cas) = values with_cas d.session ks
 answer d (UpdateLine c k noreply) = reply_text noreply (reply d.session (keyed_step c k))
@@ -201,7 +201,7 @@ answer d (BookmarkLine c name) = bookmark_text d c name
 answer d (BadLine a) = output (bad_text a)
 
 -- the session and the bookmarks after it
-abbrev pub after : MarkedSession → ScriptLine → MarkedSession
+abbrev pub after : BookmarkedSession → ScriptLine → BookmarkedSession
 after d (StorageLine c k flags exptime payload noreply) = with_bookmarks (after_step d.session (storage_step c k flags exptime payload)) d.bookmarks
 after d (RetrievalLine ks with_cas) = with_bookmarks (after_gets d.session ks) d.bookmarks
 after d (UpdateLine c k noreply) = with_bookmarks (after_step d.session (keyed_step c k)) d.bookmarks

@@ -7,23 +7,23 @@ use Rattle.rev_shell.specs.Texts.{output}
 use Rattle.rev_shell.specs.Trees.{go_text, gone}
 
 -- the node of a name
-abbrev pub marked : List (List ℕ × ℕ) → List ℕ → Option ℕ
-marked [] name = None
-marked (b ∷ bs) name = cond (bytes_eq name b.0) (Some b.1) (marked bs name)
+abbrev pub bookmarked : List (List ℕ × ℕ) → List ℕ → Option ℕ
+bookmarked [] name = None
+bookmarked (b ∷ bs) name = cond (bytes_eq name b.0) (Some b.1) (bookmarked bs name)
 
 -- a name that is there keeps its place and takes the new node, and another goes last
-abbrev pub with_mark : List (List ℕ × ℕ) → List ℕ → ℕ → List (List ℕ × ℕ)
-with_mark [] name n = (name, n) ∷ []
-with_mark (b ∷ bs) name n = cond (bytes_eq name b.0) ((b.0, n) ∷ bs) (b ∷ with_mark bs name n)
+abbrev pub with_bookmark : List (List ℕ × ℕ) → List ℕ → ℕ → List (List ℕ × ℕ)
+with_bookmark [] name n = (name, n) ∷ []
+with_bookmark (b ∷ bs) name n = cond (bytes_eq name b.0) ((b.0, n) ∷ bs) (b ∷ with_bookmark bs name n)
 
 -- the line of a bookmark
-abbrev pub mark_text : List ℕ → ℕ → List ℕ
-mark_text name n = output (codes "MARK " ++ name ++ codes " " ++ decimal n)
+abbrev pub bookmarked_text : List ℕ → ℕ → List ℕ
+bookmarked_text name n = output (codes "MARK " ++ name ++ codes " " ++ decimal n)
 
 -- the lines of all, and END
-abbrev pub marks_text : List (List ℕ × ℕ) → List ℕ
-marks_text [] = output (codes "END")
-marks_text (b ∷ bs) = mark_text b.0 b.1 ++ marks_text bs
+abbrev pub bookmarks_text : List (List ℕ × ℕ) → List ℕ
+bookmarks_text [] = output (codes "END")
+bookmarks_text (b ∷ bs) = bookmarked_text b.0 b.1 ++ bookmarks_text bs
 
 -- to the node of a name; a bookmark stays where its node was pruned, and is then not gone to
 abbrev pub goto_text : SessionState → Option ℕ → List ℕ

@@ -3,8 +3,11 @@ pub mod Words
 pub mod Trees
 pub mod Bookmarks
 pub mod Reasons
-pub mod Marked
+pub mod Bookmarked
 pub mod Answers
 pub mod Run
+pub mod Quiet
+pub mod Traces
+pub mod Start
 pub mod Views
 pub mod Classes

@@ -1,5 +1,5 @@
--- What is answered to questions about a node, about the way from the root to the current node, and about the classes.
--- Rule of this project: the texts of `:gone`, `:step`, `:time` and `:classes`.
+-- What is answered to questions about a node, and about the way from the root to the current node.
+-- Rule of this project: the texts of `:gone`, `:step` and `:time`.
 use Rattle.std.specs.Prelude.{ℕ, cond, nat_eq, List, [], ◌∷◌, ◌++◌, Option, None, Some, codes, decimal}
 use Rattle.rev_model.specs.Client.{ClientStep, Stores, Joins, Gets, Touches, Deletes, Flushes, Counts}
 use Rattle.rev_model.specs.Actor.{Step, Client, Pull, Crawl}

@@ -1,10 +1,10 @@
 //! One line of a script: what it does to a session, and what is answered.
 ghost use Rattle.std.specs.Prelude.{◌≡◌, ◌++◌, List, ℕ, OnOk};
 ghost use Rattle.rev_script.specs.Line.{view, client_view, debug_view};
-ghost use Rattle.rev_shell.specs.Bookmarks.{marked, with_mark, mark_text, goto_text, gone_by};
+ghost use Rattle.rev_shell.specs.Bookmarks.{bookmarked, with_bookmark, bookmarked_text, goto_text, gone_by};
 ghost use Rattle.rev_shell.specs.Answers.{with_bookmarks, answer, after, debug_text, after_debug, query_text, bookmark_text, after_bookmark};
 
-use crate::bookmarks::{Bookmarks, put_mark};
+use crate::bookmarks::{Bookmarks, put_bookmark_line};
 use crate::classes::put_classes;
 use crate::play::{play_line, put_values};
 use crate::reasons::{put_story, put_why};
@@ -27,8 +27,8 @@ fn put_client<A: Allocator + Clone>(
     line: ClientLine<A>,
     out: &mut Vec<u8, A>,
 ) -> Result<(), AllocError>
-    ensures text { (marks : List (List ℕ × ℕ)) → OnOk result (out.new.items ≡ out.old.items ++ answer (with_bookmarks session.old marks) (client_view line)) }
-    ensures session { (marks : List (List ℕ × ℕ)) → OnOk result (with_bookmarks session.new marks ≡ after (with_bookmarks session.old marks) (client_view line)) }
+    ensures text { (names : List (List ℕ × ℕ)) → OnOk result (out.new.items ≡ out.old.items ++ answer (with_bookmarks session.old names) (client_view line)) }
+    ensures session { (names : List (List ℕ × ℕ)) → OnOk result (with_bookmarks session.new names ≡ after (with_bookmarks session.old names) (client_view line)) }
 {
     match line {
         ClientLine::Storage {
@@ -110,17 +110,17 @@ fn put_query<A: Allocator + Clone>(
 }
 
 // Gives the current node a name.
-fn put_marked<A: Allocator + Clone>(
+fn put_bookmarked<A: Allocator + Clone>(
     session: &Session<A>,
     bookmarks: &mut Bookmarks<'_, A>,
     name: Vec<u8, A>,
     out: &mut Vec<u8, A>,
 ) -> Result<(), AllocError>
-    ensures text { OnOk result (out.new.items ≡ out.old.items ++ mark_text name.items session.now.current) }
-    ensures marks { OnOk result (bookmarks.new ≡ with_mark bookmarks.old name.items session.now.current) }
+    ensures text { OnOk result (out.new.items ≡ out.old.items ++ bookmarked_text name.items session.now.current) }
+    ensures bookmarks { OnOk result (bookmarks.new ≡ with_bookmark bookmarks.old name.items session.now.current) }
 {
     let node = session.current();
-    put_mark(out, name.as_slice(), node)?;
+    put_bookmark_line(out, name.as_slice(), node)?;
     bookmarks.set(name, node)
 }
 
@@ -131,8 +131,8 @@ fn put_goto<A: Allocator + Clone>(
     name: &[u8],
     out: &mut Vec<u8, A>,
 ) -> Result<(), AllocError>
-    ensures text { OnOk result (out.new.items ≡ out.old.items ++ goto_text session.old (marked bookmarks.now name.now)) }
-    ensures session { OnOk result (session.new ≡ gone_by session.old (marked bookmarks.now name.now)) }
+    ensures text { OnOk result (out.new.items ≡ out.old.items ++ goto_text session.old (bookmarked bookmarks.now name.now)) }
+    ensures session { OnOk result (session.new ≡ gone_by session.old (bookmarked bookmarks.now name.now)) }
 {
     match bookmarks.get(name) {
         None => put_output(out, b"NOMARK"),
@@ -152,12 +152,13 @@ fn put_bookmark<A: Allocator + Clone>(
     ensures state { OnOk result (with_bookmarks session.new bookmarks.new ≡ after_bookmark (with_bookmarks session.old bookmarks.old) command name.items) }
 {
     match command {
-        BookmarkCommand::Mark => put_marked(session, bookmarks, name, out),
+        BookmarkCommand::Mark => put_bookmarked(session, bookmarks, name, out),
         BookmarkCommand::Goto => put_goto(session, bookmarks, name.as_slice(), out),
     }
 }
 
-// A debug line.
+// A debug line. (It is not inlined, so that the lines of clients and actors are.)
+#[inline(never)]
 fn put_debug_line<A: Allocator + Clone>(
     session: &mut Session<A>,
     bookmarks: &mut Bookmarks<'_, A>,

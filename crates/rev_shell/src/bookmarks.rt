@@ -1,7 +1,7 @@
 //! Names for nodes.
 ghost use Rattle.std.specs.Prelude.{◌≡◌, ◌++◌, [], OnOk, OnErr};
 ghost use Rattle.std.specs.Option.{option_map};
-ghost use Rattle.rev_shell.specs.Bookmarks.{marked, with_mark, mark_text, marks_text};
+ghost use Rattle.rev_shell.specs.Bookmarks.{bookmarked, with_bookmark, bookmarked_text, bookmarks_text};
 
 use crate::text::{put_field, put_output};
 use indexmap::IndexMap;
@@ -19,13 +19,13 @@ pub struct Bookmarks<'a, A: Allocator> {
 impl<'a, A: Allocator> Model for Bookmarks<'a, A> {
     ghost use Rattle.std.specs.Prelude.{ℕ, List};
     ghost use Rattle.std.specs.Coded.{codes};
-    ghost use Rattle.rev_shell.specs.Marked.{plain_marks};
+    ghost use Rattle.rev_shell.specs.Bookmarked.{plain_bookmarks};
 
     ghost Value = { List (List ℕ × ℕ) };
 
     ghost coded = { Prim.hlevel codes };
 
-    ghost view = { λ b. plain_marks b.nodes.entries };
+    ghost view = { λ b. plain_bookmarks b.nodes.entries };
 }
 
 impl<'a, A: Allocator> Bookmarks<'a, A> {
@@ -40,7 +40,7 @@ impl<'a, A: Allocator> Bookmarks<'a, A> {
 
     /// The node of a name.
     pub fn get(&self, name: &[u8]) -> Option<NodeId>
-        ensures { option_map (λ n. n.0) result ≡ marked self.now name.now }
+        ensures { option_map (λ n. n.0) result ≡ bookmarked self.now name.now }
     {
         self.nodes.get(name).copied()
     }
@@ -49,7 +49,7 @@ impl<'a, A: Allocator> Bookmarks<'a, A> {
     ///
     /// Err: a growth was refused, and nothing is changed.
     pub fn set(&mut self, name: Vec<u8, A>, node: NodeId) -> Result<(), AllocError>
-        ensures ok { OnOk result (self.new ≡ with_mark self.old name.items node.0) }
+        ensures ok { OnOk result (self.new ≡ with_bookmark self.old name.items node.0) }
         ensures err { OnErr result (self.new ≡ self.old) }
     {
         self.nodes.insert(name, node)?;
@@ -58,22 +58,22 @@ impl<'a, A: Allocator> Bookmarks<'a, A> {
 
     /// Writes a line for each bookmark in their order, and `END`.
     pub fn put_all<B: Allocator>(&self, out: &mut Vec<u8, B>) -> Result<(), AllocError>
-        ensures { OnOk result (out.new.items ≡ out.old.items ++ marks_text self.now) }
+        ensures { OnOk result (out.new.items ≡ out.old.items ++ bookmarks_text self.now) }
     {
         for (name, node) in self.nodes.iter() {
-            put_mark(out, name.as_slice(), *node)?;
+            put_bookmark_line(out, name.as_slice(), *node)?;
         }
         put_output(out, b"END")
     }
 }
 
 /// Writes a bookmark's line.
-pub fn put_mark<A: Allocator>(
+pub fn put_bookmark_line<A: Allocator>(
     out: &mut Vec<u8, A>,
     name: &[u8],
     node: NodeId,
 ) -> Result<(), AllocError>
-    ensures { OnOk result (out.new.items ≡ out.old.items ++ mark_text name.now node.0) }
+    ensures { OnOk result (out.new.items ≡ out.old.items ++ bookmarked_text name.now node.0) }
 {
     out.extend_from_slice(b"MARK ")?;
     out.extend_from_slice(name)?;

@@ -3,7 +3,8 @@ ghost use Rattle.std.specs.Prelude.{◌≡◌, ℕ, List, IfOk, IfErr, IfSome, O
 ghost use Rattle.rev_classes.specs.Limits.{IsWithinLimits};
 ghost use Rattle.rev_script.specs.Lines.{IsFirst};
 ghost use Rattle.rev_script.specs.Line.{view};
-ghost use Rattle.rev_shell.specs.Run.{IsDone, IsLeft, IsStopped, sink_at, run_fault, opened, unmarked, initial};
+ghost use Rattle.rev_output.specs.Sink.{sink_at};
+ghost use Rattle.rev_shell.specs.Run.{IsDone, IsLeft, IsStopped, run_fault, opened, without_bookmarks, initial};
 ghost use Rattle.rev_shell.specs.Answers.{with_bookmarks, answer, after};
 
 use crate::answer::put_answer;
@@ -147,12 +148,12 @@ pub fn run_session<S: Source, K: Sink, A: Allocator + Clone>(
     reader: &mut S,
     sink: &mut K,
 ) -> Result<Summary, RunFault>
-    ensures ok { IfOk result (λ sum. (marks : List (List ℕ × ℕ)) × IsLeft dialect (S.told reader.old) (S.told reader.new)
+    ensures ok { IfOk result (λ sum. (names : List (List ℕ × ℕ)) × IsLeft dialect (S.told reader.old) (S.told reader.new)
         (sink_at (K.contents sink.old) (K.failures sink.old)) (sink_at (K.contents sink.new) (K.failures sink.new))
-        (unmarked session.old) (with_bookmarks session.new marks) sum) }
+        (without_bookmarks session.old) (with_bookmarks session.new names) sum) }
     ensures err { IfErr result (λ e. IsStopped dialect (S.told reader.old) (S.told reader.new)
         (sink_at (K.contents sink.old) (K.failures sink.old)) (sink_at (K.contents sink.new) (K.failures sink.new))
-        (unmarked session.old) e) }
+        (without_bookmarks session.old) e) }
 {
     let Ok((handle, other)) = two_handles(alloc) else {
         return Err(RunFault::Memory { line: 0 });
@@ -168,31 +169,25 @@ pub fn run_session<S: Source, K: Sink, A: Allocator + Clone>(
     }
 }
 
-/// Runs the script that the reader gives, in a dialect, on an empty store, and writes its answers, as `run` does. It is for a program
-/// that ends with the run: all memory goes back at once then, and the session is not taken apart.
+/// Runs the script that the reader gives, in a dialect, on a session, and writes its answers, as `run_session` does. It is
+/// for a program that ends with the run: all memory goes back at once then, and the session is not taken apart.
 pub fn run_at_last<S: Source, K: Sink, A: Allocator + Clone>(
     alloc: &A,
-    config: &Config,
+    session: Session<A>,
     dialect: Dialect,
     reader: &mut S,
     sink: &mut K,
 ) -> Result<Summary, RunFault>
-    requires { IsWithinLimits config.now }
     ensures ok { IfOk result (λ sum. IsDone dialect (S.told reader.old) (S.told reader.new)
         (sink_at (K.contents sink.old) (K.failures sink.old)) (sink_at (K.contents sink.new) (K.failures sink.new))
-        (initial config.entry.now) sum) }
+        (without_bookmarks session) sum) }
     ensures err { IfErr result (λ e. IsStopped dialect (S.told reader.old) (S.told reader.new)
         (sink_at (K.contents sink.old) (K.failures sink.old)) (sink_at (K.contents sink.new) (K.failures sink.new))
-        (initial config.entry.now) e) }
+        (without_bookmarks session) e) }
 {
-    let ended = match open_session(alloc, config) {
-        None => return Err(RunFault::Memory { line: 0 }),
-        Some(mut session) => {
-            let ended = run_session(alloc, &mut session, dialect, reader, sink);
-            let _session = ManuallyDrop::new(session);
-            ended
-        }
-    };
+    let mut session = session;
+    let ended = run_session(alloc, &mut session, dialect, reader, sink);
+    let _session = ManuallyDrop::new(session);
     match ended {
         Err(e) => Err(e),
         Ok(sum) => Ok(sum),

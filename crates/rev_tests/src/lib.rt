@@ -1,5 +1,5 @@
 //! The tests that cross crates: cut input, failing readers and writers, the class table, data blocks in each dialect, the
-//! program's words, want of memory, recordings on threads and over files; and fast paths beside plain ones.
+//! program's words, imports, want of memory, recordings on threads and over files; and fast paths beside plain ones.
 #![tactic(auto)]
 
 #[cfg(test)]
@@ -12,6 +12,8 @@ mod dialects;
 mod endless;
 #[cfg(test)]
 mod heaps;
+#[cfg(test)]
+mod imports;
 #[cfg(test)]
 mod memory;
 #[cfg(test)]
@@ -26,6 +28,8 @@ mod programs;
 mod recorder;
 #[cfg(test)]
 mod scripts;
+#[cfg(test)]
+mod starts;
 #[cfg(test)]
 mod stores;
 #[cfg(test)]

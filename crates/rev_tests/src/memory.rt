@@ -3,6 +3,7 @@
 mod fixed;
 mod growth;
 mod heap;
+mod imports;
 mod narrow;
 mod parts;
 mod pictures;

@@ -10,7 +10,7 @@ use Rattle.rev_undotree.specs.Paths.{IsPath}
 use Rattle.rev_undotree.specs.Finds.{IsElsewhere}
 use Rattle.rev_undotree.proofs.Finds.{number_of, number_after-get}
 use Rattle.rev_undotree.proofs.Places.{path_unplaced, after_placed}
-use Rattle.rev_undotree.proofs.Walk.{behind, way_split}
+use Rattle.rev_undotree.proofs.Junctions.{behind, way_split}
 use Rattle.rev_undotree.specs.declared.junction.Junction.{Junction}
 
 pub if_none_weaker : {T : Type 0} (o : Option T) (P Q : Type 0) → (P → Q) → IfNone o P → IfNone o Q

@@ -2,7 +2,7 @@
 use Rattle.std.proofs.Common.{◌≡◌, ℕ, suc, zero, ◌+◌, ◌-◌, ◌/◌, ◌<◌, ◌≤◌, Bool, true, false, cond, eqb, List, [], ◌∷◌, length, get_or, refl, ap, sym, ◌∙◌, subst, arith, Option, Some, None, ◌⊎◌, inl, inr, ⊎_elim, map}
 use Rattle.std.proofs.lemmas.List.{append-nil}
 use Rattle.rev_undotree.specs.Tree.{forks_of}
-use Rattle.rev_undotree.proofs.Walk.{fork_at-map, count-map, behind, way_split}
+use Rattle.rev_undotree.proofs.Junctions.{fork_at-map, count-map, behind, way_split}
 use Rattle.std.proofs.lemmas.Bool.Decides.{nat_tests}
 use Rattle.rev_undotree.specs.Tree.{PlainNode, PlainBranch, Forks, bare, fork, fork_at, count}
 use Rattle.rev_undotree.specs.Ways.{reach, no_node}

@@ -223,7 +223,7 @@ falls_case rows r h l n q e (inr a) =
     let i : r ≡ q = cc in
     rw (← i) (omega (arith, l, a))
 
-falls_more : (rows : List (Option Row)) (r : Row) → RowsFall rows → r.parent ≤ length rows → RowsFall (rows ++ Some r ∷ [])
+pub falls_more : (rows : List (Option Row)) (r : Row) → RowsFall rows → r.parent ≤ length rows → RowsFall (rows ++ Some r ∷ [])
 falls_more rows r h l n q e = falls_case rows r h l n q e (le_cases n (length rows))
 
 -- a session after a play

@@ -1,10 +1,10 @@
 pub mod Linking
-pub mod Walks
+pub mod Latest
 pub mod Logs
 pub mod Cuts
 pub mod Turns
 pub mod Runs
-pub mod Walk
+pub mod Junctions
 pub mod States
 pub mod Rows
 pub mod Positions

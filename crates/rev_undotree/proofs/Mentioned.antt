@@ -39,7 +39,7 @@ within_more root rows o f (suc k) n l =
     ∙ state_same (row_of rows n) root (λ r. next (at_within k root (rows ++ o ∷ []) r.parent) r.step) (λ r. next (at_within k root rows r.parent) r.step)
     (λ r e. let h = f n r e in ap (λ s. next s r.step) (within_more root rows o f k r.parent (omega (arith, h, l))))
 
-at_more : (root : State) (rows : List (Option Row)) (o : Option Row) → RowsFall rows → (n : ℕ) → n ≤ length rows → at root (rows ++ o ∷ []) n ≡ at root rows n
+pub at_more : (root : State) (rows : List (Option Row)) (o : Option Row) → RowsFall rows → (n : ℕ) → n ≤ length rows → at root (rows ++ o ∷ []) n ≡ at root rows n
 unfolding at
 at_more root rows o f n l = within_more root rows o f n n l
 

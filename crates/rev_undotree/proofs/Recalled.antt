@@ -14,13 +14,13 @@ use Rattle.rev_model.specs.Client as client
 use Rattle.rev_model.specs.Actor.{Step, Client, Pull, Bump, CrawlStart, Crawl, Schedule, Advance, Clock, Tune, TempTtl, step}
 use Rattle.rev_model.specs.Causes.{step_removals}
 use Rattle.rev_model.specs.Sound.{Sound}
-use Rattle.rev_model.specs.Track.{held, has_key, is_chunk, keyed, first_note, more_notes, shift_change, class_queue_in, key_place_at, key_place_of, chunk_of, class_queue_before, key_change, leads_or, key_place_from, key_place_before, removals}
+use Rattle.rev_model.specs.Track.{held, same_key, has_key, is_chunk, keyed, first_note, more_notes, shift_change, class_queue_in, key_place_at, key_place_of, chunk_of, class_queue_before, key_change, leads_or, key_place_from, key_place_before, removals}
 use Rattle.rev_model.proofs.Track.{SoundKeys, first_removal}
 use Rattle.rev_model.proofs.Undo.{tells_chunk, same_chunk-self}
 use Rattle.rev_model.proofs.Laws.{same_key-exact, Agrees, home-is}
 use Rattle.rev_model.proofs.Place.{key_item, agrees, place_before}
 use Rattle.rev_model.proofs.Notes.{noted-is}
-use Rattle.rev_model.specs.Events.{may_store, is_stored, event, event_by, moved_event, cause_of}
+use Rattle.rev_model.specs.Events.{is_key, stored_key, event, event_by, moved_event, cause_of}
 use Rattle.rev_model.proofs.Walks.{step_caused}
 use Rattle.rev_model.specs.declared.Cause.{Cause}
 use Rattle.rev_model.specs.declared.ChunkRef.{ChunkRef}
@@ -34,7 +34,7 @@ use Rattle.rev_model.specs.declared.Outcome.{Outcome}
 use Rattle.rev_model.specs.declared.Placed.TheVariants.{ToFree, ToQueue}
 use Rattle.rev_changes.specs.Record.{PlainRecord}
 use Rattle.rev_edits.proofs.Seats.{item_stands}
-use Rattle.rev_undotree.specs.Named.{hashed, named, step_keys, stored_keys, note_of}
+use Rattle.rev_undotree.specs.Named.{none_or, hashed, named, stored_keys, note_of}
 use Rattle.rev_undotree.proofs.Named.{is_named}
 
 -- ---- a step and its record
@@ -110,14 +110,14 @@ module _ (k : List ℕ) (s t : State) (e : Step) (o : Outcome) (r : PlainRecord)
   noted none was (Some u) turn = noted_at none was u.leads u.note turn
 
   -- the event, by the record and where the key is after the step
-  pub tells_at : (after : Option KeyPlace) → after ≡ key_place_of t k → event s e k ≡ event_by (may_store e k && is_stored o) (key_place_before k r.moves r.notes after) after (note_of (key_change k (chunk_of after) r.moves r.notes))
+  pub tells_at : (after : Option KeyPlace) → after ≡ key_place_of t k → event s e k ≡ event_by (is_key k (stored_key e o)) (key_place_before k r.moves r.notes after) after (note_of (key_change k (chunk_of after) r.moves r.notes))
   tells_at after a =
       let there : key_place_of (step s e).0 k ≡ after = ap (λ u. key_place_of u k) (sym h.stepped) ∙ sym a in
       let was : key_place_of s k ≡ key_place_before k r.moves r.notes after = was_at ∙ ap (key_place_before k r.moves r.notes) (sym a) in
-      ap (λ p. event_by (may_store e k && is_stored p) (key_place_of s k) (key_place_of (step s e).0 k) (cause_of s e k)) (sym h.answered)
-      ∙ ap (λ p. event_by (may_store e k && is_stored o) p (key_place_of (step s e).0 k) (cause_of s e k)) was
-      ∙ ap (λ p. event_by (may_store e k && is_stored o) (key_place_before k r.moves r.notes after) p (cause_of s e k)) there
-      ∙ event_noted (may_store e k && is_stored o) (key_place_before k r.moves r.notes after) after (cause_of s e k) (note_of (key_change k (chunk_of after) r.moves r.notes))
+      ap (λ p. event_by (is_key k (stored_key e p)) (key_place_of s k) (key_place_of (step s e).0 k) (cause_of s e k)) (sym h.answered)
+      ∙ ap (λ p. event_by (is_key k (stored_key e o)) p (key_place_of (step s e).0 k) (cause_of s e k)) was
+      ∙ ap (λ p. event_by (is_key k (stored_key e o)) (key_place_before k r.moves r.notes after) p (cause_of s e k)) there
+      ∙ event_noted (is_key k (stored_key e o)) (key_place_before k r.moves r.notes after) after (cause_of s e k) (note_of (key_change k (chunk_of after) r.moves r.notes))
       (λ none some.
       let gone : find t k ≡ None = no_place t (find t k) (sym a ∙ none) in
       let had : is_some (find s k) ≡ true = some_place s (find s k) (ap is_some was ∙ some) in
@@ -284,31 +284,12 @@ still_place k t (Some x) a ms ns h =
 
 -- ---- commands that do not store the key
 
-stores_named : (e : Step) (k : List ℕ) → may_store e k ≡ true → has nat_eq (hash_of k) (step_keys e) ≡ true
-stores_named (Client (client.Stores v l flags d p)) k h = same_named k l (same_key-exact k l h)
-stores_named (Client (client.Joins side l d)) k h = same_named k l (same_key-exact k l h)
-stores_named (Client (client.Counts side l d)) k h = same_named k l (same_key-exact k l h)
-stores_named (Client (client.Gets l)) k h = absurd (false≢true h)
-stores_named (Client (client.Touches l d)) k h = absurd (false≢true h)
-stores_named (Client (client.Deletes l)) k h = absurd (false≢true h)
-stores_named (Client (client.Flushes d)) k h = absurd (false≢true h)
-stores_named (Pull c q) k h = absurd (false≢true h)
-stores_named Bump k h = absurd (false≢true h)
-stores_named (CrawlStart set) k h = absurd (false≢true h)
-stores_named (Crawl c q) k h = absurd (false≢true h)
-stores_named (Schedule a b) k h = absurd (false≢true h)
-stores_named Advance k h = absurd (false≢true h)
-stores_named (Clock n) k h = absurd (false≢true h)
-stores_named (Tune a b c d) k h = absurd (false≢true h)
-stores_named (TempTtl n) k h = absurd (false≢true h)
-
-and_false : (b c : Bool) → (b ≡ true → c ≡ true → ⊥) → b && c ≡ false
-and_false false c h = refl
-and_false true false h = refl
-and_false true true h = absurd (h refl refl)
-
-not_stored : (e : Step) (o : Outcome) (k : List ℕ) → Lacks (hash_of k) (stored_keys e o) → may_store e k && is_stored o ≡ false
-not_stored e o k h = and_false (may_store e k) (is_stored o) (λ m d. true≢false (sym (stores_named e k m) ∙ ap (λ b. has nat_eq (hash_of k) (cond b (step_keys e) [])) (sym d) ∙ h))
+not_stored : (k : List ℕ) (l : Option (List ℕ)) → Lacks (hash_of k) (none_or (option_map hash_of l)) → is_key k l ≡ false
+not_stored k None h = refl
+not_stored k (Some l) h = go (same_key k l) refl where
+  go : (b : Bool) → same_key k l ≡ b → b ≡ false
+  go false e = refl
+  go true e = absurd (true≢false (sym (same_named k l (same_key-exact k l e)) ∙ h))
 
 -- ---- the key stays as it was
 
@@ -326,7 +307,7 @@ unnamed_still s t e o r h k f =
     let parts : Lacks (hash_of k) (stored_keys e o) × Lacks (hash_of k) (named t r.moves) = lacks_both (hash_of k) (stored_keys e o) (named t r.moves) f in
     let w = still_place k t (find t k) (agrees t (sound_keys t h.sound) k (find t k) refl) r.moves r.notes parts.1 in (
       tells_at k s t e o r h (key_place_of t k) refl
-          ∙ ap (λ b. event_by b (key_place_before k r.moves r.notes (key_place_of t k)) (key_place_of t k) (note_of (key_change k (chunk_of (key_place_of t k)) r.moves r.notes))) (not_stored e o k parts.0)
+          ∙ ap (λ b. event_by b (key_place_before k r.moves r.notes (key_place_of t k)) (key_place_of t k) (note_of (key_change k (chunk_of (key_place_of t k)) r.moves r.notes))) (not_stored k (stored_key e o) parts.0)
           ∙ ap (λ p. event_by false p (key_place_of t k) (note_of (key_change k (chunk_of (key_place_of t k)) r.moves r.notes))) w.1
           ∙ ap (λ c. event_by false (key_place_of t k) (key_place_of t k) (note_of c)) w.0
           ∙ no_event (key_place_of t k),

@@ -1,13 +1,13 @@
 -- Which keys the record of a step names, by their hashes.
 -- Rule of this project: a play mentions each key that its record names, and the one that it stored.
-use Rattle.std.specs.Prelude.{ℕ, cond, List, [], ◌∷◌, ◌++◌, Option, None, Some}
+use Rattle.std.specs.Prelude.{ℕ, List, [], ◌∷◌, ◌++◌, Option, None, Some}
+use Rattle.std.specs.Option.{option_map}
 use Rattle.rev_items.specs.Plain.{PlainItem}
 use Rattle.rev_items.specs.Hash.{hash_of}
 use Rattle.rev_model.specs.State.{State, item_at}
 use Rattle.rev_model.specs.Move.{Move, Takes, Puts, Fills, Binds, Unbinds, Shifts}
-use Rattle.rev_model.specs.Client.{Stores, Joins, Counts}
-use Rattle.rev_model.specs.Actor.{Step, Client}
-use Rattle.rev_model.specs.Events.{is_stored}
+use Rattle.rev_model.specs.Actor.{Step}
+use Rattle.rev_model.specs.Events.{stored_key}
 use Rattle.rev_model.specs.declared.Entry.TheVariants.{Chunk}
 use Rattle.rev_model.specs.declared.Listed.TheVariants.{InQueue}
 use Rattle.rev_model.specs.declared.Placed.TheVariants.{ToQueue}
@@ -40,16 +40,9 @@ abbrev pub named : State → List Move → List ℕ
 named t [] = []
 named t (m ∷ ms) = named_by t m ++ named t ms
 
--- the key under which a command may store
-abbrev pub step_keys : Step → List ℕ
-step_keys (Client (Stores v k flags e d)) = hash_of k ∷ []
-step_keys (Client (Joins side k d)) = hash_of k ∷ []
-step_keys (Client (Counts side k d)) = hash_of k ∷ []
-step_keys e = []
-
--- the same, where it did
+-- the key that the step stored, if it did
 abbrev pub stored_keys : Step → Outcome → List ℕ
-stored_keys e o = cond (is_stored o) (step_keys e) []
+stored_keys e o = none_or (option_map hash_of (stored_key e o))
 
 -- the note of a change
 abbrev pub note_of : Option KeyChange → Option Cause

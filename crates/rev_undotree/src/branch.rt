@@ -132,7 +132,7 @@ impl<A: Allocator> Branch<A> {
     ///
     /// Numbers rise along a run, so a node stands at most as far in as its number is above the first one's, and just there
     /// where all before it were played in a row. That place is looked at first.
-    fn seek(&self, number: u32) -> Option<usize>
+    fn place_in_run(&self, number: u32) -> Option<usize>
         requires { RisesRun self.now.run }
         ensures some { IfSome result (λ k. (k < length self.now.run) × ((get_or self.now.run k no_node).number ≡ number)) }
         ensures none { IfNone result ((p : ℕ) (c : Bool) → find_run number p c self.now.run ≡ None) }
@@ -181,7 +181,7 @@ impl<A: Allocator> Branch<A> {
         ensures none { IfNone result (IsElsewhere number self.now way.now) }
     {
         match way {
-            [] => match self.seek(number) {
+            [] => match self.place_in_run(number) {
                 Some(at) => Some(at + 1),
                 None => None,
             },
@@ -292,7 +292,7 @@ impl<A: Allocator> Branch<A> {
     }
 
     /// Leaves no node.
-    fn clear(&mut self)
+    pub fn clear(&mut self)
         ensures { self.new ≡ record { from = 0; run = []; forks = bare } }
     {
         self.run.truncate(0);

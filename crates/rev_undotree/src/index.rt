@@ -48,6 +48,14 @@ impl<A: Allocator> Index<A> {
         })
     }
 
+    /// Takes all nodes out.
+    pub fn clear(&mut self)
+        ensures { self.new ≡ record { branches = []; leavings = [] } }
+    {
+        self.branches.clear();
+        self.leavings.clear();
+    }
+
     /// Notes the next node: it is played below the node `parent`, where a new branch leaves the run, or at the run's end.
     ///
     /// Err: a growth was refused, and the index is as it was.

@@ -141,6 +141,7 @@ fn leads_past(
 /// The latest node up to `bound` that mentions the hash, or 0.
 ///
 /// Entries of nodes over the bound are passed by along skips, the others of the bucket one by one.
+#[inline(always)]
 pub fn seek(heads: &[u32], entries: &[Entry], hash: u32, bound: u32) -> u32
     requires { IsSound heads.now entries.now }
     ensures bound { result ≤ bound }

@@ -79,6 +79,14 @@ impl<A: Allocator> Mentions<A> {
         })
     }
 
+    /// Takes all mentions out. The buckets stay as many as they are.
+    pub fn clear(&mut self)
+        ensures { self.new ≡ [] }
+    {
+        self.entries.clear();
+        relink(&mut self.heads, &mut self.entries);
+    }
+
     /// Notes that the hash is mentioned at `node`. What one of the last two entries says already is left out.
     ///
     /// Err: a growth was refused, or the log has 2³² - 1 entries, and nothing is changed.

@@ -1,13 +1,12 @@
 //! Which keys the step of a node names, and the mentions of them.
-ghost use Rattle.std.specs.Prelude.{◌≡◌, ◌++◌, ℕ, cond, OnOk, drop};
+ghost use Rattle.std.specs.Prelude.{◌≡◌, ◌++◌, ℕ, OnOk, drop};
 ghost use Rattle.std.specs.Option.{option_map};
 ghost use Rattle.rev_items.specs.Hash.{hash_of};
 ghost use Rattle.rev_undotree.specs.Mentions.{Within};
-ghost use Rattle.rev_model.specs.Events.{is_stored};
 ghost use Rattle.rev_model.specs.State.{item_at};
 ghost use Rattle.rev_changes.specs.Seen.{plain_moves};
 ghost use Rattle.rev_requests.specs.Plain.{plain_step};
-ghost use Rattle.rev_undotree.specs.Named.{hashed, named, step_keys, stored_keys, none_or};
+ghost use Rattle.rev_undotree.specs.Named.{hashed, named, stored_keys, none_or};
 ghost use Rattle.rev_undotree.specs.Mentioned.{AreMentioned, Grows};
 
 use crate::mentions::Mentions;
@@ -15,46 +14,16 @@ use rev_changes::{Change, Record};
 use rev_inverse::Store;
 use rev_items::Item;
 use rev_model::{ChunkRef, Entry, Listed, Outcome, Placed};
-use rev_requests::{ClientStep, KeyCommand, Step};
+use rev_requests::Step;
 use std::alloc::{AllocError, Allocator};
-
-/// The hash of the key under which a step may store.
-fn key_hash<A: Allocator>(step: &Step<A>) -> Option<u32>
-    ensures { none_or result ≡ step_keys (plain_step step.now) }
-{
-    match step {
-        Step::Client(client) => match client {
-            ClientStep::Store { key, .. } => Some(key.hash()),
-            ClientStep::Join { key, .. } => Some(key.hash()),
-            ClientStep::Keyed { command, key } => match command {
-                KeyCommand::Count(_) => Some(key.hash()),
-                KeyCommand::Get | KeyCommand::Delete | KeyCommand::Touch(_) => None,
-            },
-            ClientStep::FlushAll { .. } => None,
-        },
-        Step::Actor(_) => None,
-        Step::Tune(_) => None,
-    }
-}
-
-/// Whether a command that answered this stored its key.
-fn has_stored(outcome: Outcome) -> bool
-    ensures { result ≡ is_stored outcome }
-{
-    match outcome {
-        Outcome::Stored | Outcome::Number(_) => true,
-        _ => false,
-    }
-}
 
 /// The hash of the key that a step stored, where it answered `outcome`.
 fn stored_hash<A: Allocator>(step: &Step<A>, outcome: Outcome) -> Option<u32>
     ensures { none_or result ≡ stored_keys (plain_step step.now) outcome }
 {
-    if has_stored(outcome) {
-        key_hash(step)
-    } else {
-        None
+    match step.stored_key(outcome) {
+        Some(key) => Some(key.hash()),
+        None => None,
     }
 }
 

@@ -3,7 +3,7 @@ ghost use Rattle.std.specs.Prelude.{◌≡◌, ℕ, ◌-◌, Some, None, ◌<◌
 ghost use Rattle.rev_undotree.specs.Steps.{State, next, outcome_of, Undoes};
 ghost use Rattle.rev_undotree.specs.Ways.{reach, IsWay};
 ghost use Rattle.rev_undotree.specs.Rows.{number_at};
-ghost use Rattle.rev_undotree.specs.Tree.{PlainNode, count, fork_at};
+ghost use Rattle.rev_undotree.specs.Tree.{PlainNode, bare, count, fork_at};
 ghost use Rattle.rev_undotree.specs.States.{rewind};
 ghost use Rattle.rev_undotree.specs.Paths.{IsPath, IsOnWay};
 ghost use Rattle.rev_undotree.specs.Finds.{Rises, Fitted, FoundAt, IsMissing};
@@ -35,6 +35,20 @@ pub struct Position<A: Allocator> {
 }
 
 impl<A: Allocator> Position<A> {
+    /// Lets the tree go: the store stands at the root of one without nodes.
+    pub fn uproot(&mut self)
+        ensures store { self.new.store ≡ self.old.store }
+        ensures base { self.new.base ≡ record { from = 0; run = []; forks = bare } }
+        ensures index { self.new.index ≡ record { branches = []; leavings = [] } }
+        ensures way { self.new.way.items ≡ [] }
+        ensures here { self.new.here ≡ 0 }
+    {
+        self.base.clear();
+        self.index.clear();
+        self.way.clear();
+        self.here = 0;
+    }
+
     /// Steps back to the parent.
     pub fn retreat(&mut self)
         requires stands { Stands (rewind self.old.base self.old.way.items self.old.here self.old.store) self.old.store self.old.base self.old.way.items self.old.here }

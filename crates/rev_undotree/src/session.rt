@@ -266,6 +266,16 @@ impl<A: Allocator + Clone> Session<A> {
         &self.position.store
     }
 
+    /// Begins anew where the session stands: the current state is the root from now on, and the tree is let go with all its
+    /// steps and records. No memory is taken.
+    pub fn restart(&mut self)
+        ensures { self.new ≡ record { root = at self.old.root self.old.rows self.old.current; rows = []; current = 0 } }
+    {
+        self.position.uproot();
+        self.mentions.clear();
+        self.issued = 0;
+    }
+
     /// The current node.
     pub fn current(&self) -> NodeId
         ensures { result.0 ≡ self.now.current }
@@ -394,6 +404,7 @@ impl<A: Allocator + Clone> Session<A> {
 
     /// The parent, the step and the outcome of a node that is held, none for the root: what `parent` and `row` tell, by one
     /// search for the node.
+    #[inline(always)]
     pub fn row_with_parent<'a>(&'a self, node: NodeId) -> Option<(NodeId, &'a Step<A>, Outcome)>
         ensures some { IfSome result (λ x. (r : Row) × (row_of self.now.rows node.0 ≡ Some r) × (x.0.0 ≡ r.parent) × (plain_step x.1.now ≡ r.step) × (x.2 ≡ outcome_of (at self.now.root self.now.rows r.parent) r.step)) }
         ensures none { IfNone result (row_of self.now.rows node.0 ≡ None) }

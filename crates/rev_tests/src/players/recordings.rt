@@ -3,6 +3,7 @@ use crate::players::streams::{File, Full, Lines};
 use rev_classes::{Config, fault_of};
 use rev_output::ToWrite;
 use rev_program::play::play_files;
+use rev_shell::run::open_session;
 use std::io::{Read, Write};
 use std::process::Abort;
 use std::sync::Wait;
@@ -121,7 +122,10 @@ fn status_of<R: Threads + Wait + Sync + AllocGlobal + Abort, F: Read + Drop, W: 
     if let Some(fault) = fault_of(&CONFIG) {
         panic!(rt; "{fault}");
     }
-    play_files(rt, &CONFIG, files, writer, &mut ToWrite::new(errors))
+    match open_session(&rt.alloc(), &CONFIG) {
+        Some(session) => play_files(rt, session, files, writer, &mut ToWrite::new(errors)),
+        None => panic!(rt; "no memory"),
+    }
 }
 
 fn files_of<R: AllocGlobal + Abort>(

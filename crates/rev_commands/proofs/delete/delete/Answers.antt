@@ -4,6 +4,7 @@ use Rattle.rev_changes.specs.Record.{PlainRecord}
 use Rattle.rev_edits.proofs.Telling.{tells_all}
 use Rattle.std.specs.Prelude.{length}
 use Rattle.rev_model.specs.State.{find}
+use Rattle.rev_commands.specs.Looking.{found_need}
 use Rattle.rev_commands.proofs.Looking.{removal_most}
 use Rattle.rev_commands.proofs.delete.delete.Goals as goal
 
@@ -17,7 +18,7 @@ pub returns-clause-told : goal.returns-clause-told
 returns-clause-told g c = tells_all _ _ _ _ _ (ap (λ (r : PlainRecord). r.moves) c.in_ok-undo.ensures) (ap (λ (r : PlainRecord). r.notes) c.in_ok-undo.ensures) c.delete_found-outcome.ensures.told
 
 pub delete_found-outcome-requires-clause-room : goal.delete_found-outcome-requires-clause-room
-delete_found-outcome-requires-clause-room g c = omega (arith, c.removal_moves.ensures, ap (λ (r : PlainRecord). length r.moves) c.in_ok-undo.ensures, ap (λ (r : PlainRecord). r.room) c.in_ok-undo.ensures)
+delete_found-outcome-requires-clause-room g c = omega (arith, ap found_need c.find-found.ensures, c.removal_moves_at.ensures, ap (λ (r : PlainRecord). length r.moves) c.in_ok-undo.ensures, ap (λ (r : PlainRecord). r.room) c.in_ok-undo.ensures)
 
 pub returns-clause-step : goal.returns-clause-step
 returns-clause-step g c = c.delete_found-outcome.ensures.done

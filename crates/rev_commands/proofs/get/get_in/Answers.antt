@@ -14,81 +14,81 @@ pub hit-requires-clause-room : goal.hit-requires-clause-room
 hit-requires-clause-room g c =
     let s = c.args.store.now in
     let k = c.args.key.now in
-    let l = found s k c.in-Some.chunk (sym c.lookup.ensures.found ∙ c.in-Some.is) in
-    let need : access_need 0 s k ≡ hit_need c.in-Some-header.item.bits + 0 = access_room 0 s c.lookup.new.store k c.in-Some.chunk c.in-Some-header.item l c.lookup.ensures.state (sym c.header.ensures ∙ c.in-Some-header.is) in
+    let l = found s k c.in-Some.chunk (sym c.lookup_at.ensures.found ∙ c.in-Some.is) in
+    let need : access_need 0 s k ≡ hit_need c.in-Some-header.item.bits + 0 = access_room 0 s c.lookup_at.new.store k c.in-Some.chunk c.in-Some-header.item l c.lookup_at.ensures.state (sym c.header.ensures ∙ c.in-Some-header.is) in
     let none : look_need s k ≡ 0 = found_look s k c.in-Some.chunk l in
-    omega (arith, need, none, c.lookup.ensures.made, c.lookup.ensures.room, c.requires.room)
+    omega (arith, need, none, c.lookup_at.ensures.made, c.lookup_at.ensures.room, c.requires.room)
 
 pub returns-in-Some-header-clause-done : goal.returns-in-Some-header-clause-done
 returns-in-Some-header-clause-done g c =
-    let l = found c.args.store.now c.args.key.now c.in-Some.chunk (sym c.lookup.ensures.found ∙ c.in-Some.is) in
-    got_by c.args.store.now c.lookup.new.store c.hit.new.store c.args.key.now c.in-Some.chunk l c.lookup.ensures.state c.answer-outcome.result c.hit.ensures.state c.answer-outcome.ensures
+    let l = found c.args.store.now c.args.key.now c.in-Some.chunk (sym c.lookup_at.ensures.found ∙ c.in-Some.is) in
+    got_by c.args.store.now c.lookup_at.new.store c.hit.new.store c.args.key.now c.in-Some.chunk l c.lookup_at.ensures.state c.answer-outcome.result c.hit.ensures.state c.answer-outcome.ensures
 
 pub returns-in-Some-header-clause-leads : goal.returns-in-Some-header-clause-leads
-returns-in-Some-header-clause-leads g c = λ first l. c.hit.ensures.leads first (c.lookup.ensures.leads first l)
+returns-in-Some-header-clause-leads g c = λ first l. c.hit.ensures.leads first (c.lookup_at.ensures.leads first l)
 
 pub returns-in-Some-header-clause-made : goal.returns-in-Some-header-clause-made
 returns-in-Some-header-clause-made g c =
     let s = c.args.store.now in
     let k = c.args.key.now in
-    let l = found s k c.in-Some.chunk (sym c.lookup.ensures.found ∙ c.in-Some.is) in
-    let need : access_need 0 s k ≡ hit_need c.in-Some-header.item.bits + 0 = access_room 0 s c.lookup.new.store k c.in-Some.chunk c.in-Some-header.item l c.lookup.ensures.state (sym c.header.ensures ∙ c.in-Some-header.is) in
+    let l = found s k c.in-Some.chunk (sym c.lookup_at.ensures.found ∙ c.in-Some.is) in
+    let need : access_need 0 s k ≡ hit_need c.in-Some-header.item.bits + 0 = access_room 0 s c.lookup_at.new.store k c.in-Some.chunk c.in-Some-header.item l c.lookup_at.ensures.state (sym c.header.ensures ∙ c.in-Some-header.is) in
     let none : look_need s k ≡ 0 = found_look s k c.in-Some.chunk l in
-    omega (arith, need, none, c.lookup.ensures.made, c.hit.ensures.made)
+    omega (arith, need, none, c.lookup_at.ensures.made, c.hit.ensures.made)
 
-pub lookup-requires-clause-sound : goal.lookup-requires-clause-sound
-lookup-requires-clause-sound g c = (None, c.requires.sound)
+pub lookup_at-requires-clause-sound : goal.lookup_at-requires-clause-sound
+lookup_at-requires-clause-sound g c = (None, c.requires.sound)
 
 pub returns-in-Some-header-clause-sound : goal.returns-in-Some-header-clause-sound
 returns-in-Some-header-clause-sound g c = c.hit.ensures.sound
 
 pub returns-in-Some-header-clause-room : goal.returns-in-Some-header-clause-room
-returns-in-Some-header-clause-room g c = c.hit.ensures.room ∙ c.lookup.ensures.room
+returns-in-Some-header-clause-room g c = c.hit.ensures.room ∙ c.lookup_at.ensures.room
 
 pub returns-in-Some-header-clause-told : goal.returns-in-Some-header-clause-told
-returns-in-Some-header-clause-told g c = tells_still _ _ _ _ _ _ _ c.lookup.ensures.told c.hit.ensures.told
+returns-in-Some-header-clause-told g c = tells_still _ _ _ _ _ _ _ c.lookup_at.ensures.told c.hit.ensures.told
 
 pub hit-requires-clause-sound : goal.hit-requires-clause-sound
-hit-requires-clause-sound g c = c.lookup.ensures.sound None c.requires.sound
+hit-requires-clause-sound g c = c.lookup_at.ensures.sound None c.requires.sound
 
 pub hit-requires-clause-item : goal.hit-requires-clause-item
 hit-requires-clause-item g c = sym c.header.ensures ∙ c.in-Some-header.is
 
-pub lookup-requires-clause-room : goal.lookup-requires-clause-room
-lookup-requires-clause-room g c = omega (arith, look_access 0 c.args.store.now c.args.key.now, c.requires.room)
+pub lookup_at-requires-clause-room : goal.lookup_at-requires-clause-room
+lookup_at-requires-clause-room g c = omega (arith, look_access 0 c.args.store.now c.args.key.now, c.requires.room)
 
 pub returns-in_default-clause-done : goal.returns-in_default-clause-done
 returns-in_default-clause-done g c =
-    let l = found c.args.store.now c.args.key.now c.in-Some.chunk (sym c.lookup.ensures.found ∙ c.in-Some.is) in
-    let none = sym c.in_default.is ∙ c.header.ensures ∙ ap (option_map header_of) (there c.args.store.now c.lookup.new.store c.args.store.now c.args.key.now c.in-Some.chunk l c.lookup.ensures.state) in
+    let l = found c.args.store.now c.args.key.now c.in-Some.chunk (sym c.lookup_at.ensures.found ∙ c.in-Some.is) in
+    let none = sym c.in_default.is ∙ c.header.ensures ∙ ap (option_map header_of) (there c.args.store.now c.lookup_at.new.store c.args.store.now c.args.key.now c.in-Some.chunk l c.lookup_at.ensures.state) in
     absurd (cc)
 
 pub returns-in_default-clause-sound : goal.returns-in_default-clause-sound
-returns-in_default-clause-sound g c = c.lookup.ensures.sound None c.requires.sound
+returns-in_default-clause-sound g c = c.lookup_at.ensures.sound None c.requires.sound
 
 pub returns-in_default-clause-leads : goal.returns-in_default-clause-leads
-returns-in_default-clause-leads g c = c.lookup.ensures.leads
+returns-in_default-clause-leads g c = c.lookup_at.ensures.leads
 
 pub returns-in_default-clause-room : goal.returns-in_default-clause-room
-returns-in_default-clause-room g c = c.lookup.ensures.room
+returns-in_default-clause-room g c = c.lookup_at.ensures.room
 
 pub returns-in_default-clause-made : goal.returns-in_default-clause-made
-returns-in_default-clause-made g c = omega (arith, look_access 0 c.args.store.now c.args.key.now, c.lookup.ensures.made)
+returns-in_default-clause-made g c = omega (arith, look_access 0 c.args.store.now c.args.key.now, c.lookup_at.ensures.made)
 
 pub returns-in_default-clause-told : goal.returns-in_default-clause-told
-returns-in_default-clause-told g c = c.lookup.ensures.told
+returns-in_default-clause-told g c = c.lookup_at.ensures.told
 
 pub returns-in-None-clause-sound : goal.returns-in-None-clause-sound
-returns-in-None-clause-sound g c = c.lookup.ensures.sound None c.requires.sound
+returns-in-None-clause-sound g c = c.lookup_at.ensures.sound None c.requires.sound
 
 pub returns-in-None-clause-leads : goal.returns-in-None-clause-leads
-returns-in-None-clause-leads g c = c.lookup.ensures.leads
+returns-in-None-clause-leads g c = c.lookup_at.ensures.leads
 
 pub returns-in-None-clause-room : goal.returns-in-None-clause-room
-returns-in-None-clause-room g c = c.lookup.ensures.room
+returns-in-None-clause-room g c = c.lookup_at.ensures.room
 
 pub returns-in-None-clause-made : goal.returns-in-None-clause-made
-returns-in-None-clause-made g c = omega (arith, look_access 0 c.args.store.now c.args.key.now, c.lookup.ensures.made)
+returns-in-None-clause-made g c = omega (arith, look_access 0 c.args.store.now c.args.key.now, c.lookup_at.ensures.made)
 
 pub returns-in-None-clause-told : goal.returns-in-None-clause-told
-returns-in-None-clause-told g c = c.lookup.ensures.told
+returns-in-None-clause-told g c = c.lookup_at.ensures.told

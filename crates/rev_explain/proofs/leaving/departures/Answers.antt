@@ -17,8 +17,8 @@ nodes-preserved g c =
     c.in-Some.ensures.above c.in-Some.ensures.some (c.in_ok-add_departures.ensures (at c.args.session.now.root c.args.session.now.rows c.in-Some.node.0))
 
 pub returns-clause-told : goal.returns-clause-told
-returns-clause-told g c = λ e k.
+returns-clause-told g c =
     let v = c.args.session.now in
     let stop = leave_stops v c.args.limit c.len.result c.nodes.depth c.nodes.departures.items c.nodes.invariant (omega (arith, c.len.ensures, c.nodes.departures.ok.0)) (c.in_default.ensures.none refl) in
-    subst (AreTold (story v.root v.rows v.current k) k) (sym (c.reverse.ensures.items ∙ ap reverse c.keep.ensures))
-    (leave_told v c.args.limit c.nodes.depth c.nodes.departures.items c.nodes.invariant stop e k)
+    subst (AreTold c.args.limit (story v.root v.rows v.current)) (sym (c.reverse.ensures.items ∙ ap reverse c.keep.ensures))
+    (leave_told v c.args.limit c.nodes.depth c.nodes.departures.items c.nodes.invariant stop)

@@ -1,5 +1,10 @@
-use Rattle.std.proofs.Common.{rules}
+use Rattle.std.proofs.Common.{inl, rules}
+use Rattle.rev_program.proofs.Ends.{stopped_of}
 use Rattle.rev_program.proofs.program.program.Goals as goal
 
 pub returns-in-Err-clause-status : goal.returns-in-Err-clause-status
 returns-in-Err-clause-status c = search rules steps 4000000
+
+pub returns-in-Ok-Run-clause-early : goal.returns-in-Ok-Run-clause-early
+returns-in-Ok-Run-clause-early g c =
+    λ n. inl (stopped_of _ _ _ _ c.run_script.result _ c.ended-in-Ok-Run.ensures.status c.ended-in-Ok-Run.ensures.told n)

@@ -3,7 +3,7 @@ use Rattle.rev_script.specs.Script.{onwards, cuts}
 use Rattle.rev_script.proofs.Known.{Took-refl}
 use Rattle.rev_script.proofs.Scripts.{takes_byte, first-unused, first-given}
 use Rattle.rev_output.proofs.Written.{Appends-none}
-use Rattle.rev_shell.specs.Run.{PlainSink, sink_at}
+use Rattle.rev_output.specs.Sink.{PlainSink, sink_at}
 use Rattle.rev_shell.proofs.Runs.{progress, finished, memory_now, fault_now, front_now, still_whole}
 use Rattle.rev_shell.proofs.run.run_lines.Goals as goal
 

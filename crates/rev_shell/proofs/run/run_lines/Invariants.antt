@@ -1,7 +1,7 @@
 use Rattle.std.proofs.Common.{◌≡◌, ◌≤◌, ◌-◌, None}
 use Rattle.rev_shell.specs.Answers.{with_bookmarks}
 use Rattle.rev_shell.proofs.Runs.{IsSoFar}
-use Rattle.rev_shell.specs.Run.{sink_at}
+use Rattle.rev_output.specs.Sink.{sink_at}
 use Rattle.rev_shell.proofs.run.run_lines.Given as goal
 
 abbrev pub invariant-lines : goal.invariant-lines

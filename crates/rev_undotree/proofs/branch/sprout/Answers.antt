@@ -1,7 +1,7 @@
 use Rattle.std.proofs.Common.{refl, map, ap, ◌∙◌, ◌++◌, ◌∷◌, []}
 use Rattle.rev_undotree.specs.Tree.{PlainBranch, forks_of}
 use Rattle.rev_undotree.specs.Places.{with_place}
-use Rattle.rev_undotree.proofs.Walk.{sprouted}
+use Rattle.rev_undotree.proofs.Junctions.{sprouted}
 use Rattle.rev_undotree.proofs.branch.sprout.Goals as goal
 
 pub returns-clause-ok : goal.returns-clause-ok

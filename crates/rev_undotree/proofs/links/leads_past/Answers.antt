@@ -1,5 +1,5 @@
 use Rattle.std.proofs.lemmas.Bool.{eqb-true}
-use Rattle.rev_undotree.proofs.Walks.{leads_past_it}
+use Rattle.rev_undotree.proofs.Latest.{leads_past_it}
 use Rattle.rev_undotree.proofs.links.leads_past.Goals as goal
 
 pub returns-then-entry-bound : goal.returns-then-entry-bound

@@ -1,6 +1,6 @@
 use Rattle.std.proofs.Common.{length, refl}
 use Rattle.rev_undotree.specs.Links.{mentions_of}
-use Rattle.rev_undotree.proofs.Walks.{goes_on, seek_past, finds, holds_found, seek_end}
+use Rattle.rev_undotree.proofs.Latest.{goes_on, seek_past, finds, holds_found, seek_end}
 use Rattle.rev_undotree.proofs.links.seek.Goals as goal
 
 pub walk-preserved : goal.walk-preserved

@@ -1,5 +1,5 @@
 use Rattle.rev_undotree.specs.Links.{mentions_of}
-use Rattle.rev_undotree.proofs.Walks.{Seeks}
+use Rattle.rev_undotree.proofs.Latest.{Seeks}
 use Rattle.rev_undotree.proofs.links.seek.Given as goal
 use Rattle.std.proofs.Common.{length}
 

@@ -67,3 +67,43 @@ pub returns-in-CannotOpen-clause-ok : goal.returns-in-CannotOpen-clause-ok
 returns-in-CannotOpen-clause-ok g c =
     let t = rw c.as_str-in-CannotOpen.ensures.value at c.tell_parts-in-CannotOpen.ensures.ok in
     rw c.in-CannotOpen.is t
+
+pub returns-in-CannotWriteFile-clause-told : goal.returns-in-CannotWriteFile-clause-told
+returns-in-CannotWriteFile-clause-told g c =
+    let t = rw c.as_str-in-CannotWriteFile.ensures.value at c.tell_parts-in-CannotWriteFile.ensures.told in
+    rw c.in-CannotWriteFile.is t
+
+pub returns-in-NoEvent-clause-told : goal.returns-in-NoEvent-clause-told
+returns-in-NoEvent-clause-told g c =
+    let t = rw c.as_str-in-NoEvent.ensures.value at c.tell_parts-in-NoEvent.ensures.told in
+    rw c.in-NoEvent.is t
+
+pub returns-in-CannotWriteFile-clause-ok : goal.returns-in-CannotWriteFile-clause-ok
+returns-in-CannotWriteFile-clause-ok g c =
+    let t = rw c.as_str-in-CannotWriteFile.ensures.value at c.tell_parts-in-CannotWriteFile.ensures.ok in
+    rw c.in-CannotWriteFile.is t
+
+pub returns-in-NoEvent-clause-ok : goal.returns-in-NoEvent-clause-ok
+returns-in-NoEvent-clause-ok g c =
+    let t = rw c.as_str-in-NoEvent.ensures.value at c.tell_parts-in-NoEvent.ensures.ok in
+    rw c.in-NoEvent.is t
+
+pub returns-in-BadLine-clause-told : goal.returns-in-BadLine-clause-told
+returns-in-BadLine-clause-told g c =
+    let t = rw c.as_str-in-BadLine.ensures.value at c.tell_line.ensures.told in
+    rw c.in-BadLine.is t
+
+pub returns-in-BadStats-clause-told : goal.returns-in-BadStats-clause-told
+returns-in-BadStats-clause-told g c =
+    let t = rw c.as_str-in-BadStats.ensures.value at c.tell_stats.ensures.told in
+    rw c.in-BadStats.is t
+
+pub returns-in-BadLine-clause-ok : goal.returns-in-BadLine-clause-ok
+returns-in-BadLine-clause-ok g c =
+    let t = rw c.as_str-in-BadLine.ensures.value at c.tell_line.ensures.ok in
+    rw c.in-BadLine.is t
+
+pub returns-in-BadStats-clause-ok : goal.returns-in-BadStats-clause-ok
+returns-in-BadStats-clause-ok g c =
+    let t = rw c.as_str-in-BadStats.ensures.value at c.tell_stats.ensures.ok in
+    rw c.in-BadStats.is t

@@ -5,7 +5,7 @@ use Rattle.rev_undotree.specs.Ways.{with_node}
 use Rattle.rev_undotree.specs.declared.junction.Junction.{Junction}
 use Rattle.rev_undotree.specs.Places.{with_place}
 use Rattle.rev_undotree.proofs.Places.{way_placed, at_end_placed}
-use Rattle.rev_undotree.proofs.Walk.{within_forks, child_is, IsWay_down, at_end_inside, at_end-id, length_behind, behind, extend_empty, extend_refused}
+use Rattle.rev_undotree.proofs.Junctions.{within_forks, child_is, IsWay_down, at_end_inside, at_end-id, length_behind, behind, extend_empty, extend_refused}
 use Rattle.rev_undotree.proofs.branch.Branch.+extend.Goals as goal
 
 abbrev none : Junction

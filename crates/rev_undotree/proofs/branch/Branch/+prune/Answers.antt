@@ -3,7 +3,7 @@ use Rattle.rev_undotree.specs.Prunes.{cropped}
 use Rattle.rev_undotree.specs.declared.junction.Junction.{Junction}
 use Rattle.rev_undotree.specs.Places.{with_place}
 use Rattle.rev_undotree.proofs.Places.{way_placed, at_end_placed}
-use Rattle.rev_undotree.proofs.Walk.{within_forks, child_is, IsWay_down, at_end_inside, length_behind, behind}
+use Rattle.rev_undotree.proofs.Junctions.{within_forks, child_is, IsWay_down, at_end_inside, length_behind, behind}
 use Rattle.rev_undotree.proofs.branch.Branch.+prune.Goals as goal
 
 abbrev none : Junction

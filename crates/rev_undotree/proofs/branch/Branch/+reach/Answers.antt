@@ -2,7 +2,7 @@ use Rattle.std.proofs.Common.{rules, ap, ◌∙◌, sym}
 use Rattle.rev_undotree.specs.declared.junction.Junction.{Junction}
 use Rattle.rev_undotree.specs.Places.{with_place}
 use Rattle.rev_undotree.proofs.Places.{way_placed, reach_placed, reach_empty}
-use Rattle.rev_undotree.proofs.Walk.{within_forks, child_is, IsWay_down, reach_down, length_behind, behind}
+use Rattle.rev_undotree.proofs.Junctions.{within_forks, child_is, IsWay_down, reach_down, length_behind, behind}
 use Rattle.rev_undotree.proofs.branch.Branch.+reach.Goals as goal
 
 abbrev none : Junction

@@ -7,7 +7,7 @@ use Rattle.rev_undotree.proofs.Places.{found_anywhere}
 use Rattle.rev_undotree.proofs.Finds.{child_at, fork_within, rises_child, found_end, found_behind}
 use Rattle.rev_undotree.proofs.Elsewhere.{if_none_weaker, elsewhere_end, elsewhere_behind_run, elsewhere_no_fork, elsewhere_other_place, elsewhere_behind}
 use Rattle.rev_undotree.proofs.Held.{if_some_weaker}
-use Rattle.rev_undotree.proofs.Walk.{length_behind, behind}
+use Rattle.rev_undotree.proofs.Junctions.{length_behind, behind}
 use Rattle.rev_undotree.proofs.branch.Branch.+spot.Goals.{then-junction-len-via-then-junction-len, then-junction-len-via-else-junction-len+then-junction-fork_count}
 use Rattle.rev_undotree.proofs.branch.Branch.+spot.Goals as goal
 

@@ -5,7 +5,7 @@ use Rattle.rev_undotree.specs.Ways.{undo_of, at_end, with_undo}
 use Rattle.rev_undotree.specs.declared.junction.Junction.{Junction}
 use Rattle.rev_undotree.specs.Places.{with_place}
 use Rattle.rev_undotree.proofs.Places.{way_placed, at_end_placed, run_placed}
-use Rattle.rev_undotree.proofs.Walk.{within_forks, child_is, IsWay_down, reach_down, at_end_inside, length_behind, behind}
+use Rattle.rev_undotree.proofs.Junctions.{within_forks, child_is, IsWay_down, reach_down, at_end_inside, length_behind, behind}
 use Rattle.rev_undotree.proofs.branch.Branch.+turn.Goals as goal
 
 abbrev none : Junction

@@ -1,7 +1,7 @@
 use Rattle.std.proofs.Common.{ap, sym, ◌∙◌}
 use Rattle.rev_undotree.specs.Tree.{count}
 use Rattle.rev_undotree.specs.Places.{with_place}
-use Rattle.rev_undotree.proofs.Walk.{count-map}
+use Rattle.rev_undotree.proofs.Junctions.{count-map}
 use Rattle.rev_undotree.proofs.branch.Branch.fork_count.Goals as goal
 
 pub returns : goal.returns

@@ -1,5 +1,5 @@
 use Rattle.std.proofs.Common.{[], ◌∷◌, ◌++◌, ◌+◌, length, ap, sym, ◌∙◌, add-one, ⊎_elim}
-use Rattle.rev_undotree.proofs.Walk.{next_fits}
+use Rattle.rev_undotree.proofs.Junctions.{next_fits}
 use Rattle.rev_undotree.specs.declared.junction.Junction.{Junction}
 use Rattle.rev_undotree.specs.Tree.{PlainBranch, bare}
 use Rattle.rev_undotree.specs.Ways.{reach}

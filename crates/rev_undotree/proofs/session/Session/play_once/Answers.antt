@@ -18,7 +18,7 @@ use Rattle.rev_undotree.proofs.Positions.{stands_way, stands_within, stands_at}
 use Rattle.rev_undotree.proofs.Growth.{kept_sound, length_rows, play_kept, play_state}
 use Rattle.rev_undotree.proofs.Machine.{kept_tree, kept_path, goes_on_is, deep_is, deep_not}
 use Rattle.rev_undotree.specs.Mentions.{Within}
-use Rattle.rev_undotree.proofs.Walk.{held_number}
+use Rattle.rev_undotree.proofs.Junctions.{held_number}
 use Rattle.rev_undotree.proofs.session.Session.play_once.Goals as goal
 
 -- a session with all its parts as they were

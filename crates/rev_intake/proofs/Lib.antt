@@ -1,0 +1,5 @@
+pub mod Passing
+pub mod Taken
+pub mod Stopping
+pub mod Files
+pub mod Order

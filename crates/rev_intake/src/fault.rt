@@ -1,0 +1,65 @@
+//! Why logs do not become a script.
+
+use rev_output::WriteFailed;
+use rev_watch::fault::{LineFault, LogFault};
+use std::alloc::AllocError;
+use thiserror::Error;
+
+/// Why logs do not become a script.
+#[derive(Clone, Copy, Debug, PartialEq, Eq, Drop, Error)]
+pub enum IntakeFault {
+    #[error("out of memory")]
+    Memory,
+    /// A read failed.
+    #[error("cannot read")]
+    Read,
+    /// A line that begins like one of the log is none. Lines are numbered from 1.
+    #[error("line {line}: {fault}")]
+    Line { line: u64, fault: LineFault },
+    /// A log has 18446744073709551615 lines or more.
+    #[error("input too long")]
+    TooLong,
+    /// A write failed.
+    #[error("cannot write")]
+    Write,
+    /// No event was asked for.
+    #[error("no event")]
+    NoEvent,
+}
+
+impl From<AllocError> for IntakeFault {
+    ghost use Rattle.std.specs.Prelude.{◌≡◌};
+    ghost use Rattle.rev_intake.specs.declared.fault.IntakeFault.{IntakeFault};
+
+    ghost from_gives = { λ refused fault. fault ≡ IntakeFault.Memory };
+
+    fn from(_refused: AllocError) -> IntakeFault {
+        IntakeFault::Memory
+    }
+}
+
+impl From<WriteFailed> for IntakeFault {
+    ghost use Rattle.std.specs.Prelude.{◌≡◌};
+    ghost use Rattle.rev_intake.specs.declared.fault.IntakeFault.{IntakeFault};
+
+    ghost from_gives = { λ failed fault. fault ≡ IntakeFault.Write };
+
+    fn from(_failed: WriteFailed) -> IntakeFault {
+        IntakeFault::Write
+    }
+}
+
+impl From<LogFault> for IntakeFault {
+    ghost use Rattle.std.specs.Prelude.{◌≡◌};
+    ghost use Rattle.rev_intake.specs.Intake.{fault_of_log};
+
+    ghost from_gives = { λ log fault. fault ≡ fault_of_log log };
+
+    fn from(fault: LogFault) -> IntakeFault {
+        match fault {
+            LogFault::Memory => IntakeFault::Memory,
+            LogFault::Read => IntakeFault::Read,
+            LogFault::Line { line, fault } => IntakeFault::Line { line, fault },
+        }
+    }
+}

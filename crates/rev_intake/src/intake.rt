@@ -1,0 +1,262 @@
+//! Logs taken in line by line, and the script that they become sent out piece by piece.
+ghost use Rattle.std.specs.Prelude.{◌≡◌, ◌++◌, ◌∷◌, [], IfOk, IfErr, OnOk};
+ghost use Rattle.std.specs.Io.KnownBytes.{Appends};
+ghost use Rattle.rev_watch.specs.Window.{empty_window, put_of};
+ghost use Rattle.rev_intake.specs.Counting.{more, no_counts, counted_put};
+ghost use Rattle.rev_intake.specs.Events.{is_asked, given_of, held_in};
+ghost use Rattle.rev_intake.specs.Sending.{Sends, Passes, Stops};
+
+use crate::counts::{LineCounts, add};
+use crate::fault::IntakeFault;
+use rev_import::figures::Figures;
+use rev_import::import::Import;
+use rev_import::policy::Rhythm;
+use rev_import::setup::{Setup, put_setup};
+use rev_output::{Sink, write_all};
+use rev_script::source::Source;
+use rev_watch::event::{Line, LogLine};
+use rev_watch::reader::{LogReader, NextLine};
+use rev_watch::window::{Put, Window};
+use std::alloc::{AllocError, Allocator};
+use std::marker::Model;
+
+/// As soon as so many bytes of the script are at hand, they are sent (this project's own figure).
+pub const PIECE: usize = 65536;
+
+/// The seconds, by the Unix clock, of the events that are asked for: from the first one to the last one.
+#[derive(Clone, Copy, Debug, PartialEq, Eq)]
+pub struct Range {
+    pub first: u32,
+    pub last: u32,
+}
+
+impl Range {
+    // Whether a second is one of them.
+    fn has(self, seconds: u32) -> bool
+        ensures { result ≡ is_asked self seconds }
+    {
+        self.first <= seconds && seconds <= self.last
+    }
+}
+
+/// Logs that become a script. Memory is taken for the events that the window and the import hold back, for the keys
+/// that the server holds, and for a piece of the script.
+#[derive(Drop)]
+pub struct Intake<A: Allocator> {
+    alloc: A,
+    range: Range,
+    window: Window<LogLine<A>, A>,
+    import: Import<A>,
+    // what is written of the script and not yet sent
+    out: Vec<u8, A>,
+    counts: LineCounts,
+}
+
+impl<A: Allocator> Model for Intake<A> {
+    ghost use Rattle.rev_intake.specs.Intake.{PlainIntake};
+
+    ghost Value = { PlainIntake A };
+
+    ghost view = { λ i. record { range = i.range; window = i.window; waiting = i.import.waiting; waits = i.out.items; counts = i.counts; figures = i.import.figures } };
+}
+
+impl<A: Allocator + Copy> Intake<A> {
+    ghost use Rattle.rev_intake.specs.Intake.{Rests, Takes, Ends, StopsEnding};
+    ghost use Rattle.rev_intake.specs.Logs.{TakesLog, Spoils};
+
+    /// No log was taken in. The script begins with the lines that this setup asks for.
+    ///
+    /// Err: memory was refused.
+    pub fn open(
+        alloc: A,
+        setup: Setup,
+        rhythm: Rhythm,
+        range: Range,
+    ) -> Result<Intake<A>, AllocError>
+        ensures range { IfOk result (λ intake. intake.range ≡ range) }
+        ensures window { IfOk result (λ intake. intake.window ≡ empty_window) }
+        ensures waiting { IfOk result (λ intake. intake.waiting ≡ []) }
+        ensures counts { IfOk result (λ intake. intake.counts ≡ no_counts) }
+    {
+        let mut out = Vec::new(alloc);
+        put_setup(&mut out, &setup)?;
+        let Setup { classes, .. } = setup;
+        Ok(Intake {
+            alloc,
+            range,
+            window: Window::new(alloc),
+            import: Import::new(alloc, classes, rhythm),
+            out,
+            counts: LineCounts::none(),
+        })
+    }
+
+    // Sends what is at hand of the script.
+    fn send<K: Sink>(&mut self, sink: &mut K) -> Result<(), IntakeFault>
+        ensures sent { OnOk result (Appends (K.contents sink.old) (K.contents sink.new) self.old.waits) }
+        ensures none_failed { OnOk result (K.failures sink.new ≡ K.failures sink.old) }
+        ensures rest { OnOk result (self.new ≡ record self.old { waits = [] }) }
+        ensures err { IfErr result (λ e. Stops (K.failures sink.old) (K.failures sink.new) e) }
+    {
+        write_all(sink, self.out.as_slice())?;
+        self.out.clear();
+        Ok(())
+    }
+
+    // Sends what is at hand of the script, where it is enough.
+    fn send_piece<K: Sink>(&mut self, sink: &mut K) -> Result<(), IntakeFault>
+        ensures sends { OnOk result (Sends self.old.waits self.new.waits [] (K.contents sink.old) (K.contents sink.new) (K.failures sink.old) (K.failures sink.new)) }
+        ensures rest { OnOk result (self.new ≡ record self.old { waits = self.new.waits }) }
+        ensures err { IfErr result (λ e. Stops (K.failures sink.old) (K.failures sink.new) e) }
+    {
+        if self.out.len() < PIECE {
+            Ok(())
+        } else {
+            self.send(sink)
+        }
+    }
+
+    // Takes in an event that the window gave out.
+    fn take<K: Sink>(&mut self, line: LogLine<A>, sink: &mut K) -> Result<(), IntakeFault>
+        ensures passes { OnOk result (Passes (self.old.waiting ++ line ∷ []) self.new.waiting self.old.waits self.new.waits (K.contents sink.old) (K.contents sink.new) (K.failures sink.old) (K.failures sink.new)) }
+        ensures rest { OnOk result (Rests self.old self.new) }
+        ensures err { IfErr result (λ e. Stops (K.failures sink.old) (K.failures sink.new) e) }
+    {
+        self.import.take(line, &mut self.out)?;
+        self.send_piece(sink)
+    }
+
+    // Takes in an event that is asked for.
+    fn put<K: Sink>(&mut self, line: LogLine<A>, sink: &mut K) -> Result<(), IntakeFault>
+        ensures range { OnOk result (self.new.range ≡ self.old.range) }
+        ensures window { OnOk result (self.new.window ≡ (put_of self.old.window line.gid line).0) }
+        ensures counts { OnOk result (self.new.counts ≡ counted_put (put_of self.old.window line.gid line).1 (record self.old.counts { asked = more self.old.counts.asked 1 })) }
+        ensures passes { OnOk result (Passes (self.old.waiting ++ given_of (put_of self.old.window line.gid line).1) self.new.waiting self.old.waits self.new.waits (K.contents sink.old) (K.contents sink.new) (K.failures sink.old) (K.failures sink.new)) }
+        ensures err { IfErr result (λ e. Stops (K.failures sink.old) (K.failures sink.new) e) }
+    {
+        add(&mut self.counts.asked, 1);
+        match self.window.put(line.gid, line)? {
+            Put::Held => Ok(()),
+            Put::Given(_, line) => self.take(line, sink),
+            Put::Late => {
+                add(&mut self.counts.late, 1);
+                Ok(())
+            }
+            Put::Repeated => {
+                add(&mut self.counts.repeated, 1);
+                Ok(())
+            }
+        }
+    }
+
+    // Takes in a line of a log.
+    fn take_line<K: Sink>(&mut self, line: Line<A>, sink: &mut K) -> Result<(), IntakeFault>
+        ensures takes { OnOk result (Takes self.old self.new (line ∷ []) (K.contents sink.old) (K.contents sink.new) (K.failures sink.old) (K.failures sink.new)) }
+        ensures err { IfErr result (λ e. Stops (K.failures sink.old) (K.failures sink.new) e) }
+    {
+        add(&mut self.counts.lines, 1);
+        match line {
+            Line::Log(line) => {
+                if self.range.has(line.time.seconds) {
+                    self.put(line, sink)
+                } else {
+                    add(&mut self.counts.left_out, 1);
+                    drop(line);
+                    Ok(())
+                }
+            }
+            Line::Skipped(lines) => {
+                add(&mut self.counts.skipped, lines);
+                Ok(())
+            }
+            Line::Other => {
+                add(&mut self.counts.other, 1);
+                Ok(())
+            }
+        }
+    }
+
+    /// Takes in the lines of a log, behind those of the logs before it, and sends the script as far as it is known.
+    ///
+    /// Err: memory was refused; a read or a write failed; a line that begins like one of the log is none; or there are
+    /// more lines than can be counted. The intake is no longer of use.
+    pub fn take_log<S: Source, K: Sink>(
+        &mut self,
+        log: &mut LogReader<S>,
+        sink: &mut K,
+    ) -> Result<(), IntakeFault>
+        ensures ok { OnOk result (TakesLog S.told log.old log.new self.old self.new (K.contents sink.old) (K.contents sink.new) (K.failures sink.old) (K.failures sink.new)) }
+        ensures err { IfErr result (λ e. Spoils A S.told log.old log.new (K.failures sink.old) (K.failures sink.new) e) }
+    {
+        'lines: loop {
+            if log.lines() >= u64::MAX {
+                return Err(IntakeFault::TooLong);
+            }
+            match log.next(self.alloc)? {
+                None => return Ok(()),
+                Some(NextLine::CutOff) => {
+                    add(&mut self.counts.lines, 1);
+                    add(&mut self.counts.cut_off, 1);
+                    return Ok(());
+                }
+                Some(NextLine::Whole(line)) => self.take_line(line, sink)?,
+            }
+        }
+    }
+
+    // Takes in what the window holds.
+    fn empty_window<K: Sink>(&mut self, sink: &mut K) -> Result<(), IntakeFault>
+        ensures passes { OnOk result (Passes (self.old.waiting ++ held_in self.old.window) self.new.waiting self.old.waits self.new.waits (K.contents sink.old) (K.contents sink.new) (K.failures sink.old) (K.failures sink.new)) }
+        ensures counts { OnOk result (self.new.counts ≡ self.old.counts) }
+        ensures err { IfErr result (λ e. Stops (K.failures sink.old) (K.failures sink.new) e) }
+    {
+        'held: loop {
+            match self.window.pop() {
+                None => return Ok(()),
+                Some(first) => self.take(first.1, sink)?,
+            }
+        }
+    }
+
+    // Writes the lines of the events that wait.
+    fn empty_import<K: Sink>(&mut self, sink: &mut K) -> Result<(), IntakeFault>
+        ensures passes { OnOk result (Passes self.old.waiting [] self.old.waits self.new.waits (K.contents sink.old) (K.contents sink.new) (K.failures sink.old) (K.failures sink.new)) }
+        ensures counts { OnOk result (self.new.counts ≡ self.old.counts) }
+        ensures err { IfErr result (λ e. Stops (K.failures sink.old) (K.failures sink.new) e) }
+    {
+        for _ in 0..self.import.waiting() {
+            self.import.write_first(&mut self.out)?;
+            self.send_piece(sink)?;
+        }
+        Ok(())
+    }
+
+    /// Sends the rest of the script, behind the last log.
+    ///
+    /// Err: no event was asked for, and nothing is sent; memory was refused; or a write failed.
+    pub fn finish<K: Sink>(&mut self, sink: &mut K) -> Result<(), IntakeFault>
+        ensures ok { OnOk result (Ends self.old self.new (K.contents sink.old) (K.contents sink.new) (K.failures sink.old) (K.failures sink.new)) }
+        ensures err { IfErr result (λ e. StopsEnding self.old (K.contents sink.old) (K.contents sink.new) (K.failures sink.old) (K.failures sink.new) e) }
+    {
+        if self.counts.asked == 0 {
+            return Err(IntakeFault::NoEvent);
+        }
+        self.empty_window(sink)?;
+        self.empty_import(sink)?;
+        self.send(sink)
+    }
+
+    /// What became of the lines so far.
+    pub fn counts(&self) -> LineCounts
+        ensures { result ≡ self.now.counts }
+    {
+        self.counts
+    }
+
+    /// What the import counted so far.
+    pub fn figures(&self) -> Figures
+        ensures { result ≡ self.now.figures }
+    {
+        self.import.figures()
+    }
+}

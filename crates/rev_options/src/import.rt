@@ -1,0 +1,250 @@
+//! The words of `lrudb import`.
+ghost use Rattle.std.specs.Prelude.{◌≡◌, ◌≤◌, length, map, true, IfOk};
+ghost use Rattle.rev_options.specs.Request.{IsInRange, IsOfWords, asks_import};
+
+use crate::{Request, fault};
+use clap::error::ErrorKind;
+use clap::{Arg, ArgAction, ArgMatches, Command, Error, value_parser};
+use rev_import::policy::Rhythm;
+use rev_import::setup::Factor;
+use std::alloc::{AllocError, Global};
+use std::convert::AsStr;
+
+/// The most logs that are made into one script (this project's own figure).
+pub const MOST_LOGS: usize = 64;
+
+/// The name of the standard input among logs, and of the standard output.
+pub const STANDARD: &str = "-";
+
+/// Logs of a server's `watch`, and the script that they become.
+#[derive(Debug, Drop)]
+pub struct WatchImport {
+    /// The logs' names in order, one or more; `-` is the standard input, and stands once at most.
+    pub logs: Vec<String>,
+    /// The name of the text of `stats settings`.
+    pub settings: String,
+    /// The name of the text of `stats`, where there is one.
+    pub stats: Option<String>,
+    /// The growth factor of chunk sizes, where it is given exactly.
+    pub factor: Option<Factor>,
+    pub rhythm: Rhythm,
+    /// The first and the last second of the events that are asked for, by the Unix clock.
+    pub first: u32,
+    pub last: u32,
+    /// What the files' names begin with; `-`: the script goes to the standard output.
+    pub out: String,
+}
+
+fn logs<'a>(alloc: Global) -> Arg<'a> {
+    Arg::new(alloc, "logs")
+        .value_name("LOG")
+        .required(true)
+        .num_args(1..=MOST_LOGS)
+        .action(ArgAction::Append)
+        .help("Logs of memcached's watch, in their order: 1 to 64 files; - is the standard input")
+}
+
+// An option whose value is a text.
+fn text<'a>(alloc: Global, name: &'a str, unit: &'a str, help: &'a str) -> Arg<'a> {
+    Arg::new(alloc, name).long(name).value_name(unit).help(help)
+}
+
+// An option whose value is a second.
+fn second<'a>(alloc: Global, name: &'a str, default: &'a str, help: &'a str) -> Arg<'a> {
+    Arg::new(alloc, name)
+        .long(name)
+        .value_name("SECONDS")
+        .value_parser(value_parser!(u32))
+        .default_value(default)
+        .help(help)
+}
+
+fn watch_command<'a>(alloc: Global) -> Result<Command<'a>, AllocError> {
+    Command::new(alloc, "watch")
+        .about(
+            "Makes a script of logs that `watch fetchers mutations evictions sysevents deletions` sent",
+        )
+        .arg(logs(alloc))?
+        .arg(text(
+            alloc,
+            "settings",
+            "FILE",
+            "The server's text of `stats settings`",
+        )
+        .required(true))?
+        .arg(text(
+            alloc,
+            "out",
+            "PREFIX",
+            "Writes PREFIX.script and PREFIX.options; -: the script on the standard output",
+        )
+        .required(true))?
+        .arg(text(
+            alloc,
+            "stats",
+            "FILE",
+            "The server's text of `stats`: tells which lines the logs lack",
+        ))?
+        .arg(text(
+            alloc,
+            "factor",
+            "N/D",
+            "The growth factor of chunk sizes [without it: the decimals of the settings]",
+        ))?
+        .arg(text(
+            alloc,
+            "steps",
+            "WHICH",
+            "Steps of the LRU maintainer: lean, none, or every:N lines of clients",
+        )
+        .default_value("lean"))?
+        .arg(second(
+            alloc,
+            "from",
+            "0",
+            "The first second of the events that are asked for, by the Unix clock",
+        ))?
+        .arg(second(alloc, "to", "4294967295", "The last second"))
+}
+
+/// The subcommand `import` with its own.
+pub fn import_command<'a>(alloc: Global) -> Result<Command<'a>, AllocError> {
+    Command::new(alloc, "import")
+        .about("Makes a script of what a running memcached tells of itself")
+        .subcommand_required(true)
+        .arg_required_else_help(true)
+        .subcommand(watch_command(alloc)?)
+}
+
+/// Whether the first word says `import`.
+pub fn asks_import<S: AsStr>(words: &[S]) -> bool
+    ensures { result ≡ asks_import (map S.text words.now) }
+{
+    match words.first() {
+        Some(word) => word.as_str() == "import",
+        None => false,
+    }
+}
+
+// The value of an option, where it is given.
+fn given(
+    alloc: Global,
+    matches: &ArgMatches<'_>,
+    name: &str,
+) -> Result<Option<String>, AllocError> {
+    match matches.get_str(name) {
+        None => Ok(None),
+        Some(value) => Ok(Some(String::from_str(alloc, value)?)),
+    }
+}
+
+// Each of these options is required and passed its parser, so none is absent.
+fn required(alloc: Global, matches: &ArgMatches<'_>, name: &str) -> Result<String, AllocError> {
+    String::from_str(alloc, matches.get_str(name).unwrap_or(""))
+}
+
+fn number(text: &str) -> Option<u32> {
+    text.parse().ok()
+}
+
+// A factor, from its numerator, a slash and its denominator.
+fn factor(text: &str) -> Option<Factor> {
+    let (num, den) = text.split_once('/')?;
+    Some(Factor {
+        num: number(num)?,
+        den: number(den)?,
+    })
+}
+
+fn factor_of(alloc: Global, matches: &ArgMatches<'_>) -> Result<Option<Factor>, Error> {
+    match matches.get_str("factor") {
+        None => Ok(None),
+        Some(text) => match factor(text) {
+            Some(factor) => Ok(Some(factor)),
+            None => Err(fault(
+                alloc,
+                ErrorKind::ValueValidation,
+                "--factor: two numbers with a slash between them are wanted, as 5/4",
+            )?),
+        },
+    }
+}
+
+fn rhythm(text: &str) -> Option<Rhythm> {
+    match text {
+        "lean" => Some(Rhythm::Lean),
+        "none" => Some(Rhythm::None),
+        _ => {
+            let count = number(text.strip_prefix("every:")?)?;
+            if count == 0 {
+                None
+            } else {
+                Some(Rhythm::Every(count))
+            }
+        }
+    }
+}
+
+fn rhythm_of(alloc: Global, matches: &ArgMatches<'_>) -> Result<Rhythm, Error> {
+    match rhythm(matches.get_str("steps").unwrap_or("lean")) {
+        Some(rhythm) => Ok(rhythm),
+        None => Err(fault(
+            alloc,
+            ErrorKind::ValueValidation,
+            "--steps: lean, none, or every:N with a number from 1 on is wanted",
+        )?),
+    }
+}
+
+fn logs_of(alloc: Global, matches: &ArgMatches<'_>) -> Result<Vec<String>, Error>
+    ensures { IfOk result (λ logs. 1 ≤ length logs.items) }
+{
+    let mut logs = Vec::new(alloc);
+    let mut standard: usize = 0;
+    if let Some(names) = matches.get_strs("logs") {
+        for name in names {
+            if *name == STANDARD {
+                standard = standard.saturating_add(1);
+            }
+            logs.push(String::from_str(alloc, name)?)?;
+        }
+    }
+    // The parser has counted them, and its contracts do not say so.
+    if logs.is_empty() {
+        return Err(fault(alloc, ErrorKind::TooFewValues, "import watch: no log")?);
+    }
+    if standard > 1 {
+        return Err(fault(
+            alloc,
+            ErrorKind::TooManyValues,
+            "import watch: - stands twice",
+        )?);
+    }
+    Ok(logs)
+}
+
+fn watch_import(alloc: Global, matches: &ArgMatches<'_>) -> Result<WatchImport, Error>
+    ensures { IfOk result (λ asked. 1 ≤ length asked.logs.items) }
+{
+    Ok(WatchImport {
+        logs: logs_of(alloc, matches)?,
+        settings: required(alloc, matches, "settings")?,
+        stats: given(alloc, matches, "stats")?,
+        factor: factor_of(alloc, matches)?,
+        rhythm: rhythm_of(alloc, matches)?,
+        first: matches.get_one("from").unwrap_or(0),
+        last: matches.get_one("to").unwrap_or(u32::MAX),
+        out: required(alloc, matches, "out")?,
+    })
+}
+
+/// The import that the words ask for, or the parser's error.
+pub fn import(alloc: Global, matches: &ArgMatches<'_>) -> Result<Request, Error>
+    ensures range { IfOk result IsInRange }
+    ensures words { IfOk result (IsOfWords true) }
+{
+    if let Some(inner) = matches.subcommand_matches("watch") {
+        return Ok(Request::ImportWatch(watch_import(alloc, inner)?));
+    }
+    Err(fault(alloc, ErrorKind::MissingSubcommand, "import watch")?)
+}

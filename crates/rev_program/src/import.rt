@@ -1,0 +1,397 @@
+//! `lrudb import watch`: logs that become a script, from files to files.
+ghost use Rattle.std.specs.Prelude.{◌≡◌, ◌≢◌};
+ghost use Rattle.rev_program.specs.Program.{IsStatus, StopsBy};
+ghost use Rattle.rev_program.specs.declared.stop.Stop.{Stop};
+
+use crate::program::ended;
+use crate::stop::Stop;
+use either::Either;
+use rev_import::setup::{Setup, follow};
+use rev_intake::fault::IntakeFault;
+use rev_intake::intake::{Intake, Range};
+use rev_intake::logs::make_script;
+use rev_intake::report::{put_report, put_run, put_unfollowed};
+use rev_intake::words::put_options;
+use rev_options::{STANDARD, WatchImport};
+use rev_output::{Sink, ToWrite, write_all};
+use rev_watch::settings::{LogStats, Settings, StatFault, read_log_stats, read_settings};
+use std::alloc::{AllocError, Global};
+use std::io::{Read, Write};
+use std::rt::Files;
+use std::{fs, io};
+
+// The names of the files that are written, each also as it is called until it is whole.
+#[derive(Drop)]
+struct Names {
+    script: String,
+    script_part: String,
+    options: String,
+    options_part: String,
+}
+
+// A text and an end.
+fn with_end(alloc: Global, prefix: &str, end: &str) -> Result<String, AllocError> {
+    let mut name = String::from_str(alloc, prefix)?;
+    name.push_str(end)?;
+    Ok(name)
+}
+
+impl Names {
+    fn of(alloc: Global, prefix: &str) -> Result<Names, AllocError> {
+        Ok(Names {
+            script: with_end(alloc, prefix, ".script")?,
+            script_part: with_end(alloc, prefix, ".script.part")?,
+            options: with_end(alloc, prefix, ".options")?,
+            options_part: with_end(alloc, prefix, ".options.part")?,
+        })
+    }
+}
+
+// A copy of a name.
+fn copied(alloc: Global, name: &str) -> Result<String, Stop> {
+    match String::from_str(alloc, name) {
+        Ok(name) => Ok(name),
+        Err(_) => Err(Stop::Memory),
+    }
+}
+
+fn cannot_open(alloc: Global, name: &str) -> Stop {
+    match copied(alloc, name) {
+        Ok(name) => Stop::CannotOpen(name),
+        Err(stop) => stop,
+    }
+}
+
+fn cannot_write(alloc: Global, name: &str) -> Stop {
+    match copied(alloc, name) {
+        Ok(name) => Stop::CannotWriteFile(name),
+        Err(stop) => stop,
+    }
+}
+
+// What an error of a file that is to be read means.
+fn unread(alloc: Global, error: io::Error, name: &str) -> Stop {
+    if error.kind() == io::ErrorKind::OutOfMemory {
+        Stop::Memory
+    } else {
+        cannot_open(alloc, name)
+    }
+}
+
+// The whole text of a file.
+fn text_of<R: Files + AllocGlobal>(rt: &R, name: &str) -> Result<Vec<u8>, Stop> {
+    match fs::read(rt, name) {
+        Ok(text) => Ok(text),
+        Err(error) => Err(unread(rt.alloc(), error, name)),
+    }
+}
+
+fn bad_stats(alloc: Global, name: &str, fault: StatFault) -> Stop {
+    match copied(alloc, name) {
+        Ok(file) => Stop::BadStats { file, fault },
+        Err(stop) => stop,
+    }
+}
+
+fn settings_of<R: Files + AllocGlobal>(rt: &R, name: &str) -> Result<Settings, Stop> {
+    let text = text_of(rt, name)?;
+    match read_settings(text.as_slice()) {
+        Ok(settings) => Ok(settings),
+        Err(fault) => Err(bad_stats(rt.alloc(), name, fault)),
+    }
+}
+
+fn stats_of<R: Files + AllocGlobal>(rt: &R, name: &str) -> Result<LogStats, Stop> {
+    let text = text_of(rt, name)?;
+    match read_log_stats(text.as_slice()) {
+        Ok(stats) => Ok(stats),
+        Err(fault) => Err(bad_stats(rt.alloc(), name, fault)),
+    }
+}
+
+// The same, where a name is given.
+fn stats_if<R: Files + AllocGlobal>(
+    rt: &R,
+    name: &Option<String>,
+) -> Result<Option<LogStats>, Stop> {
+    match name {
+        None => Ok(None),
+        Some(name) => match stats_of(rt, name.as_str()) {
+            Ok(stats) => Ok(Some(stats)),
+            Err(stop) => Err(stop),
+        },
+    }
+}
+
+// What lrudb is opened with in the place of the server.
+fn setup_of<R: Files + AllocGlobal>(rt: &R, asked: &WatchImport) -> Result<Setup, Stop> {
+    let settings = settings_of(rt, asked.settings.as_str())?;
+    match follow(&settings, asked.factor) {
+        Ok(setup) => Ok(setup),
+        Err(fault) => Err(Stop::from(fault)),
+    }
+}
+
+// The log of a name, opened. The reader is the standard input.
+fn opened<R: Files, I: Read + Drop>(
+    rt: &R,
+    alloc: Global,
+    name: &str,
+    reader: &mut Option<I>,
+) -> Result<Either<R::File, I>, Stop> {
+    if name == STANDARD {
+        if let Some(reader) = reader.take() {
+            return Ok(Either::Right(reader));
+        }
+    }
+    match fs::open(rt, name) {
+        Ok(file) => Ok(Either::Left(file)),
+        Err(error) => Err(unread(alloc, error, name)),
+    }
+}
+
+// All logs, opened in order. The first that cannot be opened ends it.
+fn all_opened<R: Files, I: Read + Drop>(
+    rt: &R,
+    alloc: Global,
+    names: &[String],
+    reader: I,
+) -> Result<Vec<Either<R::File, I>>, Stop> {
+    let mut reader = Some(reader);
+    let mut logs = Vec::new(alloc);
+    for name in names {
+        let log = opened(rt, alloc, name.as_str(), &mut reader)?;
+        if logs.push(log).is_err() {
+            return Err(Stop::Memory);
+        }
+    }
+    Ok(logs)
+}
+
+// Why an import ends, at a log of this name.
+fn stop_of(alloc: Global, fault: IntakeFault, log: &str) -> Result<Stop, Stop> {
+    Ok(match fault {
+        IntakeFault::Memory => Stop::Memory,
+        IntakeFault::Read => Stop::CannotOpen(copied(alloc, log)?),
+        IntakeFault::Line { line, fault } => Stop::BadLine {
+            log: copied(alloc, log)?,
+            line,
+            fault,
+        },
+        IntakeFault::TooLong => Stop::TooLong,
+        IntakeFault::NoEvent => Stop::NoEvent(copied(alloc, log)?),
+        IntakeFault::Write => Stop::CannotWrite,
+    })
+}
+
+// The name in a place.
+fn name_in(names: &[String], place: usize) -> &str {
+    match names.get(place) {
+        Some(name) => name.as_str(),
+        None => "",
+    }
+}
+
+// Makes the script of logs of these names.
+fn make<F: Read + Drop, K: Sink>(
+    intake: &mut Intake<Global>,
+    names: &[String],
+    logs: Vec<F>,
+    sink: &mut K,
+) -> Result<(), Stop> {
+    let alloc = *logs.allocator();
+    match make_script(intake, logs, sink) {
+        Ok(()) => Ok(()),
+        Err((place, fault)) => match stop_of(alloc, fault, name_in(names, place)) {
+            Ok(stop) => Err(stop),
+            Err(stop) => Err(stop),
+        },
+    }
+}
+
+// Makes the script in a file of this name.
+fn make_file<R: Files, F: Read + Drop>(
+    rt: &R,
+    target: &str,
+    intake: &mut Intake<Global>,
+    names: &[String],
+    logs: Vec<F>,
+) -> Result<(), Stop> {
+    let alloc = *logs.allocator();
+    match fs::create(rt, target) {
+        Err(_) => Err(cannot_write(alloc, target)),
+        Ok(file) => match make(intake, names, logs, &mut ToWrite::new(file)) {
+            Ok(()) => Ok(()),
+            Err(Stop::CannotWrite) => Err(cannot_write(alloc, target)),
+            Err(stop) => Err(stop),
+        },
+    }
+}
+
+// Gives a file that is whole its name.
+fn rename<R: Files>(rt: &R, alloc: Global, part: &str, name: &str) -> Result<(), Stop> {
+    match fs::rename(rt, part, name) {
+        Ok(()) => Ok(()),
+        Err(_) => Err(cannot_write(alloc, name)),
+    }
+}
+
+// Gives both files their names, or the first one's is taken away again.
+fn rename_both<R: Files>(rt: &R, alloc: Global, files: &Names) -> Result<(), Stop> {
+    rename(rt, alloc, files.script_part.as_str(), files.script.as_str())?;
+    match rename(
+        rt,
+        alloc,
+        files.options_part.as_str(),
+        files.options.as_str(),
+    ) {
+        Ok(()) => Ok(()),
+        Err(stop) => {
+            let _ = fs::remove_file(rt, files.script.as_str());
+            Err(stop)
+        }
+    }
+}
+
+// Writes script and options to files, each under another name until both are whole.
+fn try_files<R: Files, F: Read + Drop>(
+    rt: &R,
+    files: &Names,
+    words: &[u8],
+    intake: &mut Intake<Global>,
+    names: &[String],
+    logs: Vec<F>,
+) -> Result<(), Stop> {
+    let alloc = *logs.allocator();
+    make_file(rt, files.script_part.as_str(), intake, names, logs)?;
+    match fs::write(rt, files.options_part.as_str(), words) {
+        Err(_) => Err(cannot_write(alloc, files.options_part.as_str())),
+        Ok(()) => rename_both(rt, alloc, files),
+    }
+}
+
+// Writes script and options to files. Where that fails, nothing is left of them.
+fn to_files<R: Files, F: Read + Drop>(
+    rt: &R,
+    files: &Names,
+    words: &[u8],
+    intake: &mut Intake<Global>,
+    names: &[String],
+    logs: Vec<F>,
+) -> Result<(), Stop> {
+    match try_files(rt, files, words, intake, names, logs) {
+        Ok(()) => Ok(()),
+        Err(stop) => {
+            // A file that is not there cannot be removed.
+            let _ = fs::remove_file(rt, files.script_part.as_str());
+            let _ = fs::remove_file(rt, files.options_part.as_str());
+            Err(stop)
+        }
+    }
+}
+
+// An intake of the events that are asked for.
+fn intake_of(alloc: Global, setup: Setup, asked: &WatchImport) -> Result<Intake<Global>, Stop> {
+    let range = Range {
+        first: asked.first,
+        last: asked.last,
+    };
+    match Intake::open(alloc, setup, asked.rhythm, range) {
+        Ok(intake) => Ok(intake),
+        Err(_) => Err(Stop::Memory),
+    }
+}
+
+// Makes the script of the logs where it is asked for, with the words for a run of it beside it if that is a file.
+fn send<R: Files + AllocGlobal, F: Read + Drop, O: Write>(
+    rt: &R,
+    asked: &WatchImport,
+    words: &[u8],
+    intake: &mut Intake<Global>,
+    logs: Vec<F>,
+    writer: &mut O,
+) -> Result<(), Stop> {
+    let names = asked.logs.as_slice();
+    if asked.out.as_str() == STANDARD {
+        return make(intake, names, logs, &mut ToWrite::new(writer));
+    }
+    match Names::of(rt.alloc(), asked.out.as_str()) {
+        Ok(files) => to_files(rt, &files, words, intake, names, logs),
+        Err(_) => Err(Stop::Memory),
+    }
+}
+
+// Opens the logs, and makes their script where it is asked for.
+fn import_logs<R: Files + AllocGlobal, I: Read + Drop, O: Write>(
+    rt: &R,
+    asked: &WatchImport,
+    words: &[u8],
+    intake: &mut Intake<Global>,
+    reader: I,
+    writer: &mut O,
+) -> Result<(), Stop> {
+    match all_opened(rt, rt.alloc(), asked.logs.as_slice(), reader) {
+        Ok(logs) => send(rt, asked, words, intake, logs, writer),
+        Err(stop) => Err(stop),
+    }
+}
+
+// Adds what is told of an import that went well: how its script is run, and what was counted.
+fn add_report(
+    notes: &mut Vec<u8>,
+    asked: &WatchImport,
+    words: &[u8],
+    intake: &Intake<Global>,
+    stats: Option<LogStats>,
+) -> Result<(), AllocError> {
+    if asked.out.as_str() == STANDARD {
+        notes.extend_from_slice(words)?;
+        return put_report(notes, &intake.counts(), &intake.figures(), stats);
+    }
+    put_report(notes, &intake.counts(), &intake.figures(), stats)?;
+    put_run(notes, asked.out.as_bytes())
+}
+
+// Makes the script that is asked for, and adds what is told of it to the notes.
+fn import<R: Files + AllocGlobal, I: Read + Drop, O: Write>(
+    rt: &R,
+    asked: &WatchImport,
+    reader: I,
+    writer: &mut O,
+    notes: &mut Vec<u8>,
+) -> Result<(), Stop> {
+    let stats = stats_if(rt, &asked.stats)?;
+    let setup = setup_of(rt, asked)?;
+    put_unfollowed(notes, &setup.unfollowed)?;
+    let mut words = Vec::new(rt.alloc());
+    put_options(&mut words, &setup.config)?;
+    let mut intake = intake_of(rt.alloc(), setup, asked)?;
+    import_logs(rt, asked, words.as_slice(), &mut intake, reader, writer)?;
+    match add_report(notes, asked, words.as_slice(), &intake, stats) {
+        Ok(()) => Ok(()),
+        Err(_) => Err(Stop::Memory),
+    }
+}
+
+/// Makes the script that is asked for. Answers the exit status, 0, 3, 4 or 5. At status 0 what the import tells of itself
+/// goes to `errors`, at any other the text of the reason, whole where no write to it has failed.
+pub fn import_watch<R: Files + AllocGlobal, I: Read + Drop, O: Write, E: Sink>(
+    rt: &R,
+    asked: WatchImport,
+    reader: I,
+    writer: &mut O,
+    errors: &mut E,
+) -> u8
+    ensures status { IsStatus result }
+    ensures early { result ≢ 0 → (s : Stop) × StopsBy (E.contents errors.old) (E.contents errors.new) (E.failures errors.old) (E.failures errors.new) result s }
+{
+    let mut notes = Vec::new(rt.alloc());
+    match import(rt, &asked, reader, writer, &mut notes) {
+        Err(stop) => ended(Err(stop), errors),
+        Ok(()) => {
+            // There is nobody left to tell that this cannot be written.
+            let _ = write_all(errors, notes.as_slice());
+            0
+        }
+    }
+}

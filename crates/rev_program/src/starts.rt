@@ -1,0 +1,74 @@
+//! Files whose steps are played before anything else.
+ghost use Rattle.std.specs.Prelude.{OnOk, IfOk};
+ghost use Rattle.rev_classes.specs.Limits.{IsWithinLimits};
+ghost use Rattle.rev_shell.specs.Run.{opened};
+ghost use Rattle.rev_program.specs.Starts.{IsStart, AreStarts};
+
+use crate::stop::Stop;
+use rev_classes::Config;
+use rev_script::dialect::Dialect;
+use rev_script::source::FromRead;
+use rev_shell::run::open_session;
+use rev_shell::start::play_start;
+use rev_undotree::Session;
+use std::alloc::Allocator;
+use std::collections::VecDeque;
+use std::io::Read;
+use std::mem::ManuallyDrop;
+
+// Plays the steps of a file.
+fn play_file<A: Allocator + Clone, F: Read + Drop>(
+    alloc: &A,
+    session: &mut Session<A>,
+    name: String,
+    reader: F,
+) -> Result<(), Stop>
+    ensures { OnOk result (IsStart (F.remaining reader) session.old session.new) }
+{
+    let mut source = FromRead::new(reader);
+    match play_start(alloc, session, Dialect::CrLf, &mut source) {
+        Ok(()) => Ok(()),
+        Err(fault) => Err(Stop::of(fault, name)),
+    }
+}
+
+// Plays the steps of the files, in order. The first fault ends it.
+fn play_files<A: Allocator + Clone, F: Read + Drop>(
+    alloc: &A,
+    session: &mut Session<A>,
+    files: Vec<(String, F)>,
+) -> Result<(), Stop>
+    ensures { OnOk result (AreStarts F.remaining files.items session.old session.new) }
+{
+    let mut rest = VecDeque::from_vec(files);
+    while let Some((name, reader)) = rest.pop_front() {
+        match play_file(alloc, session, name, reader) {
+            Ok(()) => {}
+            Err(stop) => return Err(stop),
+        }
+    }
+    Ok(())
+}
+
+/// The session that a program begins with: the steps of the files, each a name and a reader, were played in order on an
+/// empty store, and no node stands but the root.
+pub fn started<A: Allocator + Clone, F: Read + Drop>(
+    alloc: &A,
+    config: &Config,
+    files: Vec<(String, F)>,
+) -> Result<Session<A>, Stop>
+    requires { IsWithinLimits config.now }
+    ensures { IfOk result (λ session. AreStarts F.remaining files.items (opened config.entry.now) session) }
+{
+    let Some(mut session) = open_session(alloc, config) else {
+        return Err(Stop::Memory);
+    };
+    match play_files(alloc, &mut session, files) {
+        Ok(()) => Ok(session),
+        Err(stop) => {
+            // The program ends here, and all memory goes back at once.
+            let _session = ManuallyDrop::new(session);
+            Err(stop)
+        }
+    }
+}
