@@ -225,18 +225,20 @@ pub fn program<
 {
     match parse_words(rt.alloc(), words) {
         Err(refused) => ended(Err(Stop::from(refused)), errors),
-        Ok(Request::Run {
-            config,
-            heap,
-            starts,
-        }) => {
-            ended(run_script(rt, config, heap, starts, reader, writer), errors)
-        }
-        Ok(Request::Record {
-            config,
-            starts,
-            files,
-        }) => record_files(rt, config, starts, files, &mut writer, errors),
+        Ok(
+            Request::Run {
+                config,
+                heap,
+                starts,
+            },
+        ) => { ended(run_script(rt, config, heap, starts, reader, writer), errors) }
+        Ok(
+            Request::Record {
+                config,
+                starts,
+                files,
+            },
+        ) => record_files(rt, config, starts, files, &mut writer, errors),
         Ok(Request::ImportWatch(asked)) => import_watch(rt, asked, reader, &mut writer, errors),
     }
 }

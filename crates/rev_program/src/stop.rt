@@ -30,7 +30,10 @@ pub enum Stop {
     /// A file of this name cannot be opened or read.
     CannotOpen(String),
     /// The first line of a file that makes no step, counted from 1, where each is to make some.
-    NotAStep { file: String, line: u64 },
+    NotAStep {
+        file: String,
+        line: u64,
+    },
     CannotWrite,
     /// The input has more bytes than a script may have, or a line of a start has.
     TooLong,

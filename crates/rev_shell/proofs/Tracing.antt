@@ -211,19 +211,19 @@ counted_now d start b P count fresh f many =
     let taken = as_passed start.bytes b.bytes f.read f.ran.bytes f.ran.same in
     elim f.lines_are [
       | inl w ↦
-        let size = ap (λ l. length l) (lines-more d b.passes f.read b.bytes.unused f.done w) ∙ length-append f.done (lines d (onwards b.passes b.bytes.unused)) in
-        record {
-          read = f.read ++ b.bytes.unused;
-          took = read_of start.bytes (recounted start.bytes b.bytes f.read) f.read fresh taken;
-          because = inr (omega (arith, size, f.count_is, many));
-        }
+          let size = ap (λ l. length l) (lines-more d b.passes f.read b.bytes.unused f.done w) ∙ length-append f.done (lines d (onwards b.passes b.bytes.unused)) in
+          record {
+            read = f.read ++ b.bytes.unused;
+            took = read_of start.bytes (recounted start.bytes b.bytes f.read) f.read fresh taken;
+            because = inr (omega (arith, size, f.count_is, many));
+          }
       | inr p ↦
-        let size = ap (λ l. length l) p.0 in
-        record {
-          read = f.read;
-          took = read_all start.bytes (recounted start.bytes b.bytes f.read) f.read fresh p.1.ended.1 taken;
-          because = inr (omega (arith, size, f.count_is, many));
-        }
+          let size = ap (λ l. length l) p.0 in
+          record {
+            read = f.read;
+            took = read_all start.bytes (recounted start.bytes b.bytes f.read) f.read fresh p.1.ended.1 taken;
+            because = inr (omega (arith, size, f.count_is, many));
+          }
     ]
 
 -- ---- a source that is lent: it tells the same, but for which source it is

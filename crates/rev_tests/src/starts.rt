@@ -205,7 +205,11 @@ fn played_in<R: AllocGlobal + Abort>(rt: &R, bytes: usize, start: &[u8]) -> Resu
             ended
         }
     };
-    assert!(rt; heap.free().saturating_add(64) > bytes, "{bytes}: {}", heap.free());
+    assert!(rt;
+        heap.free().saturating_add(64) > bytes,
+        "{bytes}: {}",
+        heap.free()
+    );
     ended
 }
 
