@@ -4,22 +4,27 @@ A case is a folder with these files:
 
     words     the words of the command line, one a line
     status    the status
-    stderr    the text on the standard error
+    stderr    the text on the standard error, or how it begins where it ends with `..`
+    has       where it is there, lines, each of which stands in the text on the standard error
+    stdin, stdout
+              what is read and written there; where they are missing, nothing
+    most      where it is there, more than is written to the standard output: some whole lines of it are, and not all
     script, options
               at status 0 what PREFIX.script and PREFIX.options hold, where `--out PREFIX` is among the words
     cut       with the line `after each byte`, where the log is also cut after each byte
 
-All others are the files that the program is run beside. Two of them stand for what would be long, or many:
+All others are the files that the program is run beside. Two names stand for what would be long, or many:
 
     NAME.rows   stands for NAME. A line `* N TEXT` of it is N lines TEXT, each with its number, from 1 on, in the place
-                of each `#`.
+                of each `#`, and a line `* N` is one of N `x`.
     NAME.each   has many files NAME, each a case. The lines behind `> ` are those of NAME, `>* N` is a line of N `x`,
-                and the lines below them are the text on the standard error.
+                and the lines below them are the text on the standard error. Of words, all stand on one line.
 
 A log is a word that names a file and stands behind no option. Each case is run on its files, and with the script on
-the standard output. One that has a single log also gets it from the standard input: at once, byte by byte and in
-pieces of some other sizes, to files and to the standard output, and at status 0 with a read that fails at its end.
-No file is left but the script and the options, and these only at status 0.
+the standard output. What is read from the standard input comes at once and byte by byte. An import of a single log
+also gets it from there: at once, byte by byte and in pieces of some other sizes, to files and to the standard output,
+and at status 0 with a read that fails at its end. At status 2 a read that fails at once changes nothing, since none is
+made. No file is left but the script and the options, and these only at status 0.
 
 Where a log is cut after whole lines, of which one tells an event, it becomes a script of whole lines, and the options
 are the same; where there is none, `no event` is told. What stands of a line behind them changes nothing but that a
@@ -30,7 +35,7 @@ import os
 import re
 from functools import partial
 
-RESERVED = ("words", "status", "stderr", "script", "options", "cut")
+RESERVED = ("words", "status", "stderr", "has", "stdin", "stdout", "most", "script", "options", "cut")
 STANDARD = "-"
 # The sizes of the pieces in which a log comes, and the longest log that is read in pieces.
 SIZES = (1, 2, 3, 5, 64, 4096)
@@ -46,12 +51,20 @@ def rows(text):
     """The text for which a file of rows stands."""
     made = []
     for line in text.splitlines(True):
-        times = re.fullmatch(rb"\* (\d+) (.*)", line, re.DOTALL)
-        if times:
-            made += [times[2].replace(b"#", b"%d" % it) for it in range(1, int(times[1]) + 1)]
+        times = re.fullmatch(rb"\* (\d+)( .*)?(\r?\n)", line)
+        if times and times[2] is None:
+            made.append(int(times[1]) * b"x" + times[3])
+        elif times:
+            line = times[2][1:] + times[3]
+            made += [line.replace(b"#", b"%d" % it) for it in range(1, int(times[1]) + 1)]
         else:
             made.append(line)
     return b"".join(made)
+
+
+def is_some_of(text, most):
+    """Whether a text is whole lines from the front of a longer one."""
+    return text.endswith(b"\n") and text != most and most.startswith(text)
 
 
 def each(text):
@@ -83,7 +96,7 @@ class End:
         """What is another than is wanted."""
         if self.status != wanted.status:
             return f"status {self.status}, and {wanted.status} is wanted: {self.err}"
-        if self.err != wanted.err:
+        if not is_told(self.err, wanted.err):
             return f"the standard error says {self.err}, and {wanted.err} is wanted"
         if self.out != wanted.out:
             return f"the standard output is not as wanted: {first_difference(self.out, wanted.out)}"
@@ -94,6 +107,13 @@ class End:
             if found != should:
                 return f"{name} is not as wanted: {first_difference(found, should)}"
         return None
+
+
+def is_told(text, wanted):
+    """Whether a text on the standard error is as wanted."""
+    if wanted.endswith(b"..\n"):
+        return text.startswith(wanted[: -len(b"..\n")]) and text.endswith(b"\n")
+    return text == wanted
 
 
 def first_difference(found, wanted):
@@ -108,12 +128,15 @@ def first_difference(found, wanted):
 class Case:
     """A run of the program on files."""
 
-    def __init__(self, name, words, files, wanted, is_cut):
-        self.name, self.words, self.files, self.is_cut = name, words, files, is_cut
-        self.status, self.err, self.script, self.options = wanted
+    def __init__(self, name, words, files, known):
+        self.name, self.words, self.files = name, words, files
+        self.status, self.err = known["status"], known["stderr"]
+        self.script, self.options, self.is_cut = known.get("script"), known.get("options"), known.get("cut")
+        self.input, self.output, self.most = (known.get(it) or b"" for it in ("stdin", "stdout", "most"))
+        self.has = (known.get("has") or b"").splitlines()
         self.prefix = next((b for a, b in zip(words, words[1:]) if a == "--out"), None)
         logs = [b for a, b in zip(words, words[1:]) if b in files and not a.startswith("--")]
-        self.log = logs[0] if len(logs) == 1 else None
+        self.log = logs[0] if len(logs) == 1 and words[0] == "import" else None
         if self.status == 0 and self.prefix and not self.script:
             raise ValueError(f"{name}: no script is wanted")
 
@@ -123,7 +146,7 @@ class Case:
         put = {"--out": out} if out else {}
         words = [put.get(a, STANDARD if log is not None and b == self.log else b) for a, b in self.pairs()]
         files = {name: it for name, it in self.files.items() if log is None or name != self.log}
-        return self.started(runner, words, files, log or b"", size, fails)
+        return self.started(runner, words, files, self.input if log is None else log, size, fails)
 
     def pairs(self):
         """Each word, behind the one before it."""
@@ -147,11 +170,11 @@ class Case:
         if is_standard and self.status:
             err = re.sub(rb"\Alrudb: %s: " % re.escape(self.log.encode()), b"lrudb: -: ", err)
         if self.status or not out:
-            return End(self.status, b"", err, files)
+            return End(self.status, self.output, err, files)
         if out == STANDARD:
             return End(0, self.script, err if self.prefix == out else self.beside_script(err), files)
         made = {f"{out}.script": self.script, f"{out}.options": self.options}
-        return End(0, b"", err, {**files, **made})
+        return End(0, self.output, err, {**files, **made})
 
     def beside_script(self, err):
         """What is told where the script goes to the standard output: the options too, and no files."""
@@ -175,11 +198,27 @@ class Case:
         return made
 
     def fault_on_files(self, runner):
-        fault = self.run(runner).difference(self.wanted())
-        if fault or not self.prefix:
-            return fault
+        for size in (None, 1) if self.input else (None,):
+            ended = self.run(runner, size=size)
+            if self.most:
+                if not is_some_of(ended.out, self.most):
+                    return f"what is written is no part of what is wanted: {first_difference(ended.out, self.most)}"
+                ended.out = b""
+            fault = ended.difference(self.wanted()) or self.missing(ended.err)
+            if fault:
+                return f"{'byte by byte: ' if size else ''}{fault}"
+        if self.status == 2:
+            fault = self.started(runner, self.words, self.files, b"", 1, True).difference(self.wanted())
+            if fault:
+                return f"where a read fails: {fault}"
+        if not self.prefix:
+            return None
         fault = self.run(runner, out=STANDARD).difference(self.wanted(out=STANDARD))
         return f"with --out -: {fault}" if fault else None
+
+    def missing(self, err):
+        """What does not stand in the text on the standard error."""
+        return next((f"the standard error does not say {it}" for it in self.has if it not in err), None)
 
     def fault_on_input(self, runner):
         log = self.files[self.log]
@@ -202,7 +241,7 @@ class Case:
         whole = log[:start].split(b"\n")[:-1]
         first = None
         for at in range(start, end):
-            cut = Case(self.name, self.words, {**self.files, self.log: log[:at]}, self.wanted_of_cut(whole), False)
+            cut = Case(self.name, self.words, {**self.files, self.log: log[:at]}, self.known_of_cut(whole))
             for log_in, size in ((None, None), (log[:at], 1)):
                 ended = cut.run(runner, log_in, size)
                 first = first or self.first_of_cut(cut, ended, len(whole))
@@ -215,11 +254,11 @@ class Case:
                     return f"cut after {at} bytes, {'byte by byte' if size else 'as a file'}: {fault}"
         return None
 
-    def wanted_of_cut(self, whole):
+    def known_of_cut(self, whole):
         """What is wanted of a log that is cut after these lines, as far as it is known."""
         if any(it.startswith(b"ts=") for it in whole):
-            return 0, b"", b"?", self.options
-        return 5, b"lrudb: %s: no event\n" % self.log.encode(), None, None
+            return {"status": 0, "stderr": b"", "script": b"?", "options": self.options}
+        return {"status": 5, "stderr": b"lrudb: %s: no event\n" % self.log.encode()}
 
     def first_of_cut(self, cut, ended, lines):
         """How a log ends that is cut behind whole lines, or what is wrong with it."""
@@ -254,18 +293,25 @@ def cases_of(folder):
     known = {name: files.pop(name, None) for name in RESERVED}
     if known["cut"] not in (None, b"after each byte\n"):
         raise ValueError(f"{folder}/cut: this says nothing")
-    words, status = known["words"].decode().splitlines(), int(known["status"])
-
-    def case(name, files, err):
-        return Case(name, words, files, (status, err, known["script"], known["options"]), bool(known["cut"]))
-
+    known["status"] = int(known["status"])
+    known["stderr"] = known["stderr"] or b""
+    words = (known["words"] or b"").decode().splitlines()
     if not many:
-        return [case(folder, files, known["stderr"])]
+        return [Case(folder, words, files, known)]
     ((varied, made),) = many.items()
-    return [case(f"{folder}, number {at}", {**files, varied: it}, err) for at, (it, err) in enumerate(made, 1)]
+    cases = []
+    for at, (text, err) in enumerate(made, 1):
+        name, told = f"{folder}, number {at}", {**known, "stderr": err}
+        if varied == "words":
+            cases.append(Case(name, text.decode().split(), files, told))
+        elif varied in RESERVED:
+            cases.append(Case(name, words, files, {**told, varied: text}))
+        else:
+            cases.append(Case(name, words, {**files, varied: text}, told))
+    return cases
 
 
 def cases_in(folder):
     """The cases of what is in the folder and below it."""
-    found = sorted(glob.glob(f"{folder}/**/words", recursive=True))
-    return [case for it in found for case in cases_of(os.path.dirname(it))]
+    words = [it for name in ("words", "words.each") for it in glob.glob(f"{folder}/**/{name}", recursive=True)]
+    return [case for it in sorted(map(os.path.dirname, words)) for case in cases_of(it)]

@@ -1,5 +1,5 @@
-//! The tests that cross crates: cut input, failing readers and writers, the class table, data blocks in each dialect, the
-//! program's words, imports, want of memory, recordings on threads and over files; and fast paths beside plain ones.
+//! The tests that cross crates: cut input, failing readers and writers, the class table, data blocks in each dialect,
+//! imports, want of memory, recordings on threads and over files; and fast paths beside plain ones.
 #![tactic(auto)]
 
 #[cfg(test)]
@@ -10,8 +10,6 @@ mod classes;
 mod dialects;
 #[cfg(test)]
 mod endless;
-#[cfg(test)]
-mod heaps;
 #[cfg(test)]
 mod imports;
 #[cfg(test)]
