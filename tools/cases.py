@@ -8,7 +8,8 @@ A case is a folder with these files:
     has       where it is there, lines, each of which stands in the text on the standard error
     stdin, stdout
               what is read and written there; where they are missing, nothing
-    most      where it is there, more than is written to the standard output: some whole lines of it are, and not all
+    most      in place of `stdout`, more than is written there: some whole lines of it are, and not all
+    end       in place of `stdout`, what the standard output ends with
     script, options
               at status 0 what PREFIX.script and PREFIX.options hold, where `--out PREFIX` is among the words
     cut       with the line `after each byte`, where the log is also cut after each byte
@@ -16,15 +17,17 @@ A case is a folder with these files:
 All others are the files that the program is run beside. Two names stand for what would be long, or many:
 
     NAME.rows   stands for NAME. A line `* N TEXT` of it is N lines TEXT, each with its number, from 1 on, in the place
-                of each `#`, and a line `* N` is one of N `x`.
+                of each `#` and an end of a line in that of each `\\r\\n`. A line `* N` is one of N `x`.
     NAME.each   has many files NAME, each a case. The lines behind `> ` are those of NAME, `>* N` is a line of N `x`,
-                and the lines below them are the text on the standard error. Of words, all stand on one line.
+                and the lines below them are the text on the standard error, or an empty line where nothing is told.
+                Of words, all stand on one line.
 
 A log is a word that names a file and stands behind no option. Each case is run on its files, and with the script on
 the standard output. What is read from the standard input comes at once and byte by byte. An import of a single log
 also gets it from there: at once, byte by byte and in pieces of some other sizes, to files and to the standard output,
 and at status 0 with a read that fails at its end. At status 2 a read that fails at once changes nothing, since none is
-made. No file is left but the script and the options, and these only at status 0.
+made. At status 0 a write to the standard output that fails is told, with status 4. No file is left but the script and
+the options, and these only at status 0.
 
 Where a log is cut after whole lines, of which one tells an event, it becomes a script of whole lines, and the options
 are the same; where there is none, `no event` is told. What stands of a line behind them changes nothing but that a
@@ -35,7 +38,7 @@ import os
 import re
 from functools import partial
 
-RESERVED = ("words", "status", "stderr", "has", "stdin", "stdout", "most", "script", "options", "cut")
+RESERVED = ("words", "status", "stderr", "has", "stdin", "stdout", "most", "end", "script", "options", "cut")
 STANDARD = "-"
 # The sizes of the pieces in which a log comes, and the longest log that is read in pieces.
 SIZES = (1, 2, 3, 5, 64, 4096)
@@ -55,7 +58,7 @@ def rows(text):
         if times and times[2] is None:
             made.append(int(times[1]) * b"x" + times[3])
         elif times:
-            line = times[2][1:] + times[3]
+            line = times[2][1:].replace(b"\\r\\n", b"\r\n") + times[3]
             made += [line.replace(b"#", b"%d" % it) for it in range(1, int(times[1]) + 1)]
         else:
             made.append(line)
@@ -80,7 +83,7 @@ def each(text):
             made[-1][0] += int(times[1]) * b"x" + b"\n"
         elif is_sent:
             made[-1][0] += line[2:] + b"\n"
-        else:
+        elif line:
             made[-1][1] += line + b"\n"
         is_told = not is_sent
     return made
@@ -132,7 +135,8 @@ class Case:
         self.name, self.words, self.files = name, words, files
         self.status, self.err = known["status"], known["stderr"]
         self.script, self.options, self.is_cut = known.get("script"), known.get("options"), known.get("cut")
-        self.input, self.output, self.most = (known.get(it) or b"" for it in ("stdin", "stdout", "most"))
+        self.input, self.output = (known.get(it) or b"" for it in ("stdin", "stdout"))
+        self.most, self.end = known.get("most"), known.get("end")
         self.has = (known.get("has") or b"").splitlines()
         self.prefix = next((b for a, b in zip(words, words[1:]) if a == "--out"), None)
         logs = [b for a, b in zip(words, words[1:]) if b in files and not a.startswith("--")]
@@ -140,26 +144,26 @@ class Case:
         if self.status == 0 and self.prefix and not self.script:
             raise ValueError(f"{name}: no script is wanted")
 
-    def run(self, runner, log=None, size=None, out=None, fails=False):
+    def run(self, runner, log=None, size=None, out=None, fails=False, output=None):
         """Runs it: with this log on the standard input, in pieces of a size or at once; or else on its files."""
         # (`log` is none where the case's own file is read, and the file is there only then)
         put = {"--out": out} if out else {}
         words = [put.get(a, STANDARD if log is not None and b == self.log else b) for a, b in self.pairs()]
         files = {name: it for name, it in self.files.items() if log is None or name != self.log}
-        return self.started(runner, words, files, self.input if log is None else log, size, fails)
+        return self.started(runner, words, files, self.input if log is None else log, size, fails, output)
 
     def pairs(self):
         """Each word, behind the one before it."""
         return zip(["", *self.words], self.words)
 
     @staticmethod
-    def started(runner, words, files, log, size, fails):
+    def started(runner, words, files, log, size=None, fails=False, output=None):
         for it in os.listdir():
             os.remove(it)
         for name, text in files.items():
             with open(name, "wb") as it:
                 it.write(text)
-        ran = runner.in_pieces(words, log, size, fails) if size else runner.at_once(words, log)
+        ran = runner.in_pieces(words, log, size, fails) if size else runner.at_once(words, log, output)
         return End(ran.status, ran.out, ran.err, {it: read(it) for it in os.listdir()})
 
     def wanted(self, is_standard=False, out=None, err=None):
@@ -200,21 +204,40 @@ class Case:
     def fault_on_files(self, runner):
         for size in (None, 1) if self.input else (None,):
             ended = self.run(runner, size=size)
-            if self.most:
-                if not is_some_of(ended.out, self.most):
-                    return f"what is written is no part of what is wanted: {first_difference(ended.out, self.most)}"
-                ended.out = b""
-            fault = ended.difference(self.wanted()) or self.missing(ended.err)
+            fault = self.fault_of_output(ended) or ended.difference(self.wanted()) or self.missing(ended.err)
             if fault:
                 return f"{'byte by byte: ' if size else ''}{fault}"
         if self.status == 2:
             fault = self.started(runner, self.words, self.files, b"", 1, True).difference(self.wanted())
             if fault:
                 return f"where a read fails: {fault}"
+        fault = self.fault_of_writes(runner)
+        if fault:
+            return f"where a write fails: {fault}"
         if not self.prefix:
             return None
         fault = self.run(runner, out=STANDARD).difference(self.wanted(out=STANDARD))
         return f"with --out -: {fault}" if fault else None
+
+    def fault_of_output(self, ended):
+        """What is wrong with an output of which only a part is said. It is then looked at no more."""
+        if self.most is None and self.end is None:
+            return None
+        out, ended.out = ended.out, b""
+        if self.most is not None and not is_some_of(out, self.most):
+            return f"what is written is no part of what is wanted: {first_difference(out, self.most)}"
+        if self.end is not None and not out.endswith(self.end):
+            return f"the standard output ends with {out[-200:]}, and {self.end} is wanted"
+        return None
+
+    def fault_of_writes(self, runner):
+        """What is wrong where the standard output takes nothing."""
+        out = STANDARD if self.prefix else None
+        if self.status or not (out or self.output or self.end):
+            return None
+        with open("/dev/full", "wb") as full:
+            ended = self.run(runner, out=out, output=full.fileno())
+        return ended.difference(End(4, b"", b"lrudb: cannot write\n", self.files))
 
     def missing(self, err):
         """What does not stand in the text on the standard error."""
