@@ -7,6 +7,4 @@ pub mod import;
 pub mod policy;
 mod scribe;
 pub mod setup;
-#[cfg(test)]
-mod tests;
 pub mod writing;

@@ -1,4 +1,5 @@
-//! Logs of a cache, taken in and made into scripts.
+//! Logs of a cache, taken in and made into scripts, where a read is interrupted, or a write or a file's call fails. What
+//! becomes of other logs stands in `worked/imports`.
 mod disk;
 mod files;
 
@@ -10,7 +11,6 @@ use rev_intake::fault::IntakeFault;
 use rev_intake::intake::{Intake, Range};
 use rev_output::ToWrite;
 use rev_script::source::FromRead;
-use rev_watch::fault::{Field, LineFault};
 use rev_watch::reader::LogReader;
 use rev_watch::settings::read_settings;
 use std::alloc::Global;
@@ -80,8 +80,8 @@ pub fn setup(rt: &impl Abort) -> Setup {
     }
 }
 
-fn opened(rt: &impl Abort, alloc: Global, range: Range) -> Intake<Global> {
-    match Intake::open(alloc, setup(rt), Rhythm::Lean, range) {
+fn opened(rt: &impl Abort, alloc: Global) -> Intake<Global> {
+    match Intake::open(alloc, setup(rt), Rhythm::Lean, ALL) {
         Ok(intake) => intake,
         Err(_) => panic!(rt; "no memory"),
     }
@@ -91,11 +91,10 @@ fn opened(rt: &impl Abort, alloc: Global, range: Range) -> Intake<Global> {
 fn made<F: Read + Drop, W: Write>(
     rt: &impl Abort,
     alloc: Global,
-    range: Range,
     log: F,
     writer: &mut W,
 ) -> Result<LineCounts, IntakeFault> {
-    let mut intake = opened(rt, alloc, range);
+    let mut intake = opened(rt, alloc);
     let mut reader = LogReader::over(FromRead::new(log));
     let mut sink = ToWrite::new(writer);
     let mut done = intake.take_log(&mut reader, &mut sink);
@@ -113,57 +112,9 @@ fn made<F: Read + Drop, W: Write>(
 #[test]
 fn script_by_hand(rt: HostRuntime) {
     let mut script: Vec<u8> = Vec::new(rt.alloc());
-    let counts = made(&rt, rt.alloc(), ALL, Stutter::new(LOG), &mut script);
+    let counts = made(&rt, rt.alloc(), Stutter::new(LOG), &mut script);
     assert!(rt; counts == Ok(COUNTS));
     assert!(rt; script.as_slice() == SCRIPT);
-}
-
-// The events of one second alone.
-#[test]
-fn range_of_seconds(rt: HostRuntime) {
-    let range = Range {
-        first: 101,
-        last: 101,
-    };
-    let mut script: Vec<u8> = Vec::new(rt.alloc());
-    let counts = made(&rt, rt.alloc(), range, Stutter::new(LOG), &mut script);
-    let left_out = match counts {
-        Ok(counts) => counts.left_out,
-        Err(_) => 0,
-    };
-    assert!(rt; left_out == 17);
-    let text: &[u8] = b"@ 101\r\nget user:12\r\nget user:12\r\nget user:12\r\n";
-    assert!(rt; script.as_slice() == text);
-}
-
-// Where the first line of the log, and the first of an event, end.
-const FIRST_EVENT: usize = 76;
-
-// Cut anywhere, a log becomes a script, unless no event stands whole in it; and the script is a front of whole lines.
-#[test]
-fn cut_logs(rt: HostRuntime) {
-    for end in 0..LOG.len() {
-        let mut script: Vec<u8> = Vec::new(rt.alloc());
-        let made = made(&rt, rt.alloc(), ALL, &LOG[..end], &mut script);
-        if end < FIRST_EVENT {
-            assert!(rt;
-                made == Err(IntakeFault::NoEvent) && script.is_empty(),
-                "{end}"
-            );
-        } else {
-            assert!(rt;
-                made.is_ok() && script.as_slice().ends_with(b"\r\n"),
-                "{end}"
-            );
-        }
-    }
-}
-
-#[test]
-fn failing_reader(rt: HostRuntime) {
-    let mut script: Vec<u8> = Vec::new(rt.alloc());
-    let made = made(&rt, rt.alloc(), ALL, Stutter::failing(LOG), &mut script);
-    assert!(rt; made == Err(IntakeFault::Read) && script.is_empty());
 }
 
 // A writer that takes so many bytes and then fails holds a front of the script.
@@ -175,54 +126,8 @@ fn failing_writers(rt: HostRuntime) {
             most,
             fails: true,
         };
-        let made = made(&rt, rt.alloc(), ALL, LOG, &mut writer);
+        let made = made(&rt, rt.alloc(), LOG, &mut writer);
         assert!(rt; made == Err(IntakeFault::Write), "{most}");
         assert!(rt; writer.bytes.as_slice() == &SCRIPT[..most], "{most}");
-    }
-}
-
-struct Bad {
-    log: &'static [u8],
-    line: u64,
-    fault: LineFault,
-}
-
-static BAD: [Bad; 4] = [
-    Bad {
-        log: b"OK\nts=1.5 gid=3 type=item_get key=a status=found clsid=1 cfd=1\n",
-        line: 2,
-        fault: LineFault::Missing(Field::Size),
-    },
-    Bad {
-        log: b"ts=1 gid=3 type=conn_close cfd=1\n",
-        line: 1,
-        fault: LineFault::BadValue(Field::Ts),
-    },
-    Bad {
-        log: b"\n\nskipped=x\n",
-        line: 3,
-        fault: LineFault::BadValue(Field::Skipped),
-    },
-    Bad {
-        log: b"ts=1.5 gid=3 type=item_delete key=%3 cfd=1\n",
-        line: 1,
-        fault: LineFault::BadEscape,
-    },
-];
-
-#[test]
-fn bad_lines(rt: HostRuntime) {
-    for bad in &BAD {
-        let mut script: Vec<u8> = Vec::new(rt.alloc());
-        let made = made(&rt, rt.alloc(), ALL, bad.log, &mut script);
-        let wanted = IntakeFault::Line {
-            line: bad.line,
-            fault: bad.fault,
-        };
-        assert!(rt;
-            made == Err(wanted) && script.is_empty(),
-            "line {}",
-            bad.line
-        );
     }
 }

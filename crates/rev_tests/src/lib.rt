@@ -1,17 +1,13 @@
-//! The tests that cross crates: cut input, failing readers and writers, the class table, data blocks in each dialect, the
-//! program's words, imports, want of memory, recordings on threads and over files; and fast paths beside plain ones.
+//! The tests that cross crates: cut input, failing readers and writers, the class table, data blocks in each dialect,
+//! imports, want of memory, recordings on threads and over files; and fast paths beside plain ones.
 #![tactic(auto)]
 
-#[cfg(test)]
-mod buckets;
 #[cfg(test)]
 mod classes;
 #[cfg(test)]
 mod dialects;
 #[cfg(test)]
 mod endless;
-#[cfg(test)]
-mod heaps;
 #[cfg(test)]
 mod imports;
 #[cfg(test)]

@@ -3,3 +3,4 @@ pub mod Ordered
 pub mod ReaderLemmas
 pub mod ReadLemmas
 pub mod Order
+pub mod Written

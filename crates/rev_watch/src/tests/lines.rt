@@ -1,7 +1,7 @@
-//! One line.
+//! What one line says.
 
 use crate::event::{Event, Line, LogLine, LookUpOutcome, StoreCommand, StoreOutcome};
-use crate::fault::{Field, LineFault};
+use crate::fault::{Field, LineFault, LogFault};
 use crate::parse::parse;
 use rev_items::Key;
 use rev_model::Queue;
@@ -152,74 +152,14 @@ fn other_kinds(rt: HostRuntime) {
 }
 
 #[test]
-fn lines_that_are_none_of_the_log(rt: HostRuntime) -> Result<(), Fail> {
-    for text in [
-        b"OK\r".as_slice(),
-        b"",
-        b"END",
-        b" ts=1.2 gid=3",
-        b"s=1.2 gid=3",
-    ] {
-        match parse(rt.alloc(), text)? {
-            Line::Other => {}
-            _ => panic!(rt; "a line of the log"),
-        }
-    }
-    match parse(rt.alloc(), b"skipped=17")? {
-        Line::Skipped(lines) => assert_eq!(rt; lines, 17),
-        _ => panic!(rt; "no lines left out"),
-    }
+fn a_bad_line_is_told_by_its_number(rt: HostRuntime) -> Result<(), Fail> {
+    let fault = LogFault::Line {
+        line: 3,
+        fault: LineFault::Missing(Field::Dst),
+    };
+    assert_eq!(rt;
+        fault.to_string(rt.alloc())?.as_str(),
+        "line 3: no field `dst`"
+    );
     Ok(())
-}
-
-// The fault of a line, where it has one.
-fn fault_of(alloc: Global, text: &[u8]) -> Option<LineFault> {
-    match parse(alloc, text) {
-        Ok(line) => {
-            drop(line);
-            None
-        }
-        Err(fault) => Some(fault),
-    }
-}
-
-#[test]
-fn faults(rt: HostRuntime) {
-    let rows: [(&[u8], LineFault); 17] = [
-        (b"ts=", LineFault::BadValue(Field::Ts)),
-        (b"ts=1 gid=3 type=x", LineFault::BadValue(Field::Ts)),
-        (b"ts=1.1000000 gid=3 type=x", LineFault::BadValue(Field::Ts)),
-        (
-            b"ts=4294967296.1 gid=3 type=x",
-            LineFault::BadValue(Field::Ts),
-        ),
-        (b"ts=1.2", LineFault::Missing(Field::Gid)),
-        (b"ts=1.2  gid=3 type=x", LineFault::Missing(Field::Gid)),
-        (
-            b"ts=1.2 gid=18446744073709551616 type=x",
-            LineFault::BadValue(Field::Gid),
-        ),
-        (b"ts=1.2 gid=3", LineFault::Missing(Field::Kind)),
-        (b"ts=1.2 gid=3 type=", LineFault::BadValue(Field::Kind)),
-        (
-            b"ts=1.2 gid=3 type=slab_move src=1",
-            LineFault::Missing(Field::Dst),
-        ),
-        (
-            b"ts=1.2 gid=3 type=slab_move src=1 dst=2 src=1",
-            LineFault::Twice(Field::Src),
-        ),
-        (
-            b"ts=1.2 gid=3 type=slab_move src=-1 dst=2",
-            LineFault::BadValue(Field::Src),
-        ),
-        (b"ts=1.2 gid=3 type=deleted key=a%3", LineFault::BadEscape),
-        (b"ts=1.2 gid=3 type=deleted key=a%20b", LineFault::BadKey),
-        (b"ts=1.2 gid=3 type=deleted key=", LineFault::BadKey),
-        (b"ts=1.2 gid=3 type=deleted", LineFault::Missing(Field::Key)),
-        (b"skipped=x", LineFault::BadValue(Field::Skipped)),
-    ];
-    for (text, fault) in rows {
-        assert!(rt; fault_of(rt.alloc(), text) == Some(fault));
-    }
 }

@@ -1,3 +1,0 @@
-//! Logs worked by hand.
-
-mod logs;

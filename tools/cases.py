@@ -1,0 +1,340 @@
+"""Cases of the program on files: what it makes of them, what it says, and which files it leaves.
+
+A case is a folder with these files:
+
+    words     the words of the command line, one a line
+    status    the status
+    stderr    the text on the standard error, or how it begins where it ends with `..`
+    has       where it is there, lines, each of which stands in the text on the standard error
+    stdin, stdout
+              what is read and written there; where they are missing, nothing
+    most      in place of `stdout`, more than is written there: some whole lines of it are, and not all
+    end       in place of `stdout`, what the standard output ends with
+    script, options
+              at status 0 what PREFIX.script and PREFIX.options hold, where `--out PREFIX` is among the words
+    cut       with the line `after each byte`, where the log is also cut after each byte
+
+All others are the files that the program is run beside. Two names stand for what would be long, or many:
+
+    NAME.rows   stands for NAME. A line `* N TEXT` of it is N lines TEXT, each with its number, from 1 on, in the place
+                of each `#` and an end of a line in that of each `\\r\\n`. A line `* N` is one of N `x`.
+    NAME.each   has many files NAME, each a case. The lines behind `> ` are those of NAME, `>* N` is a line of N `x`,
+                and the lines below them are the text on the standard error, or an empty line where nothing is told.
+                Of words, all stand on one line.
+
+A log is a word that names a file and stands behind no option. Each case is run on its files, and with the script on
+the standard output. What is read from the standard input comes at once and byte by byte. An import of a single log
+also gets it from there: at once, byte by byte and in pieces of some other sizes, to files and to the standard output,
+and at status 0 with a read that fails at its end. At status 2 a read that fails at once changes nothing, since none is
+made. At status 0 a write to the standard output that fails is told, with status 4. No file is left but the script and
+the options, and these only at status 0.
+
+Where a log is cut after whole lines, of which one tells an event, it becomes a script of whole lines, and the options
+are the same; where there is none, `no event` is told. What stands of a line behind them changes nothing but that a
+line more was read, which was cut off. A cut log is read from its file, and byte by byte.
+"""
+import glob
+import os
+import re
+from functools import partial
+
+RESERVED = ("words", "status", "stderr", "has", "stdin", "stdout", "most", "end", "script", "options", "cut")
+STANDARD = "-"
+# The sizes of the pieces in which a log comes, and the longest log that is read in pieces.
+SIZES = (1, 2, 3, 5, 64, 4096)
+LONG = 65536
+
+
+def read(file):
+    with open(file, "rb") as it:
+        return it.read()
+
+
+def rows(text):
+    """The text for which a file of rows stands."""
+    made = []
+    for line in text.splitlines(True):
+        times = re.fullmatch(rb"\* (\d+)( .*)?(\r?\n)", line)
+        if times and times[2] is None:
+            made.append(int(times[1]) * b"x" + times[3])
+        elif times:
+            line = times[2][1:].replace(b"\\r\\n", b"\r\n") + times[3]
+            made += [line.replace(b"#", b"%d" % it) for it in range(1, int(times[1]) + 1)]
+        else:
+            made.append(line)
+    return b"".join(made)
+
+
+def is_some_of(text, most):
+    """Whether a text is whole lines from the front of a longer one."""
+    return text.endswith(b"\n") and text != most and most.startswith(text)
+
+
+def each(text):
+    """The files in a text of many, each with the text on the standard error."""
+    made = []
+    is_told = True
+    for line in text.split(b"\n")[:-1]:
+        is_sent = line.startswith(b">")
+        if is_sent and is_told:
+            made.append([b"", b""])
+        times = re.fullmatch(rb">\* (\d+)", line)
+        if times:
+            made[-1][0] += int(times[1]) * b"x" + b"\n"
+        elif is_sent:
+            made[-1][0] += line[2:] + b"\n"
+        elif line:
+            made[-1][1] += line + b"\n"
+        is_told = not is_sent
+    return made
+
+
+class End:
+    """How a run ends: its status, what it wrote to the standard output and error, and the files that it left."""
+
+    def __init__(self, status, out, err, files):
+        self.status, self.out, self.err, self.files = status, out, err, files
+
+    def difference(self, wanted):
+        """What is another than is wanted."""
+        if self.status != wanted.status:
+            return f"status {self.status}, and {wanted.status} is wanted: {self.err}"
+        if not is_told(self.err, wanted.err):
+            return f"the standard error says {self.err}, and {wanted.err} is wanted"
+        if self.out != wanted.out:
+            return f"the standard output is not as wanted: {first_difference(self.out, wanted.out)}"
+        for name in sorted({*self.files, *wanted.files}):
+            found, should = self.files.get(name), wanted.files.get(name)
+            if found is None or should is None:
+                return f"{name} is {'missing' if found is None else 'left'}"
+            if found != should:
+                return f"{name} is not as wanted: {first_difference(found, should)}"
+        return None
+
+
+def is_told(text, wanted):
+    """Whether a text on the standard error is as wanted."""
+    if wanted.endswith(b"..\n"):
+        return text.startswith(wanted[: -len(b"..\n")]) and text.endswith(b"\n")
+    return text == wanted
+
+
+def first_difference(found, wanted):
+    """The first line that is another."""
+    found, wanted = found.split(b"\n"), wanted.split(b"\n")
+    at = next((it for it, (is_so, should) in enumerate(zip(found, wanted)) if is_so != should), None)
+    if at is None:
+        return f"{len(found)} lines, and {len(wanted)} are wanted"
+    return f"line {at + 1} is {found[at][:200]}, and {wanted[at][:200]} is wanted"
+
+
+class Case:
+    """A run of the program on files."""
+
+    def __init__(self, name, words, files, known):
+        self.name, self.words, self.files = name, words, files
+        self.status, self.err = known["status"], known["stderr"]
+        self.script, self.options, self.is_cut = known.get("script"), known.get("options"), known.get("cut")
+        self.input, self.output = (known.get(it) or b"" for it in ("stdin", "stdout"))
+        self.most, self.end = known.get("most"), known.get("end")
+        self.has = (known.get("has") or b"").splitlines()
+        self.prefix = next((b for a, b in zip(words, words[1:]) if a == "--out"), None)
+        logs = [b for a, b in zip(words, words[1:]) if b in files and not a.startswith("--")]
+        self.log = logs[0] if len(logs) == 1 and words[0] == "import" else None
+        if self.status == 0 and self.prefix and not self.script:
+            raise ValueError(f"{name}: no script is wanted")
+
+    def run(self, runner, log=None, size=None, out=None, fails=False, output=None):
+        """Runs it: with this log on the standard input, in pieces of a size or at once; or else on its files."""
+        # (`log` is none where the case's own file is read, and the file is there only then)
+        put = {"--out": out} if out else {}
+        words = [put.get(a, STANDARD if log is not None and b == self.log else b) for a, b in self.pairs()]
+        files = {name: it for name, it in self.files.items() if log is None or name != self.log}
+        return self.started(runner, words, files, self.input if log is None else log, size, fails, output)
+
+    def pairs(self):
+        """Each word, behind the one before it."""
+        return zip(["", *self.words], self.words)
+
+    @staticmethod
+    def started(runner, words, files, log, size=None, fails=False, output=None):
+        for it in os.listdir():
+            os.remove(it)
+        for name, text in files.items():
+            with open(name, "wb") as it:
+                it.write(text)
+        ran = runner.in_pieces(words, log, size, fails) if size else runner.at_once(words, log, output)
+        return End(ran.status, ran.out, ran.err, {it: read(it) for it in os.listdir()})
+
+    def wanted(self, is_standard=False, out=None, err=None):
+        """How it is to end."""
+        err = self.err if err is None else err
+        out = out or self.prefix
+        files = {name: it for name, it in self.files.items() if not is_standard or name != self.log}
+        if is_standard and self.status:
+            err = re.sub(rb"\Alrudb: %s: " % re.escape(self.log.encode()), b"lrudb: -: ", err)
+        if self.status or not out:
+            return End(self.status, self.output, err, files)
+        if out == STANDARD:
+            return End(0, self.script, err if self.prefix == out else self.beside_script(err), files)
+        made = {f"{out}.script": self.script, f"{out}.options": self.options}
+        return End(0, self.output, err, {**files, **made})
+
+    def beside_script(self, err):
+        """What is told where the script goes to the standard output: the options too, and no files."""
+        lines = err.splitlines(True)
+        settings = next(at for at, it in enumerate(lines) if not it.startswith(b"settings: "))
+        if not lines[-1].startswith(b"to run it: "):
+            raise ValueError(f"{self.name}: stderr does not tell how the script is run")
+        return b"".join([*lines[:settings], self.options, *lines[settings:-1]])
+
+    def tasks(self):
+        """What is to be tried, each a function of a runner that returns what is wrong."""
+        made = [self.fault_on_files]
+        if self.log and len(self.files[self.log]) <= LONG:
+            made.append(self.fault_on_input)
+        if self.is_cut:
+            log, at = self.files[self.log], 0
+            while at < len(log):
+                end = log.find(b"\n", at) + 1 or len(log)
+                made.append(partial(self.fault_of_cuts, at, end))
+                at = end
+        return made
+
+    def fault_on_files(self, runner):
+        for size in (None, 1) if self.input else (None,):
+            ended = self.run(runner, size=size)
+            fault = self.fault_of_output(ended) or ended.difference(self.wanted()) or self.missing(ended.err)
+            if fault:
+                return f"{'byte by byte: ' if size else ''}{fault}"
+        if self.status == 2:
+            fault = self.started(runner, self.words, self.files, b"", 1, True).difference(self.wanted())
+            if fault:
+                return f"where a read fails: {fault}"
+        fault = self.fault_of_writes(runner)
+        if fault:
+            return f"where a write fails: {fault}"
+        if not self.prefix:
+            return None
+        fault = self.run(runner, out=STANDARD).difference(self.wanted(out=STANDARD))
+        return f"with --out -: {fault}" if fault else None
+
+    def fault_of_output(self, ended):
+        """What is wrong with an output of which only a part is said. It is then looked at no more."""
+        if self.most is None and self.end is None:
+            return None
+        out, ended.out = ended.out, b""
+        if self.most is not None and not is_some_of(out, self.most):
+            return f"what is written is no part of what is wanted: {first_difference(out, self.most)}"
+        if self.end is not None and not out.endswith(self.end):
+            return f"the standard output ends with {out[-200:]}, and {self.end} is wanted"
+        return None
+
+    def fault_of_writes(self, runner):
+        """What is wrong where the standard output takes nothing."""
+        out = STANDARD if self.prefix else None
+        if self.status or not (out or self.output or self.end):
+            return None
+        with open("/dev/full", "wb") as full:
+            ended = self.run(runner, out=out, output=full.fileno())
+        return ended.difference(End(4, b"", b"lrudb: cannot write\n", self.files))
+
+    def missing(self, err):
+        """What does not stand in the text on the standard error."""
+        return next((f"the standard error does not say {it}" for it in self.has if it not in err), None)
+
+    def fault_on_input(self, runner):
+        log = self.files[self.log]
+        for out in filter(None, (self.prefix, STANDARD if self.prefix else None)):
+            for size in (None, *SIZES):
+                fault = self.run(runner, log, size, out).difference(self.wanted(True, out))
+                if fault:
+                    return f"from the standard input, in pieces of {size or 'any size'}, to {out}: {fault}"
+            if self.status == 0:
+                ended = self.run(runner, log, 1, out, fails=True)
+                wanted = End(4, b"", b"lrudb: -: cannot read\n", self.wanted(True, STANDARD).files)
+                fault = ended.difference(wanted)
+                if fault:
+                    return f"where a read fails, to {out}: {fault}"
+        return None
+
+    def fault_of_cuts(self, start, end, runner):
+        """What is wrong where so much is left: the lines before `start`, with some bytes of the next one or none."""
+        log = self.files[self.log]
+        whole = log[:start].split(b"\n")[:-1]
+        first = None
+        for at in range(start, end):
+            cut = Case(self.name, self.words, {**self.files, self.log: log[:at]}, self.known_of_cut(whole))
+            for log_in, size in ((None, None), (log[:at], 1)):
+                ended = cut.run(runner, log_in, size)
+                first = first or self.first_of_cut(cut, ended, len(whole))
+                if isinstance(first, str):
+                    return f"cut after {at} bytes: {first}"
+                err = self.told_of_cut(first.err, len(whole)) if at > start and not first.status else first.err
+                cut.script = first.files.get(f"{self.prefix}.script")
+                fault = ended.difference(cut.wanted(log_in is not None, err=err))
+                if fault:
+                    return f"cut after {at} bytes, {'byte by byte' if size else 'as a file'}: {fault}"
+        return None
+
+    def known_of_cut(self, whole):
+        """What is wanted of a log that is cut after these lines, as far as it is known."""
+        if any(it.startswith(b"ts=") for it in whole):
+            return {"status": 0, "stderr": b"", "script": b"?", "options": self.options}
+        return {"status": 5, "stderr": b"lrudb: %s: no event\n" % self.log.encode()}
+
+    def first_of_cut(self, cut, ended, lines):
+        """How a log ends that is cut behind whole lines, or what is wrong with it."""
+        script = ended.files.get(f"{self.prefix}.script", b"")
+        if cut.status:
+            return ended.difference(cut.wanted()) or ended
+        if ended.status or not script.endswith(b"\r\n"):
+            return f"status {ended.status}, {ended.err}, and the script ends with {script[-20:]}"
+        if not ended.err.startswith(b"read: %d lines, " % lines) or b", 0 cut off at an end, " not in ended.err:
+            return f"{lines} whole lines are told as {ended.err}"
+        return ended
+
+    @staticmethod
+    def told_of_cut(err, lines):
+        """What is told where a line more was read, which was cut off."""
+        err = err.replace(b"read: %d lines, " % lines, b"read: %d lines, " % (lines + 1), 1)
+        return err.replace(b", 0 cut off at an end, ", b", 1 cut off at an end, ", 1)
+
+
+def cases_of(folder):
+    """The cases of a folder."""
+    files, many = {}, {}
+    for name in sorted(os.listdir(folder)):
+        text = read(f"{folder}/{name}")
+        base, _, end = name.rpartition(".")
+        if end == "rows":
+            files[base] = rows(text)
+        elif end == "each":
+            many[base] = each(text)
+        else:
+            files[name] = text
+    known = {name: files.pop(name, None) for name in RESERVED}
+    if known["cut"] not in (None, b"after each byte\n"):
+        raise ValueError(f"{folder}/cut: this says nothing")
+    known["status"] = int(known["status"])
+    known["stderr"] = known["stderr"] or b""
+    words = (known["words"] or b"").decode().splitlines()
+    if not many:
+        return [Case(folder, words, files, known)]
+    ((varied, made),) = many.items()
+    cases = []
+    for at, (text, err) in enumerate(made, 1):
+        name, told = f"{folder}, number {at}", {**known, "stderr": err}
+        if varied == "words":
+            cases.append(Case(name, text.decode().split(), files, told))
+        elif varied in RESERVED:
+            cases.append(Case(name, words, files, {**told, varied: text}))
+        else:
+            cases.append(Case(name, words, {**files, varied: text}, told))
+    return cases
+
+
+def cases_in(folder):
+    """The cases of what is in the folder and below it."""
+    words = [it for name in ("words", "words.each") for it in glob.glob(f"{folder}/**/{name}", recursive=True)]
+    return [case for it in sorted(map(os.path.dirname, words)) for case in cases_of(it)]
