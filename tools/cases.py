@@ -346,5 +346,6 @@ def cases_of(folder):
 
 def cases_in(folder):
     """The cases of what is in the folder and below it."""
-    words = [it for name in ("words", "words.each") for it in glob.glob(f"{folder}/**/{name}", recursive=True)]
-    return [case for it in sorted(map(os.path.dirname, words)) for case in cases_of(it)]
+    files = filter(os.path.isfile, sorted(glob.glob(f"{folder}/**", recursive=True)))
+    words = [it for it in files if os.path.basename(it) in ("words", "words.each")]
+    return [case for it in words for case in cases_of(os.path.dirname(it))]
