@@ -10,6 +10,7 @@ A case is a folder with these files:
               what is read and written there; where they are missing, nothing
     most      in place of `stdout`, more than is written there: some whole lines of it are, and not all
     end       in place of `stdout`, what the standard output ends with
+    like      in place of `stdout`, a regular expression for each line that is written there
     script, options
               at status 0 what PREFIX.script and PREFIX.options hold, where `--out PREFIX` is among the words
     cut       with the line `after each byte`, where the log is also cut after each byte
@@ -38,7 +39,8 @@ import os
 import re
 from functools import partial
 
-RESERVED = ("words", "status", "stderr", "has", "stdin", "stdout", "most", "end", "script", "options", "cut")
+OUTPUTS = ("stdout", "most", "end", "like")
+RESERVED = ("words", "status", "stderr", "has", "stdin", *OUTPUTS, "script", "options", "cut")
 STANDARD = "-"
 # The sizes of the pieces in which a log comes, and the longest log that is read in pieces.
 SIZES = (1, 2, 3, 5, 64, 4096)
@@ -68,6 +70,12 @@ def rows(text):
 def is_some_of(text, most):
     """Whether a text is whole lines from the front of a longer one."""
     return text.endswith(b"\n") and text != most and most.startswith(text)
+
+
+def is_like(text, wanted):
+    """Whether each line of a text fits its regular expression."""
+    lines, wanted = text.split(b"\n"), wanted.split(b"\n")
+    return len(lines) == len(wanted) and all(re.fullmatch(like, it) for like, it in zip(wanted, lines))
 
 
 def each(text):
@@ -136,7 +144,7 @@ class Case:
         self.status, self.err = known["status"], known["stderr"]
         self.script, self.options, self.is_cut = known.get("script"), known.get("options"), known.get("cut")
         self.input, self.output = (known.get(it) or b"" for it in ("stdin", "stdout"))
-        self.most, self.end = known.get("most"), known.get("end")
+        self.most, self.end, self.like = (known.get(it) for it in ("most", "end", "like"))
         self.has = (known.get("has") or b"").splitlines()
         self.prefix = next((b for a, b in zip(words, words[1:]) if a == "--out"), None)
         logs = [b for a, b in zip(words, words[1:]) if b in files and not a.startswith("--")]
@@ -221,19 +229,21 @@ class Case:
 
     def fault_of_output(self, ended):
         """What is wrong with an output of which only a part is said. It is then looked at no more."""
-        if self.most is None and self.end is None:
+        if self.most is None and self.end is None and self.like is None:
             return None
         out, ended.out = ended.out, b""
         if self.most is not None and not is_some_of(out, self.most):
             return f"what is written is no part of what is wanted: {first_difference(out, self.most)}"
         if self.end is not None and not out.endswith(self.end):
             return f"the standard output ends with {out[-200:]}, and {self.end} is wanted"
+        if self.like is not None and not is_like(out, self.like):
+            return f"the standard output says {out}, and lines like {self.like} are wanted"
         return None
 
     def fault_of_writes(self, runner):
         """What is wrong where the standard output takes nothing."""
         out = STANDARD if self.prefix else None
-        if self.status or not (out or self.output or self.end):
+        if self.status or not (out or self.output or self.end or self.like):
             return None
         with open("/dev/full", "wb") as full:
             ended = self.run(runner, out=out, output=full.fileno())
@@ -336,5 +346,6 @@ def cases_of(folder):
 
 def cases_in(folder):
     """The cases of what is in the folder and below it."""
-    words = [it for name in ("words", "words.each") for it in glob.glob(f"{folder}/**/{name}", recursive=True)]
-    return [case for it in sorted(map(os.path.dirname, words)) for case in cases_of(it)]
+    files = filter(os.path.isfile, sorted(glob.glob(f"{folder}/**", recursive=True)))
+    words = [it for it in files if os.path.basename(it) in ("words", "words.each")]
+    return [case for it in words for case in cases_of(os.path.dirname(it))]

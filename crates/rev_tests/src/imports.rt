@@ -11,6 +11,7 @@ use rev_intake::fault::IntakeFault;
 use rev_intake::intake::{Intake, Range};
 use rev_output::ToWrite;
 use rev_script::source::FromRead;
+use rev_watch::fault::{Field, LineFault, LogFault};
 use rev_watch::reader::LogReader;
 use rev_watch::settings::read_settings;
 use std::alloc::Global;
@@ -130,4 +131,15 @@ fn failing_writers(rt: HostRuntime) {
         assert!(rt; made == Err(IntakeFault::Write), "{most}");
         assert!(rt; writer.bytes.as_slice() == &SCRIPT[..most], "{most}");
     }
+}
+
+// The program tells a fault of a line in parts, and not by this text.
+#[test]
+fn a_bad_line_is_told_by_its_number(rt: HostRuntime) {
+    let fault = LogFault::Line {
+        line: 3,
+        fault: LineFault::Missing(Field::Dst),
+    };
+    let told = fault.to_string(rt.alloc()).expect(&rt, "no memory");
+    assert!(rt; told.as_str() == "line 3: no field `dst`");
 }

@@ -1,5 +1,5 @@
 //! The tests that cross crates: cut input, failing readers and writers, the class table, data blocks in each dialect,
-//! imports, want of memory, recordings on threads and over files; and fast paths beside plain ones.
+//! imports, want of memory, recordings on threads; and fast paths beside plain ones.
 #![tactic(auto)]
 
 #[cfg(test)]

@@ -1,4 +1,4 @@
-//! The tests of `lrudb record`: files in memory in; rows, messages and a status out.
+//! A test of `lrudb record` that only files in memory can make.
 
 mod recordings;
 mod streams;

@@ -14,7 +14,5 @@ mod kind;
 pub mod parse;
 pub mod reader;
 pub mod settings;
-#[cfg(test)]
-mod tests;
 mod text;
 pub mod window;
