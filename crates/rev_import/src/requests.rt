@@ -112,11 +112,7 @@ impl RowScribe {
     /// Writes the lines of the next row. The clock is set in front of them, where the row has a later second.
     ///
     /// Err: memory was refused.
-    pub fn write<B: Allocator>(
-        &mut self,
-        row: &Row,
-        out: &mut Vec<u8, B>,
-    ) -> Result<(), AllocError>
+    pub fn write<B: Allocator>(&mut self, row: &Row, out: &mut Vec<u8, B>) -> Result<(), AllocError>
         ensures writes { OnOk result (Writes out.old.items out.new.items (row_lines (clock_at self.old.start (max self.old.latest row.now.time)) row.now)) }
         ensures latest { self.new.latest ≡ max self.old.latest row.now.time }
         ensures start { self.new.start ≡ self.old.start }

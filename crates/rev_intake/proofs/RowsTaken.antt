@@ -1,5 +1,5 @@
 -- Rows that were taken in, one after another.
-use Rattle.std.proofs.Common.{◌≡◌, ℕ, ◌+◌, ◌<◌, ◌-◌, ◌^◌, max, true, false, List, [], ◌∷◌, ◌++◌, length, length-append, map, Option, None, Some, option_map, Result, Ok, Err, append_assoc, append-nil, refl, sym, ◌∙◌, ap, subst, arith, cc, tt}
+use Rattle.std.proofs.Common.{◌≡◌, ℕ, ◌+◌, ◌<◌, ◌-◌, ◌^◌, max, true, false, List, [], ◌∷◌, ◌++◌, length, length-append, map, Option, None, Some, option_map, Result, Ok, Err, append_assoc, append-nil, refl, sym, ◌∙◌, ap, subst, arith}
 use Rattle.std.proofs.lemmas.List.{map-append}
 use Rattle.std.specs.Io.KnownBytes.{Appends}
 use Rattle.csv.specs.Reading.{AreRecords, Reached, Ready, ReadRecord, reader_config, reader_state, source_of, strip_bom}
@@ -21,6 +21,7 @@ use Rattle.rev_trace.specs.declared.fault.RowFault.{RowFault}
 use Rattle.rev_trace.specs.declared.reader.TraceReader.{TraceReader}
 use Rattle.rev_trace.specs.declared.row.Row.{Row}
 use Rattle.rev_intake.specs.Rows.{asked_of, asked, counted_asked, counted_row, counted, PlainRowIntake, PutsRow, TakesRows, EndsRows, fault_of_trace, StopsRow, SpoilsTrace, StopsEndingRows, AreTraces, all_rows, IsTraceSpoilt, MakesRowScript, StopsAtEndOfTraces, StopsBehindTraces}
+use Rattle.rev_intake.specs.Counting.{more as add_one}
 use Rattle.rev_intake.specs.Sending.{Sends}
 use Rattle.rev_intake.specs.declared.fault.RowsFault.{RowsFault}
 use Rattle.rev_intake.specs.declared.fault.RowsFault.TheVariants as faults
@@ -127,13 +128,13 @@ row_put x y row h i k l t p = record {
 
 -- and one that is not
 pub row_left_out : (x y : PlainRowIntake) (row : Row) (held : Option (List ℕ)) (failures : ℕ) → takes x.sample.one_of row.key ≡ false →
-    y.sample ≡ x.sample → y.start ≡ x.start → y.latest ≡ x.latest → y.waits ≡ x.waits → y.counts ≡ counted_row x.sample x.latest row x.counts →
+    y.sample ≡ x.sample → y.start ≡ x.start → y.latest ≡ x.latest → y.waits ≡ x.waits → y.counts ≡ record x.counts { left_out = add_one x.counts.left_out 1 } →
     TakesRows x y (row ∷ []) held held failures failures
 row_left_out x y row held failures t sample start latest waits counts = record {
   same = sample;
   start = start;
   latest = rw t latest;
-  counts = counts;
+  counts = rw t counts;
   text = [];
   writes = rw t (writes_none []);
   sends = rw waits (sends_none x.waits held failures);

@@ -1,6 +1,6 @@
 -- Traces, one after another, whose rows are taken in.
 -- Rule of this project: which rows become lines of the script, what is counted of them, and why traces do not become a script.
-use Rattle.std.specs.Prelude.{◌≡◌, ℕ, ◌+◌, max, Bool, true, false, nat_lt, if◌then◌else◌, List, [], ◌∷◌, ◌++◌, length, Option, ⊤, ⊥}
+use Rattle.std.specs.Prelude.{◌≡◌, ℕ, ◌+◌, max, Bool, true, false, nat_lt, if◌then◌else◌, List, [], ◌∷◌, ◌++◌, length, Option, ⊤}
 use Rattle.std.specs.Io.KnownBytes.{Appends}
 use Rattle.rev_output.specs.Sink.{one_more}
 use Rattle.rev_import.specs.Requests.{clock_at, latest_of, lines_of, row_lines}
@@ -67,10 +67,16 @@ counted_operation operations.Increment c = record c { increment = more c.increme
 counted_operation operations.Decrement c = record c { decrement = more c.decrement 1 }
 counted_operation operations.Unknown c = record c { unknown = more c.unknown 1 }
 
+-- one more row that is asked for, which may be late
+abbrev pub counted_late : Bool → RowCounts → RowCounts
+counted_late is_late c = record c { late = if is_late then more c.late 1 else c.late }
+
+abbrev pub counted_by : Bool → Operation → RowCounts → RowCounts
+counted_by is_late operation c = counted_operation operation (counted_late is_late (record c { asked = more c.asked 1 }))
+
 -- a row that is asked for, behind those of which the latest was at this second
 abbrev pub counted_asked : ℕ → Row → RowCounts → RowCounts
-counted_asked latest row c =
-    counted_operation row.operation (record c { asked = more c.asked 1; late = if nat_lt row.time latest then more c.late 1 else c.late })
+counted_asked latest row c = counted_by (nat_lt row.time latest) row.operation c
 
 abbrev pub counted_row : Sample → ℕ → Row → RowCounts → RowCounts
 counted_row sample latest row c =

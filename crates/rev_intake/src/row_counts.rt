@@ -1,6 +1,6 @@
 //! What became of the rows of traces.
 ghost use Rattle.std.specs.Prelude.{◌≡◌};
-ghost use Rattle.rev_intake.specs.Rows.{counted_operation, no_rows};
+ghost use Rattle.rev_intake.specs.Rows.{counted_operation, counted_late, counted_by, no_rows};
 
 use crate::counts::add;
 use rev_trace::row::Operation;
@@ -54,8 +54,24 @@ impl RowCounts {
         }
     }
 
-    /// One more row of an operation.
-    pub fn count(&mut self, operation: Operation)
+    fn count_late(&mut self, is_late: bool)
+        ensures { self.new ≡ counted_late is_late self.old }
+    {
+        if is_late {
+            add(&mut self.late, 1);
+        }
+    }
+
+    /// One more row that is asked for.
+    pub fn count(&mut self, operation: Operation, is_late: bool)
+        ensures { self.new ≡ counted_by is_late operation self.old }
+    {
+        add(&mut self.asked, 1);
+        self.count_late(is_late);
+        self.count_operation(operation);
+    }
+
+    fn count_operation(&mut self, operation: Operation)
         ensures { self.new ≡ counted_operation operation self.old }
     {
         match operation {

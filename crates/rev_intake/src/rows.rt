@@ -67,11 +67,8 @@ impl RowIntake {
         ensures puts { OnOk result (PutsRow self.old self.new row.now (K.contents sink.old) (K.contents sink.new) (K.failures sink.old) (K.failures sink.new)) }
         ensures err { IfErr result (λ e. StopsRow (K.failures sink.old) (K.failures sink.new) e) }
     {
-        add(&mut self.counts.asked, 1);
-        if self.scribe.is_late(row) {
-            add(&mut self.counts.late, 1);
-        }
-        self.counts.count(row.operation);
+        let is_late = self.scribe.is_late(row);
+        self.counts.count(row.operation, is_late);
         self.scribe.write(row, &mut self.out)?;
         send_piece(&mut self.out, sink)?;
         Ok(())

@@ -11,7 +11,7 @@ mod starts;
 mod steps;
 mod stop;
 mod telling;
-mod traces;
+pub mod traces;
 
 pub use fault::RecordingFault;
 pub use stop::Stop;

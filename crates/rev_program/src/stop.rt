@@ -186,7 +186,10 @@ fn tell_row<E: Sink>(
     let mut number = Buffer::new();
     let digits = number.format(line);
     let why = row_fault(fault);
-    tell_parts(errors, &["lrudb: ", trace, ": line ", digits, ": ", why, "\n"])
+    tell_parts(
+        errors,
+        &["lrudb: ", trace, ": line ", digits, ": ", why, "\n"],
+    )
 }
 
 impl Stop {

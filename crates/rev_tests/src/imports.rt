@@ -1,6 +1,7 @@
 //! Logs of a cache, taken in and made into scripts.
 mod disk;
 mod files;
+mod traces;
 
 use crate::streams::{Narrow, Stutter};
 use rev_import::policy::Rhythm;
