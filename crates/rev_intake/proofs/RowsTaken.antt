@@ -152,7 +152,7 @@ pub record IsReached {R : Type 0} (rem : R → Option (List ℕ)) (bytes : List 
   pub count : row_count t ≡ length records
 
 abbrev pub IsRead : {R : Type 0} → (R → Option (List ℕ)) → Option (List ℕ) → TraceReader R → List Row → Type 0
-IsRead rem None t rows = ⊤
+IsRead rem None t rows = Unit {0}
 IsRead rem (Some bytes) t rows = IsReached rem bytes t rows
 
 pub record IsSoFarRows {R : Type 0} (rem : R → Option (List ℕ)) (known : Option (List ℕ)) (t : TraceReader R) (old new : PlainRowIntake) (held holds : Option (List ℕ)) (before after : ℕ) : Type 0 where
@@ -188,14 +188,14 @@ rows_are_more records rows fields row e f =
 read_more : {R : Type 0} (rem : R → Option (List ℕ)) (known : Option (List ℕ)) (t u : TraceReader R) (rows : List Row) (row : Row) →
     IsSteady (reader_in t) → IsRead rem known t rows → TakesNext rem t u (Some row) → IsRead rem known u (rows ++ row ∷ [])
 read_more rem None t u rows row steady r n = tt
-read_more rem (Some bytes) t u rows row steady r (fields, read, is, counted, few) =
+read_more rem (Some bytes) t u rows row steady r (fields, read, is, numbered, few) =
     let (rest, source, reached) = rows-more rem (reader_in t) (reader_in u) fields unquoted states.StartRecord (strip_bom bytes) r.rest r.records steady.0 r.source r.reached read in record {
       records = r.records ++ fields ∷ [];
       rest = rest;
       source = source;
       reached = reached;
       rows_are = rows_are_more r.records rows fields row r.rows_are is;
-      count = omega (arith, length-append r.records (fields ∷ []), counted, r.count);
+      count = omega (arith, length-append r.records (fields ∷ []), numbered, r.count);
     }
 
 pub row_more : {R : Type 0} (rem : R → Option (List ℕ)) (known : Option (List ℕ)) (t u : TraceReader R) (x y z : PlainRowIntake) (h i j : Option (List ℕ)) (k l m : ℕ) (row : Row) →

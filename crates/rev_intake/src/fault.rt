@@ -1,4 +1,6 @@
 //! Why logs do not become a script.
+ghost use Rattle.std.specs.Prelude.{◌≡◌};
+ghost use Rattle.rev_intake.specs.Rows.{fault_of_trace};
 
 use rev_output::WriteFailed;
 use rev_trace::fault::{RowFault, TraceFault};
@@ -109,13 +111,11 @@ impl From<WriteFailed> for RowsFault {
     }
 }
 
-impl From<TraceFault> for RowsFault {
-    ghost use Rattle.std.specs.Prelude.{◌≡◌};
-    ghost use Rattle.rev_intake.specs.Rows.{fault_of_trace};
-
-    ghost from_gives = { λ trace fault. fault ≡ fault_of_trace trace };
-
-    fn from(fault: TraceFault) -> RowsFault {
+impl RowsFault {
+    /// What a fault of a trace is to traces.
+    pub fn of(fault: TraceFault) -> RowsFault
+        ensures { result ≡ fault_of_trace fault }
+    {
         match fault {
             TraceFault::Memory => RowsFault::Memory,
             TraceFault::Read => RowsFault::Read,

@@ -104,7 +104,7 @@ impl RowIntake {
             let row = match trace.next() {
                 Ok(None) => return Ok(()),
                 Ok(Some(row)) => row,
-                Err(fault) => return Err(RowsFault::from(fault)),
+                Err(fault) => return Err(RowsFault::of(fault)),
             };
             match self.take(&row, sink) {
                 Ok(()) => {}
