@@ -3,3 +3,4 @@ pub mod Taken
 pub mod Stopping
 pub mod Files
 pub mod Order
+pub mod RowsTaken

@@ -5,3 +5,5 @@ pub mod Intake
 pub mod Logs
 pub mod Report
 pub mod Words
+pub mod Rows
+pub mod RowReport

@@ -1,6 +1,9 @@
 //! Why logs do not become a script.
+ghost use Rattle.std.specs.Prelude.{◌≡◌};
+ghost use Rattle.rev_intake.specs.Rows.{fault_of_trace};
 
 use rev_output::WriteFailed;
+use rev_trace::fault::{RowFault, TraceFault};
 use rev_watch::fault::{LineFault, LogFault};
 use std::alloc::AllocError;
 use thiserror::Error;
@@ -60,6 +63,64 @@ impl From<LogFault> for IntakeFault {
             LogFault::Memory => IntakeFault::Memory,
             LogFault::Read => IntakeFault::Read,
             LogFault::Line { line, fault } => IntakeFault::Line { line, fault },
+        }
+    }
+}
+
+/// Why traces do not become a script.
+#[derive(Clone, Copy, Debug, PartialEq, Eq, Drop, Error)]
+pub enum RowsFault {
+    #[error("out of memory")]
+    Memory,
+    /// A read failed.
+    #[error("cannot read")]
+    Read,
+    /// A row is none. Rows are numbered from 1.
+    #[error("line {line}: {fault}")]
+    Row { line: u64, fault: RowFault },
+    /// A trace has more than 18446744073709551615 rows.
+    #[error("input too long")]
+    TooLong,
+    /// A write failed.
+    #[error("cannot write")]
+    Write,
+    /// No row was asked for.
+    #[error("no row")]
+    NoRow,
+}
+
+impl From<AllocError> for RowsFault {
+    ghost use Rattle.std.specs.Prelude.{◌≡◌};
+    ghost use Rattle.rev_intake.specs.declared.fault.RowsFault.{RowsFault};
+
+    ghost from_gives = { λ refused fault. fault ≡ RowsFault.Memory };
+
+    fn from(_refused: AllocError) -> RowsFault {
+        RowsFault::Memory
+    }
+}
+
+impl From<WriteFailed> for RowsFault {
+    ghost use Rattle.std.specs.Prelude.{◌≡◌};
+    ghost use Rattle.rev_intake.specs.declared.fault.RowsFault.{RowsFault};
+
+    ghost from_gives = { λ failed fault. fault ≡ RowsFault.Write };
+
+    fn from(_failed: WriteFailed) -> RowsFault {
+        RowsFault::Write
+    }
+}
+
+impl RowsFault {
+    /// What a fault of a trace is to traces.
+    pub fn of(fault: TraceFault) -> RowsFault
+        ensures { result ≡ fault_of_trace fault }
+    {
+        match fault {
+            TraceFault::Memory => RowsFault::Memory,
+            TraceFault::Read => RowsFault::Read,
+            TraceFault::Row { line, fault } => RowsFault::Row { line, fault },
+            TraceFault::TooLong => RowsFault::TooLong,
         }
     }
 }

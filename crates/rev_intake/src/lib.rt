@@ -1,5 +1,5 @@
 //! From logs to a script: the lines of `watch` logs in, and the script's bytes out, with what was counted, and the words
-//! for a run of it.
+//! for a run of it. And from traces to a script, in the same way.
 #![tactic(auto)]
 
 pub mod counts;
@@ -7,4 +7,9 @@ pub mod fault;
 pub mod intake;
 pub mod logs;
 pub mod report;
+pub mod row_counts;
+pub mod row_report;
+pub mod rows;
+mod sending;
+pub mod traces;
 pub mod words;

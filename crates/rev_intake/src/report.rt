@@ -9,8 +9,8 @@ use rev_import::setup::Unfollowed;
 use rev_watch::settings::LogStats;
 use std::alloc::{AllocError, Allocator};
 
-// Writes a number between two texts.
-fn put_part<A: Allocator>(
+/// Writes a number between two texts.
+pub fn put_part<A: Allocator>(
     out: &mut Vec<u8, A>,
     front: &[u8],
     number: u64,

@@ -1,6 +1,7 @@
 //! The command line of `lrudb`: which words ask for what.
 #![tactic(auto)]
 
+mod csv;
 mod import;
 
 ghost use Rattle.std.specs.Prelude.{◌≡◌, ◌≤◌, length, map, IfOk, IfSome, true, false};
@@ -9,6 +10,7 @@ ghost use Rattle.rev_options.specs.Request.{IsInRange, IsHeap, IsOfWords, asks_i
 use crate::import::{asks_import, import, import_command};
 use clap::error::ErrorKind;
 use clap::{Arg, ArgAction, ArgMatches, Command, Error, value_parser};
+pub use csv::CsvImport;
 pub use import::{STANDARD, WatchImport};
 use rev_classes::Config;
 use std::alloc::{AllocError, Global};
@@ -44,6 +46,8 @@ pub enum Request {
     },
     /// Make a script of logs.
     ImportWatch(WatchImport),
+    /// Make a script of traces.
+    ImportCsv(CsvImport),
 }
 
 /// Why there is no request.

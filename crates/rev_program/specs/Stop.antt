@@ -10,6 +10,8 @@ use Rattle.rev_shell.specs.declared.quiet.TraceFault.{TraceFault}
 use Rattle.rev_shell.specs.declared.quiet.TraceFault.TheVariants as trace_fault
 use Rattle.rev_shell.specs.declared.run.RunFault.{RunFault}
 use Rattle.rev_shell.specs.declared.run.RunFault.TheVariants as run_fault
+use Rattle.rev_trace.specs.declared.fault.RowFault.{RowFault}
+use Rattle.rev_trace.specs.declared.fault.RowFault.TheVariants as row
 use Rattle.rev_watch.specs.Field.{name_of}
 use Rattle.rev_watch.specs.Settings.{stat_name}
 use Rattle.rev_watch.specs.declared.fault.LineFault.{LineFault}
@@ -18,7 +20,7 @@ use Rattle.rev_watch.specs.declared.settings.StatFault.{StatFault}
 use Rattle.rev_watch.specs.declared.settings.StatFault.TheVariants as stat
 use Rattle.rev_program.specs.Telling.{joined}
 use Rattle.rev_program.specs.declared.stop.Stop.{Stop}
-use Rattle.rev_program.specs.declared.stop.Stop.TheVariants.{Usage, BadPage, BadFactor, TooManyClasses, BadLimit, Memory, CannotRead, CannotOpen, NotAStep, CannotWrite, TooLong, CannotWriteFile, BadLine, BadStats, NoEvent}
+use Rattle.rev_program.specs.declared.stop.Stop.TheVariants.{Usage, BadPage, BadFactor, TooManyClasses, BadLimit, Memory, CannotRead, CannotOpen, NotAStep, CannotWrite, TooLong, CannotWriteFile, BadLine, BadStats, NoEvent, BadRow, NoRow}
 
 -- the exit status: 2 the command line or the configuration, 3 memory, 4 input or output, 5 a line that is not a step, or what
 -- is imported
@@ -38,6 +40,8 @@ status (CannotWriteFile name) = 4
 status (BadLine log n fault) = 5
 status (BadStats file fault) = 5
 status (NoEvent log) = 5
+status (BadRow trace n fault) = 5
+status (NoRow trace) = 5
 
 -- why a line of a log is none, in three parts
 abbrev pub line_parts : LineFault → List (List ℕ)
@@ -64,6 +68,21 @@ line_told log n fault = joined (codes "lrudb: " ∷ log ∷ codes ": line " ∷ 
 abbrev pub stats_told : List ℕ → List (List ℕ) → List ℕ
 stats_told file fault = joined (codes "lrudb: " ∷ file ∷ codes ": " ∷ (fault ++ codes "\n" ∷ []))
 
+-- why a row of a trace is none
+abbrev pub row_part : RowFault → List ℕ
+row_part row.Memory = codes "out of memory"
+row_part row.Columns = codes "other than 7 columns"
+row_part row.Timestamp = codes "the timestamp is no number"
+row_part row.KeySize = codes "the key size is no number"
+row_part row.ValueSize = codes "the value size is no number"
+row_part row.Ttl = codes "the TTL is no number"
+row_part row.LongKey = codes "the key is longer than its size"
+row_part row.BadKey = codes "the key is no key"
+
+-- what is told of a row that is none, by the trace's name, its number and the fault
+abbrev pub row_told : List ℕ → List ℕ → List ℕ → List ℕ
+row_told trace n fault = joined (codes "lrudb: " ∷ trace ∷ codes ": line " ∷ n ∷ codes ": " ∷ fault ∷ codes "\n" ∷ [])
+
 -- the text on the standard error; of a command line, what its parser says
 abbrev pub text : Stop → List ℕ
 text (Usage told) = string_bytes told
@@ -81,6 +100,8 @@ text (CannotWriteFile name) = codes "lrudb: " ++ string_bytes name ++ codes ": c
 text (BadLine log n fault) = line_told (string_bytes log) (decimal n) (line_parts fault)
 text (BadStats file fault) = stats_told (string_bytes file) (stat_parts fault)
 text (NoEvent log) = codes "lrudb: " ++ string_bytes log ++ codes ": no event\n"
+text (BadRow trace n fault) = row_told (string_bytes trace) (decimal n) (row_part fault)
+text (NoRow trace) = codes "lrudb: " ++ string_bytes trace ++ codes ": no row\n"
 
 -- the end of a program whose words ask for nothing that there is
 abbrev pub stop_of_words : Refused → Stop

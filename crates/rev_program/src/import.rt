@@ -22,7 +22,7 @@ use std::{fs, io};
 
 // The names of the files that are written, each also as it is called until it is whole.
 #[derive(Drop)]
-struct Names {
+pub(crate) struct Names {
     script: String,
     script_part: String,
     options: String,
@@ -37,7 +37,7 @@ fn with_end(alloc: Global, prefix: &str, end: &str) -> Result<String, AllocError
 }
 
 impl Names {
-    fn of(alloc: Global, prefix: &str) -> Result<Names, AllocError> {
+    pub(crate) fn of(alloc: Global, prefix: &str) -> Result<Names, AllocError> {
         Ok(Names {
             script: with_end(alloc, prefix, ".script")?,
             script_part: with_end(alloc, prefix, ".script.part")?,
@@ -48,7 +48,7 @@ impl Names {
 }
 
 // A copy of a name.
-fn copied(alloc: Global, name: &str) -> Result<String, Stop> {
+pub(crate) fn copied(alloc: Global, name: &str) -> Result<String, Stop> {
     match String::from_str(alloc, name) {
         Ok(name) => Ok(name),
         Err(_) => Err(Stop::Memory),
@@ -62,7 +62,7 @@ fn cannot_open(alloc: Global, name: &str) -> Stop {
     }
 }
 
-fn cannot_write(alloc: Global, name: &str) -> Stop {
+pub(crate) fn cannot_write(alloc: Global, name: &str) -> Stop {
     match copied(alloc, name) {
         Ok(name) => Stop::CannotWriteFile(name),
         Err(stop) => stop,
@@ -133,7 +133,7 @@ fn setup_of<R: Files + AllocGlobal>(rt: &R, asked: &WatchImport) -> Result<Setup
 }
 
 // The log of a name, opened. The reader is the standard input.
-fn opened<R: Files, I: Read + Drop>(
+pub(crate) fn opened<R: Files, I: Read + Drop>(
     rt: &R,
     alloc: Global,
     name: &str,
@@ -151,7 +151,7 @@ fn opened<R: Files, I: Read + Drop>(
 }
 
 // All logs, opened in order. The first that cannot be opened ends it.
-fn all_opened<R: Files, I: Read + Drop>(
+pub(crate) fn all_opened<R: Files, I: Read + Drop>(
     rt: &R,
     alloc: Global,
     names: &[String],
@@ -185,42 +185,55 @@ fn stop_of(alloc: Global, fault: IntakeFault, log: &str) -> Result<Stop, Stop> {
 }
 
 // The name in a place.
-fn name_in(names: &[String], place: usize) -> &str {
+pub(crate) fn name_in(names: &[String], place: usize) -> &str {
     match names.get(place) {
         Some(name) => name.as_str(),
         None => "",
     }
 }
 
-// Makes the script of logs of these names.
-fn make<F: Read + Drop, K: Sink>(
-    intake: &mut Intake<Global>,
-    names: &[String],
+/// What a script is made of.
+pub(crate) trait Making {
+    /// Makes the script, and sends it to the sink.
+    fn make<K: Sink>(self, sink: &mut K) -> Result<(), Stop>;
+}
+
+// Logs of these names, and what takes them in.
+#[derive(Drop)]
+struct Logs<'a, F> {
+    intake: &'a mut Intake<Global>,
+    names: &'a [String],
     logs: Vec<F>,
-    sink: &mut K,
-) -> Result<(), Stop> {
-    let alloc = *logs.allocator();
-    match make_script(intake, logs, sink) {
-        Ok(()) => Ok(()),
-        Err((place, fault)) => match stop_of(alloc, fault, name_in(names, place)) {
-            Ok(stop) => Err(stop),
-            Err(stop) => Err(stop),
-        },
+}
+
+impl<'a, F: Read + Drop> Making for Logs<'a, F> {
+    fn make<K: Sink>(self, sink: &mut K) -> Result<(), Stop> {
+        let Logs {
+            intake,
+            names,
+            logs,
+        } = self;
+        let alloc = *logs.allocator();
+        match make_script(intake, logs, sink) {
+            Ok(()) => Ok(()),
+            Err((place, fault)) => match stop_of(alloc, fault, name_in(names, place)) {
+                Ok(stop) => Err(stop),
+                Err(stop) => Err(stop),
+            },
+        }
     }
 }
 
 // Makes the script in a file of this name.
-fn make_file<R: Files, F: Read + Drop>(
+fn make_file<R: Files, M: Making + Drop>(
     rt: &R,
+    alloc: Global,
     target: &str,
-    intake: &mut Intake<Global>,
-    names: &[String],
-    logs: Vec<F>,
+    making: M,
 ) -> Result<(), Stop> {
-    let alloc = *logs.allocator();
     match fs::create(rt, target) {
         Err(_) => Err(cannot_write(alloc, target)),
-        Ok(file) => match make(intake, names, logs, &mut ToWrite::new(file)) {
+        Ok(file) => match making.make(&mut ToWrite::new(file)) {
             Ok(()) => Ok(()),
             Err(Stop::CannotWrite) => Err(cannot_write(alloc, target)),
             Err(stop) => Err(stop),
@@ -254,16 +267,14 @@ fn rename_both<R: Files>(rt: &R, alloc: Global, files: &Names) -> Result<(), Sto
 }
 
 // Writes script and options to files, each under another name until both are whole.
-fn try_files<R: Files, F: Read + Drop>(
+fn try_files<R: Files, M: Making + Drop>(
     rt: &R,
+    alloc: Global,
     files: &Names,
     words: &[u8],
-    intake: &mut Intake<Global>,
-    names: &[String],
-    logs: Vec<F>,
+    making: M,
 ) -> Result<(), Stop> {
-    let alloc = *logs.allocator();
-    make_file(rt, files.script_part.as_str(), intake, names, logs)?;
+    make_file(rt, alloc, files.script_part.as_str(), making)?;
     match fs::write(rt, files.options_part.as_str(), words) {
         Err(_) => Err(cannot_write(alloc, files.options_part.as_str())),
         Ok(()) => rename_both(rt, alloc, files),
@@ -271,15 +282,14 @@ fn try_files<R: Files, F: Read + Drop>(
 }
 
 // Writes script and options to files. Where that fails, nothing is left of them.
-fn to_files<R: Files, F: Read + Drop>(
+fn to_files<R: Files, M: Making + Drop>(
     rt: &R,
+    alloc: Global,
     files: &Names,
     words: &[u8],
-    intake: &mut Intake<Global>,
-    names: &[String],
-    logs: Vec<F>,
+    making: M,
 ) -> Result<(), Stop> {
-    match try_files(rt, files, words, intake, names, logs) {
+    match try_files(rt, alloc, files, words, making) {
         Ok(()) => Ok(()),
         Err(stop) => {
             // A file that is not there cannot be removed.
@@ -287,6 +297,24 @@ fn to_files<R: Files, F: Read + Drop>(
             let _ = fs::remove_file(rt, files.options_part.as_str());
             Err(stop)
         }
+    }
+}
+
+/// Makes a script where it is asked for: in the files of this prefix, with the words for a run of it, or, where the prefix
+/// is `-`, on the standard output.
+pub(crate) fn send<R: Files + AllocGlobal, M: Making + Drop, O: Write>(
+    rt: &R,
+    prefix: &str,
+    words: &[u8],
+    making: M,
+    writer: &mut O,
+) -> Result<(), Stop> {
+    if prefix == STANDARD {
+        return making.make(&mut ToWrite::new(writer));
+    }
+    match Names::of(rt.alloc(), prefix) {
+        Ok(files) => to_files(rt, rt.alloc(), &files, words, making),
+        Err(_) => Err(Stop::Memory),
     }
 }
 
@@ -302,25 +330,6 @@ fn intake_of(alloc: Global, setup: Setup, asked: &WatchImport) -> Result<Intake<
     }
 }
 
-// Makes the script of the logs where it is asked for, with the words for a run of it beside it if that is a file.
-fn send<R: Files + AllocGlobal, F: Read + Drop, O: Write>(
-    rt: &R,
-    asked: &WatchImport,
-    words: &[u8],
-    intake: &mut Intake<Global>,
-    logs: Vec<F>,
-    writer: &mut O,
-) -> Result<(), Stop> {
-    let names = asked.logs.as_slice();
-    if asked.out.as_str() == STANDARD {
-        return make(intake, names, logs, &mut ToWrite::new(writer));
-    }
-    match Names::of(rt.alloc(), asked.out.as_str()) {
-        Ok(files) => to_files(rt, &files, words, intake, names, logs),
-        Err(_) => Err(Stop::Memory),
-    }
-}
-
 // Opens the logs, and makes their script where it is asked for.
 fn import_logs<R: Files + AllocGlobal, I: Read + Drop, O: Write>(
     rt: &R,
@@ -331,7 +340,15 @@ fn import_logs<R: Files + AllocGlobal, I: Read + Drop, O: Write>(
     writer: &mut O,
 ) -> Result<(), Stop> {
     match all_opened(rt, rt.alloc(), asked.logs.as_slice(), reader) {
-        Ok(logs) => send(rt, asked, words, intake, logs, writer),
+        Ok(logs) => {
+            let names = asked.logs.as_slice();
+            let making = Logs {
+                intake,
+                names,
+                logs,
+            };
+            send(rt, asked.out.as_str(), words, making, writer)
+        }
         Err(stop) => Err(stop),
     }
 }

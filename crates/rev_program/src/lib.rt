@@ -11,6 +11,7 @@ mod starts;
 mod steps;
 mod stop;
 mod telling;
+pub mod traces;
 
 pub use fault::RecordingFault;
 pub use stop::Stop;

@@ -11,6 +11,7 @@ use crate::import::import_watch;
 use crate::play::play_files;
 use crate::starts::started;
 use crate::stop::Stop;
+use crate::traces::import_csv;
 use linked_list_allocator::LocalHeap;
 use rev_classes::{Config, fault_of};
 use rev_options::{Request, parse_words};
@@ -240,5 +241,6 @@ pub fn program<
             },
         ) => record_files(rt, config, starts, files, &mut writer, errors),
         Ok(Request::ImportWatch(asked)) => import_watch(rt, asked, reader, &mut writer, errors),
+        Ok(Request::ImportCsv(asked)) => import_csv(rt, asked, reader, &mut writer, errors),
     }
 }

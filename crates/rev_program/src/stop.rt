@@ -1,7 +1,7 @@
 //! Why the program ends before all is done, in the words and statuses that its user sees.
 ghost use Rattle.std.specs.Prelude.{◌≡◌, ◌≢◌, [], ◌∷◌, decimal, OnOk, OnErr};
 ghost use Rattle.std.specs.Io.KnownBytes.{Appends};
-ghost use Rattle.rev_program.specs.Stop.{status, text, line_parts, line_told, stat_parts, stats_told, stop_of_config, stop_of_run, stop_of_trace};
+ghost use Rattle.rev_program.specs.Stop.{status, text, line_parts, line_told, row_part, row_told, stat_parts, stats_told, stop_of_config, stop_of_run, stop_of_trace};
 ghost use Rattle.rev_output.specs.Sink.{one_more};
 ghost use Rattle.rev_program.specs.Telling.{Told};
 
@@ -12,6 +12,7 @@ use rev_options::Refused;
 use rev_output::{Sink, WriteFailed};
 use rev_shell::quiet::TraceFault;
 use rev_shell::run::RunFault;
+use rev_trace::fault::RowFault;
 use rev_watch::fault::LineFault;
 use rev_watch::settings::StatFault;
 use std::alloc::AllocError;
@@ -52,6 +53,14 @@ pub enum Stop {
     },
     /// Logs, of which this is the first, have no event that is asked for.
     NoEvent(String),
+    /// A row of a trace is none. Rows are numbered from 1.
+    BadRow {
+        trace: String,
+        line: u64,
+        fault: RowFault,
+    },
+    /// Traces, of which this is the first, have no row that is asked for.
+    NoRow(String),
 }
 
 // What a fault of a line says, in three parts.
@@ -147,6 +156,42 @@ fn tell_stats<E: Sink>(errors: &mut E, file: &str, fault: StatFault) -> Result<(
     tell_stats_by(errors, file, front, stat, back)
 }
 
+// What a fault of a row says.
+fn row_fault(fault: RowFault) -> &'static str
+    ensures { result.now ≡ row_part fault }
+{
+    match fault {
+        RowFault::Memory => "out of memory",
+        RowFault::Columns => "other than 7 columns",
+        RowFault::Timestamp => "the timestamp is no number",
+        RowFault::KeySize => "the key size is no number",
+        RowFault::ValueSize => "the value size is no number",
+        RowFault::Ttl => "the TTL is no number",
+        RowFault::LongKey => "the key is longer than its size",
+        RowFault::BadKey => "the key is no key",
+    }
+}
+
+// Tells why a row of a trace is none.
+fn tell_row<E: Sink>(
+    errors: &mut E,
+    trace: &str,
+    line: u64,
+    fault: RowFault,
+) -> Result<(), WriteFailed>
+    ensures told { Told (E.contents errors.old) (E.contents errors.new) (E.failures errors.old) (E.failures errors.new) (row_told trace.now (decimal line) (row_part fault)) }
+    ensures ok { OnOk result (Appends (E.contents errors.old) (E.contents errors.new) (row_told trace.now (decimal line) (row_part fault))) }
+    ensures err { OnErr result (E.failures errors.new ≡ one_more (E.failures errors.old)) }
+{
+    let mut number = Buffer::new();
+    let digits = number.format(line);
+    let why = row_fault(fault);
+    tell_parts(
+        errors,
+        &["lrudb: ", trace, ": line ", digits, ": ", why, "\n"],
+    )
+}
+
 impl Stop {
     /// The status that the program ends with: 2 for the command line or the configuration, 3 for memory, 4 for input
     /// or output, 5 for a line that is not a step, or for what is imported (this project's own numbers).
@@ -162,6 +207,7 @@ impl Stop {
             Stop::CannotWriteFile(_) => 4,
             Stop::NotAStep { .. } => 5,
             Stop::BadLine { .. } | Stop::BadStats { .. } | Stop::NoEvent(_) => 5,
+            Stop::BadRow { .. } | Stop::NoRow(_) => 5,
         }
     }
 
@@ -199,6 +245,10 @@ impl Stop {
             Stop::BadLine { log, line, fault } => tell_line(errors, log.as_str(), *line, *fault),
             Stop::BadStats { file, fault } => tell_stats(errors, file.as_str(), *fault),
             Stop::NoEvent(name) => tell_parts(errors, &["lrudb: ", name.as_str(), ": no event\n"]),
+            Stop::BadRow { trace, line, fault } => {
+                tell_row(errors, trace.as_str(), *line, *fault)
+            }
+            Stop::NoRow(name) => tell_parts(errors, &["lrudb: ", name.as_str(), ": no row\n"]),
         }
     }
 }

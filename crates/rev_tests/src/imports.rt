@@ -2,6 +2,7 @@
 //! becomes of other logs stands in `worked/imports`.
 mod disk;
 mod files;
+mod traces;
 
 use crate::streams::{Narrow, Stutter};
 use rev_import::policy::Rhythm;

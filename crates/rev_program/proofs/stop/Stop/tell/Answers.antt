@@ -107,3 +107,23 @@ pub returns-in-BadStats-clause-ok : goal.returns-in-BadStats-clause-ok
 returns-in-BadStats-clause-ok g c =
     let t = rw c.as_str-in-BadStats.ensures.value at c.tell_stats.ensures.ok in
     rw c.in-BadStats.is t
+
+pub returns-in-NoRow-clause-told : goal.returns-in-NoRow-clause-told
+returns-in-NoRow-clause-told g c =
+    let t = rw c.as_str-in-NoRow.ensures.value at c.tell_parts-in-NoRow.ensures.told in
+    rw c.in-NoRow.is t
+
+pub returns-in-BadRow-clause-told : goal.returns-in-BadRow-clause-told
+returns-in-BadRow-clause-told g c =
+    let t = rw c.as_str-in-BadRow.ensures.value at c.tell_row.ensures.told in
+    rw c.in-BadRow.is t
+
+pub returns-in-NoRow-clause-ok : goal.returns-in-NoRow-clause-ok
+returns-in-NoRow-clause-ok g c =
+    let t = rw c.as_str-in-NoRow.ensures.value at c.tell_parts-in-NoRow.ensures.ok in
+    rw c.in-NoRow.is t
+
+pub returns-in-BadRow-clause-ok : goal.returns-in-BadRow-clause-ok
+returns-in-BadRow-clause-ok g c =
+    let t = rw c.as_str-in-BadRow.ensures.value at c.tell_row.ensures.ok in
+    rw c.in-BadRow.is t
