@@ -18,7 +18,8 @@ use Rattle.rev_model.specs.declared.Queue.{Queue}
 use Rattle.rev_model.specs.declared.Queue.TheVariants.{Hot, Warm, Cold, Temp}
 use Rattle.rev_model.specs.declared.ClassSet.TheVariants.{These, All}
 use Rattle.rev_script.specs.Number.{number, number_u32, signed, is_digit, is_factor, factor, has, ids, id_or_0}
-use Rattle.rev_script.specs.Commands.{command, clock_of, verb_of, side_of, actor_command, other_command, memory_command, retrieval_command, delete_command, storage_command, storage_line, queue_of, with_queue, crawler_command, slabs_command, reassign_of, lru_command, temp_ttl_of, tune_command, tune_percent, tune_of}
+use Rattle.rev_script.specs.Commands.{command, clock_of, verb_of, side_of, actor_command, other_command, memory_command, retrieval_command, delete_command, increment_command, decrement_command, storage_command, storage_line, queue_of, with_queue, crawler_command, slabs_command, reassign_of, lru_command, temp_ttl_of, tune_command, tune_percent, tune_of}
+use Rattle.rev_requests.specs.declared.clients.Arithmetic.TheVariants as sums
 use Rattle.rev_requests.specs.declared.clients.KeyCommand.TheVariants as keyed
 use Rattle.rev_requests.specs.declared.actors.ActorStep.{ActorStep}
 use Rattle.rev_requests.specs.declared.actors.ActorStep.TheVariants as actors
@@ -31,7 +32,7 @@ use Rattle.rev_script.specs.declared.command.StorageCommand.{StorageCommand}
 use Rattle.rev_script.specs.declared.command.BadAnswer.TheVariants.{BadFormat, BadChunk, SharesOver80}
 use Rattle.rev_model.specs.Client.{Bytes, Skipped}
 use Rattle.rev_import.specs.declared.writing.Storing.{Storing}
-use Rattle.rev_import.specs.declared.writing.Storing.TheVariants.{Set, Add, Replace}
+use Rattle.rev_import.specs.declared.writing.Storing.TheVariants.{Set, Add, Replace, Append, Prepend}
 use Rattle.rev_script.specs.declared.command.Command.{Command}
 use Rattle.rev_script.specs.declared.command.Command.TheVariants.{Retrieval, Update, Actor, Storage, Tune, Bad}
 use Rattle.rev_script.specs.Script.{ScriptLine, RetrievalLine, UpdateLine, ActorLine, StorageLine, TuneLine, BadLine, storage_line_of, payload_of, block_size, line_of}
@@ -74,6 +75,22 @@ delete_row key h =
     let w = is_word-key key h in
     plain_row (codes "delete") (key ∷ []) (Update keyed.Delete false) refl (either _ _ w.0 refl)
     (omega (arith, length-append key [], w.1))
+    (rw h refl) refl
+
+pub increment_row : (key : List ℕ) → is_key key ≡ true → IsLine (line_text (codes "incr") (key ∷ codes "1" ∷ [])) (UpdateLine (keyed.Count (sums.Increment 1)) key false)
+unfolding command other_command verb_of side_of increment_command number
+increment_row key h =
+    let w = is_word-key key h in
+    plain_row (codes "incr") (key ∷ codes "1" ∷ []) (Update (keyed.Count (sums.Increment 1)) false) refl (either _ _ w.0 refl)
+    (omega (arith, length-append key (32 ∷ codes "1"), w.1))
+    (rw h refl) refl
+
+pub decrement_row : (key : List ℕ) → is_key key ≡ true → IsLine (line_text (codes "decr") (key ∷ codes "1" ∷ [])) (UpdateLine (keyed.Count (sums.Decrement 1)) key false)
+unfolding command other_command verb_of side_of decrement_command number
+decrement_row key h =
+    let w = is_word-key key h in
+    plain_row (codes "decr") (key ∷ codes "1" ∷ []) (Update (keyed.Count (sums.Decrement 1)) false) refl (either _ _ w.0 refl)
+    (omega (arith, length-append key (32 ∷ codes "1"), w.1))
     (rw h refl) refl
 
 -- ---- the lines of actors
@@ -214,10 +231,12 @@ five_behind (Err x) old z a b c d e new first w0 w1 w2 w3 w4 e0 e1 e2 e3 e4 e5 e
 -- ---- a store and its data
 
 store_named : (s : Storing) (ws : List (List ℕ)) → command (storage_name s ∷ ws) ≡ storage_command (storage s) (storage_name s ∷ ws)
-unfolding command verb_of
+unfolding command verb_of side_of
 store_named Set ws = refl
 store_named Add ws = refl
 store_named Replace ws = refl
+store_named Append ws = refl
+store_named Prepend ws = refl
 
 store_command : (s : Storing) (key : List ℕ) (flags : ℕ) (z : ℤ) (size : ℕ) → is_key key ≡ true → flags < 2 ^ 32 → mag z < 2 ^ 31 → size ≤ 1048576 →
     command (storage_name s ∷ key ∷ decimal flags ∷ signed_decimal z ∷ decimal size ∷ []) ≡ Storage (storage s) flags z size false
@@ -233,6 +252,8 @@ is_word-storage : (s : Storing) → (is_word (storage_name s) ≡ true) × (leng
 is_word-storage Set = (refl, omega arith)
 is_word-storage Add = (refl, omega arith)
 is_word-storage Replace = (refl, omega arith)
+is_word-storage Append = (refl, omega arith)
+is_word-storage Prepend = (refl, omega arith)
 
 -- the data are there, with their ending
 stored_line : (c : StorageCommand) (key : List ℕ) (flags : ℕ) (z : ℤ) (size : ℕ) (d : List ℕ) → length d ≡ size → size ≤ 1048576 →

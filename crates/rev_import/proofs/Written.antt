@@ -14,7 +14,9 @@ use Rattle.rev_model.specs.Client.{Payload}
 use Rattle.rev_watch.specs.declared.event.Event.{Event}
 use Rattle.rev_watch.specs.declared.event.LogLine.{LogLine}
 use Rattle.rev_import.specs.Becoming.{Becomes, event_lines, store_lines}
+use Rattle.rev_import.specs.Requests.{row_lines}
 use Rattle.rev_import.specs.declared.writing.Storing.{Storing}
+use Rattle.rev_trace.specs.declared.row.Row.{Row}
 use Rattle.rev_requests.specs.Limits.{PlainTune}
 use Rattle.rev_import.specs.Setup.{tune_lines, temp_ttl_lines, setup_lines}
 use Rattle.rev_import.specs.Writing.{Adds, AreLines, Writes, IsStep, is_client, whole_line}
@@ -130,3 +132,7 @@ unless {a} {b} test xs ys e y = subst (λ t. Writes a b (if t then xs else ys)) 
 pub respelled : {a b : List ℕ} (key : List ℕ) (flags size : ℕ) (s t : Storing) (e f : ℤ) → s ≡ t → e ≡ f → Writes a b (store_lines s key flags e size) → Writes a b (store_lines t key flags f size)
 respelled {a} {b} key flags size s t e f x y w =
     subst (λ z. Writes a b (store_lines t key flags z size)) y (subst (λ z. Writes a b (store_lines z key flags e size)) x w)
+
+-- behind the clock's line stand those of a row, by another name of the clock
+pub row_at : {a b c : List ℕ} {now other : ℕ} (row : Row) → now ≡ other → Writes a b [] → Writes b c (row_lines now row) → Writes a c (row_lines other row)
+row_at {a} {b} {c} row e x y = subst (λ n. Writes a c (row_lines n row)) e (more x y)

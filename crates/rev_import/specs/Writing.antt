@@ -7,14 +7,15 @@ use Rattle.std.specs.Prelude.{All, Some, false, []}
 use Rattle.rev_model.specs.declared.Queue.{Queue}
 use Rattle.rev_model.specs.declared.Queue.TheVariants.{Hot, Warm, Cold, Temp}
 use Rattle.rev_script.specs.declared.command.StorageCommand.{StorageCommand}
-use Rattle.rev_script.specs.declared.command.StorageCommand.TheVariants.{Store}
+use Rattle.rev_script.specs.declared.command.StorageCommand.TheVariants.{Store, Join}
+use Rattle.rev_requests.specs.declared.clients.JoinSide.TheVariants as sides
 use Rattle.rev_requests.specs.declared.clients.StoreVerb.TheVariants as verbs
 use Rattle.rev_script.specs.declared.dialect.Dialect.TheVariants.{CrLf}
 use Rattle.rev_model.specs.Actor.{Step}
 use Rattle.rev_script.specs.Script.{ScriptLine, Cut, cuts, ActorLine, TuneLine}
 use Rattle.rev_script.specs.Steps.{steps_of}
 use Rattle.rev_import.specs.declared.writing.Storing.{Storing}
-use Rattle.rev_import.specs.declared.writing.Storing.TheVariants.{Set, Add, Replace}
+use Rattle.rev_import.specs.declared.writing.Storing.TheVariants.{Set, Add, Replace, Append, Prepend}
 
 -- a line that lies whole in the bytes
 abbrev pub whole_line : ScriptLine → Cut
@@ -76,11 +77,15 @@ abbrev pub storage : Storing → StorageCommand
 storage Set = Store verbs.Set
 storage Add = Store verbs.Add
 storage Replace = Store verbs.Replace
+storage Append = Join sides.Append
+storage Prepend = Join sides.Prepend
 
 abbrev pub storage_name : Storing → List ℕ
 storage_name Set = codes "set"
 storage_name Add = codes "add"
 storage_name Replace = codes "replace"
+storage_name Append = codes "append"
+storage_name Prepend = codes "prepend"
 
 -- how a line names a queue
 abbrev pub queue_name : Queue → List ℕ

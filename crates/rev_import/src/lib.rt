@@ -5,6 +5,8 @@ pub mod figures;
 mod guess;
 pub mod import;
 pub mod policy;
+pub mod requests;
+pub mod sample;
 mod scribe;
 pub mod setup;
 #[cfg(test)]

@@ -2,14 +2,15 @@
 ghost use Rattle.std.specs.Prelude.{◌≡◌, ◌≤◌, ◌<◌, ℕ, List, [], ◌∷◌, OnOk};
 ghost use Rattle.rev_script.specs.Script.{ScriptLine};
 ghost use Rattle.rev_import.specs.Writing.{Writes};
+ghost use Rattle.rev_import.specs.Requests.{increment, decrement};
 ghost use Rattle.rev_import.specs.Becoming.{look_up_lines, hit_lines, miss_lines, dropped_lines, store_lines, storing_of, exptime_of, event_lines, get, delete, Becomes};
 
 use crate::figures::{Figures, one_more};
 use crate::guess::{Guess, is_too_large};
 use crate::policy::Rhythm;
 use crate::writing::{
-    Storing, put_bump, put_clock, put_crawl, put_crawl_start, put_delete, put_get, put_move,
-    put_pull, put_reassign, put_store,
+    Storing, put_bump, put_clock, put_crawl, put_crawl_start, put_decrement, put_delete, put_get,
+    put_increment, put_move, put_pull, put_reassign, put_store,
 };
 use rev_classes::ClassTable;
 use rev_items::{Key, MAX_RELATIVE_TTL, footprint};
@@ -110,8 +111,15 @@ impl Scribe {
         }
     }
 
-    // The class of an item.
-    fn class_of<A: Allocator>(&self, key: &Key<A>, flags: u32, size: u32) -> Option<u32> {
+    /// One whose script begins at this second of the clock.
+    pub fn starting(classes: ClassTable, rhythm: Rhythm, clock: u32) -> Scribe {
+        let mut scribe = Scribe::new(classes, rhythm);
+        scribe.clock = Some(clock);
+        scribe
+    }
+
+    /// The class of an item, none where no page holds it.
+    pub fn class_of<A: Allocator>(&self, key: &Key<A>, flags: u32, size: u32) -> Option<u32> {
         let class = self
             .classes
             .class_of(footprint(key, flags, u64::from(size)))?;
@@ -128,7 +136,7 @@ impl Scribe {
         }
     }
 
-    fn set_clock<B: Allocator>(
+    pub fn set_clock<B: Allocator>(
         &mut self,
         now: u32,
         out: &mut Vec<u8, B>,
@@ -242,7 +250,7 @@ impl Scribe {
         }
     }
 
-    fn get<A: Allocator, B: Allocator>(
+    pub fn get<A: Allocator, B: Allocator>(
         &mut self,
         key: &Key<A>,
         out: &mut Vec<u8, B>,
@@ -255,7 +263,7 @@ impl Scribe {
         self.maintain(None, out, figures)
     }
 
-    fn delete<A: Allocator, B: Allocator>(
+    pub fn delete<A: Allocator, B: Allocator>(
         &mut self,
         key: &Key<A>,
         out: &mut Vec<u8, B>,
@@ -265,6 +273,32 @@ impl Scribe {
     {
         one_more(&mut figures.lines);
         put_delete(out, key)?;
+        self.maintain(None, out, figures)
+    }
+
+    pub fn increment<A: Allocator, B: Allocator>(
+        &mut self,
+        key: &Key<A>,
+        out: &mut Vec<u8, B>,
+        figures: &mut Figures,
+    ) -> Result<(), AllocError>
+        ensures { OnOk result (Writes out.old.items out.new.items (increment key.now ∷ [])) }
+    {
+        one_more(&mut figures.lines);
+        put_increment(out, key)?;
+        self.maintain(None, out, figures)
+    }
+
+    pub fn decrement<A: Allocator, B: Allocator>(
+        &mut self,
+        key: &Key<A>,
+        out: &mut Vec<u8, B>,
+        figures: &mut Figures,
+    ) -> Result<(), AllocError>
+        ensures { OnOk result (Writes out.old.items out.new.items (decrement key.now ∷ [])) }
+    {
+        one_more(&mut figures.lines);
+        put_decrement(out, key)?;
         self.maintain(None, out, figures)
     }
 
@@ -335,7 +369,7 @@ impl Scribe {
         self.drop_key(key, guess, out, figures)
     }
 
-    fn store<A: Allocator, B: Allocator>(
+    pub fn store<A: Allocator, B: Allocator>(
         &mut self,
         storing: Storing,
         key: &Key<A>,

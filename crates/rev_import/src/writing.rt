@@ -2,7 +2,8 @@
 ghost use Rattle.std.specs.Prelude.{◌≡◌, ◌++◌, ◌∷◌, [], ◌+◌, ◌%◌, ◌≤◌, ◌<◌, ◌^◌, length, map, codes, replicate, true, false, OnOk};
 ghost use Rattle.rev_model.specs.Client.{Bytes};
 ghost use Rattle.rev_model.specs.declared.ClassSet.TheVariants.{These};
-ghost use Rattle.rev_requests.specs.declared.clients.KeyCommand.TheVariants.{Delete};
+ghost use Rattle.rev_requests.specs.declared.clients.Arithmetic.TheVariants.{Increment, Decrement};
+ghost use Rattle.rev_requests.specs.declared.clients.KeyCommand.TheVariants.{Delete, Count};
 ghost use Rattle.rev_requests.specs.declared.actors.ActorStep.TheVariants.{Pull, Bump, Crawl, Advance, StartCrawl, Reassign, Clock, TempTtl};
 ghost use Rattle.rev_script.specs.Script.{RetrievalLine, UpdateLine, StorageLine, ActorLine, TuneLine};
 ghost use Rattle.rev_import.specs.Writing.{Adds, line_text, factor_text, storage, storage_name, queue_name};
@@ -20,7 +21,7 @@ pub const FILLER: u8 = b'x';
 pub const MOST_DATA: u32 = 1048576;
 
 /// The storage commands that an import writes. What a server stored by `append` or `cas` is written as `set`, since its
-/// log tells what was stored in the end.
+/// log tells what was stored in the end; of a trace only a `cas` is.
 #[derive(Clone, Copy, Debug, PartialEq, Eq)]
 pub enum Storing {
     /// Whatever the key holds.
@@ -29,6 +30,10 @@ pub enum Storing {
     Add,
     /// Where the key holds something.
     Replace,
+    /// Behind what the key holds.
+    Append,
+    /// In front of what the key holds.
+    Prepend,
 }
 
 // Writes the words of a line, parted by single spaces, and its end.
@@ -85,6 +90,26 @@ pub fn put_delete<A: Allocator, B: Allocator>(
     put_words(out, b"delete", &[key.bytes()])
 }
 
+/// Counts the number that a key holds up by one: `incr KEY 1`. A trace does not tell by how many.
+pub fn put_increment<A: Allocator, B: Allocator>(
+    out: &mut Vec<u8, A>,
+    key: &Key<B>,
+) -> Result<(), AllocError>
+    ensures { OnOk result (Adds out.old.items out.new.items (UpdateLine (Count (Increment 1)) key.now false ∷ [])) }
+{
+    put_words(out, b"incr", &[key.bytes(), b"1"])
+}
+
+/// Counts the number that a key holds down by one: `decr KEY 1`.
+pub fn put_decrement<A: Allocator, B: Allocator>(
+    out: &mut Vec<u8, A>,
+    key: &Key<B>,
+) -> Result<(), AllocError>
+    ensures { OnOk result (Adds out.old.items out.new.items (UpdateLine (Count (Decrement 1)) key.now false ∷ [])) }
+{
+    put_words(out, b"decr", &[key.bytes(), b"1"])
+}
+
 fn storage_name(command: Storing) -> &'static [u8]
     ensures { result.now ≡ storage_name command }
 {
@@ -92,10 +117,12 @@ fn storage_name(command: Storing) -> &'static [u8]
         Storing::Set => b"set",
         Storing::Add => b"add",
         Storing::Replace => b"replace",
+        Storing::Append => b"append",
+        Storing::Prepend => b"prepend",
     }
 }
 
-/// Stores filler: `set KEY FLAGS EXPTIME SIZE`, or `add`, or `replace`, and the data. The expiry time is protocol.txt's:
+/// Stores filler: `set KEY FLAGS EXPTIME SIZE`, or another storage command, and the data. The expiry time is protocol.txt's:
 /// 0 never, negative at once, up to thirty days from now, else a moment.
 pub fn put_store<A: Allocator, B: Allocator>(
     out: &mut Vec<u8, A>,

@@ -1,0 +1,3 @@
+//! Rows of traces by hand.
+
+mod rows;
