@@ -2,6 +2,7 @@
 #![tactic(auto)]
 
 mod import;
+mod state;
 
 ghost use Rattle.std.specs.Prelude.{◌≡◌, ◌≤◌, length, map, IfOk, IfSome, true, false};
 ghost use Rattle.rev_options.specs.Request.{IsInRange, IsHeap, IsOfWords, asks_import, is_temp_ttl};
@@ -11,6 +12,7 @@ use clap::error::ErrorKind;
 use clap::{Arg, ArgAction, ArgMatches, Command, Error, value_parser};
 pub use import::{STANDARD, WatchImport};
 use rev_classes::Config;
+pub use state::StateImport;
 use std::alloc::{AllocError, Global};
 use std::convert::AsStr;
 
@@ -44,6 +46,8 @@ pub enum Request {
     },
     /// Make a script of logs.
     ImportWatch(WatchImport),
+    /// Make a start of what a server told of its items.
+    ImportState(StateImport),
 }
 
 /// Why there is no request.

@@ -18,7 +18,7 @@ use Rattle.rev_watch.specs.declared.settings.StatFault.{StatFault}
 use Rattle.rev_watch.specs.declared.settings.StatFault.TheVariants as stat
 use Rattle.rev_program.specs.Telling.{joined}
 use Rattle.rev_program.specs.declared.stop.Stop.{Stop}
-use Rattle.rev_program.specs.declared.stop.Stop.TheVariants.{Usage, BadPage, BadFactor, TooManyClasses, BadLimit, Memory, CannotRead, CannotOpen, NotAStep, CannotWrite, TooLong, CannotWriteFile, BadLine, BadStats, NoEvent}
+use Rattle.rev_program.specs.declared.stop.Stop.TheVariants.{Usage, BadPage, BadFactor, TooManyClasses, BadLimit, Memory, CannotRead, CannotOpen, NotAStep, CannotWrite, TooLong, CannotWriteFile, BadLine, BadStats, NoEvent, BadImport}
 
 -- the exit status: 2 the command line or the configuration, 3 memory, 4 input or output, 5 a line that is not a step, or what
 -- is imported
@@ -38,6 +38,7 @@ status (CannotWriteFile name) = 4
 status (BadLine log n fault) = 5
 status (BadStats file fault) = 5
 status (NoEvent log) = 5
+status (BadImport told) = 5
 
 -- why a line of a log is none, in three parts
 abbrev pub line_parts : LineFault → List (List ℕ)
@@ -81,6 +82,7 @@ text (CannotWriteFile name) = codes "lrudb: " ++ string_bytes name ++ codes ": c
 text (BadLine log n fault) = line_told (string_bytes log) (decimal n) (line_parts fault)
 text (BadStats file fault) = stats_told (string_bytes file) (stat_parts fault)
 text (NoEvent log) = codes "lrudb: " ++ string_bytes log ++ codes ": no event\n"
+text (BadImport told) = string_bytes told
 
 -- the end of a program whose words ask for nothing that there is
 abbrev pub stop_of_words : Refused → Stop

@@ -10,6 +10,7 @@ ghost use Rattle.rev_program.specs.Telling.{Told};
 use crate::import::import_watch;
 use crate::play::play_files;
 use crate::starts::started;
+use crate::state::import_state;
 use crate::stop::Stop;
 use linked_list_allocator::LocalHeap;
 use rev_classes::{Config, fault_of};
@@ -240,5 +241,6 @@ pub fn program<
             },
         ) => record_files(rt, config, starts, files, &mut writer, errors),
         Ok(Request::ImportWatch(asked)) => import_watch(rt, asked, reader, &mut writer, errors),
+        Ok(Request::ImportState(asked)) => import_state(rt, asked, errors),
     }
 }

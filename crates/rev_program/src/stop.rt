@@ -52,6 +52,8 @@ pub enum Stop {
     },
     /// Logs, of which this is the first, have no event that is asked for.
     NoEvent(String),
+    /// What a server told of its items is at fault: the text that says so.
+    BadImport(String),
 }
 
 // What a fault of a line says, in three parts.
@@ -162,6 +164,7 @@ impl Stop {
             Stop::CannotWriteFile(_) => 4,
             Stop::NotAStep { .. } => 5,
             Stop::BadLine { .. } | Stop::BadStats { .. } | Stop::NoEvent(_) => 5,
+            Stop::BadImport(_) => 5,
         }
     }
 
@@ -199,6 +202,7 @@ impl Stop {
             Stop::BadLine { log, line, fault } => tell_line(errors, log.as_str(), *line, *fault),
             Stop::BadStats { file, fault } => tell_stats(errors, file.as_str(), *fault),
             Stop::NoEvent(name) => tell_parts(errors, &["lrudb: ", name.as_str(), ": no event\n"]),
+            Stop::BadImport(text) => tell_parts(errors, &[text.as_str()]),
         }
     }
 }

@@ -107,3 +107,13 @@ pub returns-in-BadStats-clause-ok : goal.returns-in-BadStats-clause-ok
 returns-in-BadStats-clause-ok g c =
     let t = rw c.as_str-in-BadStats.ensures.value at c.tell_stats.ensures.ok in
     rw c.in-BadStats.is t
+
+pub returns-in-BadImport-clause-told : goal.returns-in-BadImport-clause-told
+returns-in-BadImport-clause-told g c =
+    let t = rw c.as_str-in-BadImport.ensures.value at c.tell_parts-in-BadImport.ensures.told in
+    rw c.in-BadImport.is t
+
+pub returns-in-BadImport-clause-ok : goal.returns-in-BadImport-clause-ok
+returns-in-BadImport-clause-ok g c =
+    let t = rw c.as_str-in-BadImport.ensures.value at c.tell_parts-in-BadImport.ensures.ok in
+    rw c.in-BadImport.is t
