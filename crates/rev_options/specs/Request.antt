@@ -3,7 +3,7 @@
 use Rattle.std.specs.Prelude.{ℕ, ℤ, pos, negsuc, Bool, true, false, nat_eq, ◌≡◌, ◌≤◌, List, [], ◌∷◌, length, IfSome, codes}
 use Rattle.std.specs.Str.{bytes_eq}
 use Rattle.rev_options.specs.declared.Request.{Request}
-use Rattle.rev_options.specs.declared.Request.TheVariants.{Run, Record, ImportWatch, ImportCsv}
+use Rattle.rev_options.specs.declared.Request.TheVariants.{Run, Record, ImportWatch, ImportCsv, ImportState}
 
 -- -1 where no item enters TEMP, else a number of seconds
 abbrev pub is_temp_ttl : ℤ → Bool
@@ -20,6 +20,7 @@ IsInRange (Run config heap starts) = (is_temp_ttl config.temp_ttl ≡ true) × I
 IsInRange (Record config starts files) = (is_temp_ttl config.temp_ttl ≡ true) × (1 ≤ length files.items) × (length files.items ≤ 8)
 IsInRange (ImportWatch asked) = 1 ≤ length asked.logs.items
 IsInRange (ImportCsv asked) = (is_temp_ttl asked.config.temp_ttl ≡ true) × (1 ≤ length asked.traces.items)
+IsInRange (ImportState asked) = Unit {0}
 
 -- the first word says `import`
 abbrev pub asks_import : List (List ℕ) → Bool
@@ -30,4 +31,5 @@ asks_import (word ∷ words) = bytes_eq word (codes "import")
 abbrev pub IsOfWords : Bool → Request → Type 0
 IsOfWords asks (ImportWatch asked) = asks ≡ true
 IsOfWords asks (ImportCsv asked) = asks ≡ true
+IsOfWords asks (ImportState asked) = asks ≡ true
 IsOfWords asks other = Unit {0}

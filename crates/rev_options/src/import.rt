@@ -3,6 +3,7 @@ ghost use Rattle.std.specs.Prelude.{◌≡◌, ◌≤◌, length, map, true, IfO
 ghost use Rattle.rev_options.specs.Request.{IsInRange, IsOfWords, asks_import};
 
 use crate::csv::{csv_command, csv_import};
+use crate::state::{state_command, state_import};
 use crate::{Request, fault};
 use clap::error::ErrorKind;
 use clap::{Arg, ArgAction, ArgMatches, Command, Error, value_parser};
@@ -46,7 +47,7 @@ fn logs<'a>(alloc: Global) -> Arg<'a> {
 }
 
 // An option whose value is a text.
-pub fn text<'a>(alloc: Global, name: &'a str, unit: &'a str, help: &'a str) -> Arg<'a> {
+pub(crate) fn text<'a>(alloc: Global, name: &'a str, unit: &'a str, help: &'a str) -> Arg<'a> {
     Arg::new(alloc, name).long(name).value_name(unit).help(help)
 }
 
@@ -115,7 +116,8 @@ pub fn import_command<'a>(alloc: Global) -> Result<Command<'a>, AllocError> {
         .subcommand_required(true)
         .arg_required_else_help(true)
         .subcommand(watch_command(alloc)?)?
-        .subcommand(csv_command(alloc)?)
+        .subcommand(csv_command(alloc)?)?
+        .subcommand(state_command(alloc)?)
 }
 
 /// Whether the first word says `import`.
@@ -141,7 +143,11 @@ fn given(
 }
 
 // Each of these options is required and passed its parser, so none is absent.
-pub fn required(alloc: Global, matches: &ArgMatches<'_>, name: &str) -> Result<String, AllocError> {
+pub(crate) fn required(
+    alloc: Global,
+    matches: &ArgMatches<'_>,
+    name: &str,
+) -> Result<String, AllocError> {
     String::from_str(alloc, matches.get_str(name).unwrap_or(""))
 }
 
@@ -158,7 +164,7 @@ fn factor(text: &str) -> Option<Factor> {
     })
 }
 
-fn factor_of(alloc: Global, matches: &ArgMatches<'_>) -> Result<Option<Factor>, Error> {
+pub(crate) fn factor_of(alloc: Global, matches: &ArgMatches<'_>) -> Result<Option<Factor>, Error> {
     match matches.get_str("factor") {
         None => Ok(None),
         Some(text) => match factor(text) {
@@ -250,6 +256,9 @@ pub fn import(alloc: Global, matches: &ArgMatches<'_>) -> Result<Request, Error>
     }
     if let Some(inner) = matches.subcommand_matches("csv") {
         return Ok(Request::ImportCsv(csv_import(alloc, inner)?));
+    }
+    if let Some(inner) = matches.subcommand_matches("state") {
+        return Ok(Request::ImportState(state_import(alloc, inner)?));
     }
     Err(fault(alloc, ErrorKind::MissingSubcommand, "import watch")?)
 }

@@ -3,6 +3,7 @@
 
 mod csv;
 mod import;
+mod state;
 
 ghost use Rattle.std.specs.Prelude.{◌≡◌, ◌≤◌, length, map, IfOk, IfSome, true, false};
 ghost use Rattle.rev_options.specs.Request.{IsInRange, IsHeap, IsOfWords, asks_import, is_temp_ttl};
@@ -13,6 +14,7 @@ use clap::{Arg, ArgAction, ArgMatches, Command, Error, value_parser};
 pub use csv::CsvImport;
 pub use import::{STANDARD, WatchImport};
 use rev_classes::Config;
+pub use state::StateImport;
 use std::alloc::{AllocError, Global};
 use std::convert::AsStr;
 
@@ -48,6 +50,8 @@ pub enum Request {
     ImportWatch(WatchImport),
     /// Make a script of traces.
     ImportCsv(CsvImport),
+    /// Make a start of what a server told of its items.
+    ImportState(StateImport),
 }
 
 /// Why there is no request.

@@ -20,7 +20,7 @@ use Rattle.rev_watch.specs.declared.settings.StatFault.{StatFault}
 use Rattle.rev_watch.specs.declared.settings.StatFault.TheVariants as stat
 use Rattle.rev_program.specs.Telling.{joined}
 use Rattle.rev_program.specs.declared.stop.Stop.{Stop}
-use Rattle.rev_program.specs.declared.stop.Stop.TheVariants.{Usage, BadPage, BadFactor, TooManyClasses, BadLimit, Memory, CannotRead, CannotOpen, NotAStep, CannotWrite, TooLong, CannotWriteFile, BadLine, BadStats, NoEvent, BadRow, NoRow}
+use Rattle.rev_program.specs.declared.stop.Stop.TheVariants.{Usage, BadPage, BadFactor, TooManyClasses, BadLimit, Memory, CannotRead, CannotOpen, NotAStep, CannotWrite, TooLong, CannotWriteFile, BadLine, BadStats, NoEvent, BadRow, NoRow, BadImport}
 
 -- the exit status: 2 the command line or the configuration, 3 memory, 4 input or output, 5 a line that is not a step, or what
 -- is imported
@@ -42,6 +42,7 @@ status (BadStats file fault) = 5
 status (NoEvent log) = 5
 status (BadRow trace n fault) = 5
 status (NoRow trace) = 5
+status (BadImport told) = 5
 
 -- why a line of a log is none, in three parts
 abbrev pub line_parts : LineFault → List (List ℕ)
@@ -102,6 +103,7 @@ text (BadStats file fault) = stats_told (string_bytes file) (stat_parts fault)
 text (NoEvent log) = codes "lrudb: " ++ string_bytes log ++ codes ": no event\n"
 text (BadRow trace n fault) = row_told (string_bytes trace) (decimal n) (row_part fault)
 text (NoRow trace) = codes "lrudb: " ++ string_bytes trace ++ codes ": no row\n"
+text (BadImport told) = string_bytes told
 
 -- the end of a program whose words ask for nothing that there is
 abbrev pub stop_of_words : Refused → Stop

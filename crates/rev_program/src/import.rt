@@ -23,10 +23,10 @@ use std::{fs, io};
 // The names of the files that are written, each also as it is called until it is whole.
 #[derive(Drop)]
 pub(crate) struct Names {
-    script: String,
-    script_part: String,
-    options: String,
-    options_part: String,
+    pub(crate) script: String,
+    pub(crate) script_part: String,
+    pub(crate) options: String,
+    pub(crate) options_part: String,
 }
 
 // A text and an end.
@@ -41,6 +41,16 @@ impl Names {
         Ok(Names {
             script: with_end(alloc, prefix, ".script")?,
             script_part: with_end(alloc, prefix, ".script.part")?,
+            options: with_end(alloc, prefix, ".options")?,
+            options_part: with_end(alloc, prefix, ".options.part")?,
+        })
+    }
+
+    /// The same for a start in the place of a script.
+    pub(crate) fn of_start(alloc: Global, prefix: &str) -> Result<Names, AllocError> {
+        Ok(Names {
+            script: with_end(alloc, prefix, ".start")?,
+            script_part: with_end(alloc, prefix, ".start.part")?,
             options: with_end(alloc, prefix, ".options")?,
             options_part: with_end(alloc, prefix, ".options.part")?,
         })
@@ -79,7 +89,7 @@ fn unread(alloc: Global, error: io::Error, name: &str) -> Stop {
 }
 
 // The whole text of a file.
-fn text_of<R: Files + AllocGlobal>(rt: &R, name: &str) -> Result<Vec<u8>, Stop> {
+pub(crate) fn text_of<R: Files + AllocGlobal>(rt: &R, name: &str) -> Result<Vec<u8>, Stop> {
     match fs::read(rt, name) {
         Ok(text) => Ok(text),
         Err(error) => Err(unread(rt.alloc(), error, name)),
@@ -93,7 +103,7 @@ fn bad_stats(alloc: Global, name: &str, fault: StatFault) -> Stop {
     }
 }
 
-fn settings_of<R: Files + AllocGlobal>(rt: &R, name: &str) -> Result<Settings, Stop> {
+pub(crate) fn settings_of<R: Files + AllocGlobal>(rt: &R, name: &str) -> Result<Settings, Stop> {
     let text = text_of(rt, name)?;
     match read_settings(text.as_slice()) {
         Ok(settings) => Ok(settings),
@@ -250,7 +260,7 @@ fn rename<R: Files>(rt: &R, alloc: Global, part: &str, name: &str) -> Result<(),
 }
 
 // Gives both files their names, or the first one's is taken away again.
-fn rename_both<R: Files>(rt: &R, alloc: Global, files: &Names) -> Result<(), Stop> {
+pub(crate) fn rename_both<R: Files>(rt: &R, alloc: Global, files: &Names) -> Result<(), Stop> {
     rename(rt, alloc, files.script_part.as_str(), files.script.as_str())?;
     match rename(
         rt,

@@ -8,6 +8,7 @@ pub mod play;
 pub mod program;
 mod rows;
 mod starts;
+pub mod state;
 mod steps;
 mod stop;
 mod telling;

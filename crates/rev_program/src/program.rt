@@ -10,6 +10,7 @@ ghost use Rattle.rev_program.specs.Telling.{Told};
 use crate::import::import_watch;
 use crate::play::play_files;
 use crate::starts::started;
+use crate::state::import_state;
 use crate::stop::Stop;
 use crate::traces::import_csv;
 use linked_list_allocator::LocalHeap;
@@ -242,5 +243,6 @@ pub fn program<
         ) => record_files(rt, config, starts, files, &mut writer, errors),
         Ok(Request::ImportWatch(asked)) => import_watch(rt, asked, reader, &mut writer, errors),
         Ok(Request::ImportCsv(asked)) => import_csv(rt, asked, reader, &mut writer, errors),
+        Ok(Request::ImportState(asked)) => import_state(rt, asked, errors),
     }
 }

@@ -61,6 +61,8 @@ pub enum Stop {
     },
     /// Traces, of which this is the first, have no row that is asked for.
     NoRow(String),
+    /// What a server told of its items is at fault: the text that says so.
+    BadImport(String),
 }
 
 // What a fault of a line says, in three parts.
@@ -207,7 +209,7 @@ impl Stop {
             Stop::CannotWriteFile(_) => 4,
             Stop::NotAStep { .. } => 5,
             Stop::BadLine { .. } | Stop::BadStats { .. } | Stop::NoEvent(_) => 5,
-            Stop::BadRow { .. } | Stop::NoRow(_) => 5,
+            Stop::BadRow { .. } | Stop::NoRow(_) | Stop::BadImport(_) => 5,
         }
     }
 
@@ -249,6 +251,7 @@ impl Stop {
                 tell_row(errors, trace.as_str(), *line, *fault)
             }
             Stop::NoRow(name) => tell_parts(errors, &["lrudb: ", name.as_str(), ": no row\n"]),
+            Stop::BadImport(text) => tell_parts(errors, &[text.as_str()]),
         }
     }
 }

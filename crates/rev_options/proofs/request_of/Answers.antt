@@ -1,13 +1,14 @@
 use Rattle.std.proofs.Common.{◌≡◌, Bool, true, false, Result, Ok, Err, IfOk}
 use Rattle.rev_options.specs.Request.{IsOfWords}
 use Rattle.rev_options.specs.declared.Request.{Request}
-use Rattle.rev_options.specs.declared.Request.TheVariants.{ImportWatch, ImportCsv}
+use Rattle.rev_options.specs.declared.Request.TheVariants.{ImportWatch, ImportCsv, ImportState}
 use Rattle.rev_options.proofs.request_of.Goals as goal
 
 -- what is no import is asked for by any words
 no_import : {E : Type 0} (asks : Bool) (r : Result Request E) → IfOk r (IsOfWords false) → IfOk r (IsOfWords asks)
 no_import asks (Ok (ImportWatch asked)) h = absurd (let e : false ≡ true = h in cc)
 no_import asks (Ok (ImportCsv asked)) h = absurd (let e : false ≡ true = h in cc)
+no_import asks (Ok (ImportState asked)) h = absurd (let e : false ≡ true = h in cc)
 no_import asks (Ok other) h = tt
 no_import asks (Err e) h = tt
 

@@ -127,3 +127,13 @@ pub returns-in-BadRow-clause-ok : goal.returns-in-BadRow-clause-ok
 returns-in-BadRow-clause-ok g c =
     let t = rw c.as_str-in-BadRow.ensures.value at c.tell_row.ensures.ok in
     rw c.in-BadRow.is t
+
+pub returns-in-BadImport-clause-told : goal.returns-in-BadImport-clause-told
+returns-in-BadImport-clause-told g c =
+    let t = rw c.as_str-in-BadImport.ensures.value at c.tell_parts-in-BadImport.ensures.told in
+    rw c.in-BadImport.is t
+
+pub returns-in-BadImport-clause-ok : goal.returns-in-BadImport-clause-ok
+returns-in-BadImport-clause-ok g c =
+    let t = rw c.as_str-in-BadImport.ensures.value at c.tell_parts-in-BadImport.ensures.ok in
+    rw c.in-BadImport.is t

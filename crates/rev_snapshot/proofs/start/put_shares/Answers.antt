@@ -1,0 +1,6 @@
+use Rattle.std.proofs.lemmas.Result.{on_ok_weaker}
+use Rattle.rev_snapshot.proofs.Starting.{tuned}
+use Rattle.rev_snapshot.proofs.start.put_shares.Goals as goal
+
+pub returns-in-Ok : goal.returns-in-Ok
+returns-in-Ok g c = on_ok_weaker c.put_tune.result (tuned _) c.put_tune.ensures
