@@ -19,6 +19,8 @@ mod memory;
 #[cfg(test)]
 mod mentions;
 #[cfg(test)]
+mod opened;
+#[cfg(test)]
 mod owned;
 #[cfg(test)]
 mod players;
