@@ -1,5 +1,5 @@
 //! The words of `lrudb import`.
-ghost use Rattle.std.specs.Prelude.{◌≡◌, ◌≤◌, length, map, true, IfOk};
+ghost use Rattle.std.specs.Prelude.{◌≡◌, ◌≤◌, length, map, true, false, IfOk};
 ghost use Rattle.rev_options.specs.Request.{IsInRange, IsOfWords, OpensBy, asks_import};
 
 use crate::{Request, fault};

@@ -1,5 +1,5 @@
 //! The words of `lrudb open`.
-ghost use Rattle.std.specs.Prelude.{◌≡◌, map, true, IfOk};
+ghost use Rattle.std.specs.Prelude.{◌≡◌, map, true, false, IfOk};
 ghost use Rattle.rev_options.specs.Request.{IsInRange, IsOfWords, asks_open, OpensBy};
 
 use crate::import::STANDARD;
