@@ -40,7 +40,7 @@ module _ (told tells : Option (List ℕ)) (before after : ℕ) where
     | inr e ↦ inr (e.0, e.1)
   ]
 
-kept : (a : Option (List ℕ)) → Keeps a a
+pub kept : (a : Option (List ℕ)) → Keeps a a
 kept None = tt
 kept (Some xs) = refl
 

@@ -1,10 +1,9 @@
 //! `lrudb open`: traces are played, each step as a node, and then a session is answered at any of them.
-ghost use Rattle.std.specs.Prelude.{◌≡◌, ◌≢◌, ◌×◌, OnOk, IfOk, IfSome};
+ghost use Rattle.std.specs.Prelude.{IfOk, IfSome};
 ghost use Rattle.rev_classes.specs.Limits.{IsWithinLimits, fault_of};
 ghost use Rattle.rev_program.specs.Opening.{IsTrace, AreTraces, IsOpened, IsNoted};
 ghost use Rattle.rev_program.specs.Program.{IsStatus, StopsBy, EndsBehind};
 ghost use Rattle.rev_program.specs.Stop.{stop_of_config};
-ghost use Rattle.rev_program.specs.declared.opening.Full.{Full};
 
 use crate::program::{all_opened, ended, run_on};
 use crate::starts::started;
@@ -111,61 +110,37 @@ fn note<E: Sink>(full: &Option<Full>, errors: &mut E)
     }
 }
 
-// Plays the starts and the traces, and then answers the session that the reader gives, of which LF ends data as CR LF does.
-fn look_around<F: Read + Drop, I: Read + Drop, O: Write + Drop, E: Sink>(
-    alloc: Global,
+// The files, opened in order, those of the starts first, and what `with_traces` makes of them.
+fn opened_with_traces<R: Files + AllocGlobal>(
+    rt: &R,
     config: &Config,
-    starts: Vec<(String, F)>,
-    traces: Vec<(String, F)>,
+    starts: Vec<String>,
+    traces: Vec<String>,
+) -> Result<(Session<Global>, Option<Full>), Stop>
+    requires { IsWithinLimits config.now }
+{
+    let starts = all_opened(rt, rt.alloc(), starts)?;
+    let traces = all_opened(rt, rt.alloc(), traces)?;
+    with_traces(&rt.alloc(), config, starts, traces)
+}
+
+// Answers the session that the reader gives, of which LF ends data as CR LF does.
+fn answer<I: Read + Drop, O: Write + Drop>(
+    alloc: Global,
+    session: Session<Global>,
     reader: I,
     writer: O,
-    errors: &mut E,
-) -> Result<(), Stop>
-    requires { IsWithinLimits config.now }
-    ensures { (full : Option Full) × IsNoted (E.contents errors.old) (E.contents errors.new) (E.failures errors.old) (E.failures errors.new) full }
-{
+) -> Result<(), Stop> {
+    // Where there is no memory the program ends, and all memory goes back at once.
     let Ok(exchange) = Exchange::new(alloc, writer) else {
+        let _session = ManuallyDrop::new(session);
         return Err(Stop::Memory);
     };
     let Ok(incoming) = Incoming::new(alloc, reader, &exchange) else {
+        let _session = ManuallyDrop::new(session);
         return Err(Stop::Memory);
     };
-    match with_traces(&alloc, config, starts, traces) {
-        Err(stop) => Err(stop),
-        Ok((session, full)) => {
-            note(&full, errors);
-            run_on(&alloc, session, Dialect::AnyFeed, incoming, &exchange)
-        }
-    }
-}
-
-// Opens the files, those of the starts first, and then does as `look_around`.
-fn open_sound<R: Files + AllocGlobal, I: Read + Drop, O: Write + Drop, E: Sink>(
-    rt: &R,
-    asked: Opening,
-    reader: I,
-    writer: O,
-    errors: &mut E,
-) -> Result<(), Stop>
-    requires { IsWithinLimits asked.config }
-    ensures { (full : Option Full) × IsNoted (E.contents errors.old) (E.contents errors.new) (E.failures errors.old) (E.failures errors.new) full }
-{
-    let starts = match all_opened(rt, rt.alloc(), asked.starts) {
-        Err(stop) => return Err(stop),
-        Ok(starts) => starts,
-    };
-    match all_opened(rt, rt.alloc(), asked.traces) {
-        Err(stop) => Err(stop),
-        Ok(traces) => look_around(
-            rt.alloc(),
-            &asked.config,
-            starts,
-            traces,
-            reader,
-            writer,
-            errors,
-        ),
-    }
+    run_on(&alloc, session, Dialect::AnyFeed, incoming, &exchange)
 }
 
 /// Plays the traces that are asked for, and answers the session that the reader gives. A configuration at fault is told
@@ -182,9 +157,19 @@ pub fn open_traces<R: Files + AllocGlobal, I: Read + Drop, O: Write + Drop, E: S
     ensures status { IsStatus result }
     ensures ends { EndsBehind (E.contents errors.old) (E.contents errors.new) (E.failures errors.old) (E.failures errors.new) result }
 {
-    if let Some(fault) = fault_of(&asked.config) {
+    let Opening {
+        config,
+        starts,
+        traces,
+    } = asked;
+    if let Some(fault) = fault_of(&config) {
         return ended(Err(Stop::from(fault)), errors);
     }
-    let done = open_sound(rt, asked, reader, writer, errors);
-    ended(done, errors)
+    match opened_with_traces(rt, &config, starts, traces) {
+        Err(stop) => ended(Err(stop), errors),
+        Ok((session, full)) => {
+            note(&full, errors);
+            ended(answer(rt.alloc(), session, reader, writer), errors)
+        }
+    }
 }

@@ -78,7 +78,11 @@ fn full(rt: HostRuntime) {
             .expect(&rt, "no memory");
     }
     let found = played(&rt, trace.as_slice());
-    assert!(rt; found.0 == Ok(TraceEnd::Full { line: 262144 }) && found.1 == 1048576, "{}", found.1);
+    assert!(rt;
+        found.0 == Ok(TraceEnd::Full { line: 262144 }) && found.1 == 1048576,
+        "{}",
+        found.1
+    );
 }
 
 struct Case {
