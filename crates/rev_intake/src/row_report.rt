@@ -37,10 +37,30 @@ fn put_others<A: Allocator>(
 ) -> Result<(), AllocError>
     ensures { OnOk result (out.new.items ≡ behind out.old.items (other_parts counts.now figures.now)) }
 {
-    put_part(out, b"late: ", counts.late, b" rows with an earlier second than one before them\n")?;
-    put_part(out, b"unknown: ", counts.unknown, b" rows of other operations\n")?;
-    put_part(out, b"sample: ", counts.left_out, b" rows of other keys left out\n")?;
-    put_part(out, b"too large: ", figures.too_large, b" values for a page\n")?;
+    put_part(
+        out,
+        b"late: ",
+        counts.late,
+        b" rows with an earlier second than one before them\n",
+    )?;
+    put_part(
+        out,
+        b"unknown: ",
+        counts.unknown,
+        b" rows of other operations\n",
+    )?;
+    put_part(
+        out,
+        b"sample: ",
+        counts.left_out,
+        b" rows of other keys left out\n",
+    )?;
+    put_part(
+        out,
+        b"too large: ",
+        figures.too_large,
+        b" values for a page\n",
+    )?;
     put_part(out, b"wrote: ", figures.lines, b" steps\n")
 }
 

@@ -8,10 +8,7 @@ use rev_output::{Sink, WriteFailed, write_all};
 use std::alloc::Allocator;
 
 /// Sends what is at hand.
-pub fn send<A: Allocator, K: Sink>(
-    out: &mut Vec<u8, A>,
-    sink: &mut K,
-) -> Result<(), WriteFailed>
+pub fn send<A: Allocator, K: Sink>(out: &mut Vec<u8, A>, sink: &mut K) -> Result<(), WriteFailed>
     ensures sends { OnOk result (Sends out.old.items out.new.items [] (K.contents sink.old) (K.contents sink.new) (K.failures sink.old) (K.failures sink.new)) }
     ensures all { OnOk result (out.new.items ≡ []) }
     ensures err { OnErr result (K.failures sink.new ≡ one_more (K.failures sink.old)) }

@@ -9,5 +9,6 @@ pub mod Run
 pub mod Quiet
 pub mod Traces
 pub mod Start
+pub mod Kept
 pub mod Views
 pub mod Classes

@@ -11,6 +11,7 @@ pub mod run;
 mod show;
 pub mod start;
 pub mod text;
+pub mod trace;
 mod tree;
 mod views;
 pub mod words;

@@ -15,6 +15,8 @@ mod memory;
 #[cfg(test)]
 mod mentions;
 #[cfg(test)]
+mod opened;
+#[cfg(test)]
 mod owned;
 #[cfg(test)]
 mod players;
