@@ -11,8 +11,9 @@ A case is a folder with these files:
     most      in place of `stdout`, more than is written there: some whole lines of it are, and not all
     end       in place of `stdout`, what the standard output ends with
     like      in place of `stdout`, a regular expression for each line that is written there
-    script, options
-              at status 0 what PREFIX.script and PREFIX.options hold, where `--out PREFIX` is among the words
+    script, start, options
+              at status 0 what PREFIX.script or PREFIX.start, and PREFIX.options hold, where `--out PREFIX` is among the
+              words
     cut       with the line `after each byte`, where the log is also cut after each byte
 
 All others are the files that the program is run beside. Two names stand for what would be long, or many:
@@ -40,7 +41,7 @@ import re
 from functools import partial
 
 OUTPUTS = ("stdout", "most", "end", "like")
-RESERVED = ("words", "status", "stderr", "has", "stdin", *OUTPUTS, "script", "options", "cut")
+RESERVED = ("words", "status", "stderr", "has", "stdin", *OUTPUTS, "script", "start", "options", "cut")
 STANDARD = "-"
 # The sizes of the pieces in which a log comes, and the longest log that is read in pieces.
 SIZES = (1, 2, 3, 5, 64, 4096)
@@ -143,13 +144,14 @@ class Case:
         self.name, self.words, self.files = name, words, files
         self.status, self.err = known["status"], known["stderr"]
         self.script, self.options, self.is_cut = known.get("script"), known.get("options"), known.get("cut")
+        self.start = known.get("start")
         self.input, self.output = (known.get(it) or b"" for it in ("stdin", "stdout"))
         self.most, self.end, self.like = (known.get(it) for it in ("most", "end", "like"))
         self.has = (known.get("has") or b"").splitlines()
         self.prefix = next((b for a, b in zip(words, words[1:]) if a == "--out"), None)
         logs = [b for a, b in zip(words, words[1:]) if b in files and not a.startswith("--")]
         self.log = logs[0] if len(logs) == 1 and words[0] == "import" else None
-        if self.status == 0 and self.prefix and not self.script:
+        if self.status == 0 and self.prefix and not self.script and not self.start:
             raise ValueError(f"{name}: no script is wanted")
 
     def run(self, runner, log=None, size=None, out=None, fails=False, output=None):
@@ -185,7 +187,8 @@ class Case:
             return End(self.status, self.output, err, files)
         if out == STANDARD:
             return End(0, self.script, err if self.prefix == out else self.beside_script(err), files)
-        made = {f"{out}.script": self.script, f"{out}.options": self.options}
+        made = {f"{out}.start": self.start} if self.start else {f"{out}.script": self.script}
+        made[f"{out}.options"] = self.options
         return End(0, self.output, err, {**files, **made})
 
     def beside_script(self, err):
@@ -222,7 +225,7 @@ class Case:
         fault = self.fault_of_writes(runner)
         if fault:
             return f"where a write fails: {fault}"
-        if not self.prefix:
+        if not self.prefix or self.start:
             return None
         fault = self.run(runner, out=STANDARD).difference(self.wanted(out=STANDARD))
         return f"with --out -: {fault}" if fault else None
@@ -242,7 +245,7 @@ class Case:
 
     def fault_of_writes(self, runner):
         """What is wrong where the standard output takes nothing."""
-        out = STANDARD if self.prefix else None
+        out = STANDARD if self.prefix and not self.start else None
         if self.status or not (out or self.output or self.end or self.like):
             return None
         with open("/dev/full", "wb") as full:
