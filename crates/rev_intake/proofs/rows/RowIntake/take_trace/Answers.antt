@@ -6,6 +6,11 @@ use Rattle.rev_intake.proofs.rows.RowIntake.take_trace.Goals as goal
 pub rows-init : goal.rows-init
 rows-init g c = nothing_read _ _ _ _ _ _ c.over-trace.ensures.steady c.over-trace.ensures.starts
 
+pub rows-preserved : goal.rows-preserved
+rows-preserved g c =
+    let next = rw (c.in-Ok-Some.is, c.in-Ok-Some.field-0-is) at c.next.ensures.ok in
+    row_more _ _ c.rows.trace c.next.new.self _ _ _ _ _ _ _ _ _ _ c.rows.invariant next.0 next.1 c.in-Ok.ensures.takes
+
 pub rows-preserved-in-Ok : goal.rows-preserved-in-Ok
 rows-preserved-in-Ok g c =
     let next = rw (c.in-Ok-Some.is, c.in-Ok-Some.field-0-is) at c.next.ensures.ok in
