@@ -16,18 +16,14 @@ use Rattle.rev_script.specs.declared.byte_reader.LineFault.TheVariants as faults
 use Rattle.rev_script.proofs.Cuts.{onwards-nil}
 use Rattle.rev_script.proofs.Known.{Consumes-then}
 use Rattle.rev_script.proofs.Scripts.{lines-nil, all_steps-more}
-use Rattle.rev_shell.specs.Quiet.{trace_fault, quiet_of}
-use Rattle.rev_shell.specs.Kept.{Fits, Plays, Fills, IsFilled, IsTraced}
+use Rattle.rev_shell.specs.Quiet.{trace_fault}
+use Rattle.rev_shell.specs.Kept.{Plays, Fills, IsFilled, IsTraced}
 use Rattle.rev_shell.specs.Traces.{IsThrough, IsCutOff, Because, StepsBefore}
 use Rattle.rev_shell.specs.declared.quiet.TraceFault.{TraceFault}
 use Rattle.rev_shell.specs.declared.quiet.TraceFault.TheVariants as traces
 use Rattle.rev_shell.specs.declared.trace.TraceEnd.{TraceEnd}
 use Rattle.rev_shell.specs.declared.trace.TraceEnd.TheVariants as ends
-use Rattle.rev_shell.specs.Answers.{reply, played, after_step, if_played}
-use Rattle.rev_shell.specs.declared.play.Reply.{Reply}
-use Rattle.rev_shell.specs.declared.play.Reply.TheVariants as replies
-use Rattle.rev_shell.specs.declared.quiet.Quiet.{Quiet}
-use Rattle.rev_shell.specs.declared.quiet.Quiet.TheVariants as quiets
+use Rattle.rev_shell.specs.Answers.{after_step}
 use Rattle.rev_shell.proofs.Runs.{AreWhole, lines-more, whole_lines-more, whole_then, last_then, plain_ahead, read_of, read_all, in_dialect, over_now, then_line}
 use Rattle.std.specs.Prelude.{◌≡◌, ◌⊎◌, ℕ, List, ◌++◌, length, Some}
 
@@ -272,9 +268,9 @@ pub cut_off_told : {d : Dialect} {e : TraceFault} (a b : Told) (n m : ℕ) → I
 cut_off_told {d} {e} a b n m x = record { read = x.read; took = x.took; because = because_told e d x.read a b n m x.because }
 
 -- how a trace went, said of the source itself
-pub traced_told : {d : Dialect} (end : TraceEnd) (a b : Told) (n m : ℕ) (s t : SessionState) → IsTraced end d (told_by a n) (told_by b m) s t → IsTraced end d a b s t
-traced_told ends.Whole a b n m s t x = through_told (λ steps. Plays s steps t) (λ steps. Plays s steps t) a b n m x (λ steps p. p)
-traced_told (ends.Full line) a b n m s t x = record { read = x.read; took = x.took; full = x.full }
+pub traced_told : (d : Dialect) (end : TraceEnd) (a b : Told) (n m : ℕ) (s t : SessionState) → IsTraced end d (told_by a n) (told_by b m) s t → IsTraced end d a b s t
+traced_told d ends.Whole a b n m s t x = through_told (λ steps. Plays s steps t) (λ steps. Plays s steps t) a b n m x (λ steps p. p)
+traced_told d (ends.Full line) a b n m s t x = record { read = x.read; took = x.took; full = x.full }
 
 -- ---- steps, one behind another, whose nodes are kept
 
@@ -285,29 +281,3 @@ plays_more m u t (x ∷ xs) ys p q = (p.0, plays_more (after_step m x) u t xs ys
 pub fills_more : (m u t : SessionState) (xs ys : List Step) → Plays m xs u → Fills u ys t → Fills m (xs ++ ys) t
 fills_more m u t [] ys p q = subst (λ s. Fills s ys t) p q
 fills_more m u t (x ∷ xs) ys p q = inr (p.0, fills_more (after_step m x) u t xs ys p.1 q)
-
-unplayed : (r : Reply) (a b : SessionState) → (quiet_of r ≡ quiets.Played → ⊥) → if_played r a b ≡ b
-unplayed (replies.Played o) a b no = absurd (no refl)
-unplayed replies.TooManyNodes a b no = refl
-unplayed replies.TooDeep a b no = refl
-
-pub plays_one : (m t : SessionState) (e : Step) (q : Quiet) → q ≡ quiet_of (reply m e) → q ≡ quiets.Played → t ≡ after_step m e → Plays m (e ∷ []) t
-plays_one m t e q is fits after = (sym is ∙ fits, after)
-
-pub fills_one : (m t : SessionState) (e : Step) (q : Quiet) → q ≡ quiet_of (reply m e) → (q ≡ quiets.Played → ⊥) → t ≡ after_step m e → Fills m (e ∷ []) t
-fills_one m t e q is no after =
-    let never : Fits m e → ⊥ = λ f. no (is ∙ f) in
-    inl (never, after ∙ unplayed (reply m e) (played m e) m never)
-
--- a step, and then others
-pub plays_then : (m u t : SessionState) (e : Step) (es : List Step) → Plays m (e ∷ []) u → Plays u es t → Plays m (e ∷ es) t
-plays_then m u t e es p q = (p.0, subst (λ s. Plays s es t) p.1 q)
-
-pub fills_then : (m u t : SessionState) (e : Step) (es : List Step) → Plays m (e ∷ []) u → Fills u es t → Fills m (e ∷ es) t
-fills_then m u t e es p q = inr (p.0, subst (λ s. Fills s es t) p.1 q)
-
-pub fills_first : (m t : SessionState) (e : Step) (es : List Step) → Fills m (e ∷ []) t → Fills m (e ∷ es) t
-fills_first m t e es h = elim h [
-  | inl a ↦ inl a
-  | inr b ↦ absurd b.1
-]
