@@ -28,7 +28,7 @@ returns-in-Err-play_line-clause-err g c =
 pub returns-in-Ok-NotAStep-clause-err : goal.returns-in-Ok-NotAStep-clause-err
 returns-in-Ok-NotAStep-clause-err g c =
     let i = c.loop-before.invariant in
-    let o = rw c.in-Ok-NotAStep.is at c.in-Ok-NotAStep.ensures in
+    let o = rw c.in-Ok-NotAStep.field-0-is at c.in-Ok-NotAStep.ensures in
     let n = rw c.in-Some.is at c.in-Ok.ensures.ok in
     let w = still_whole i.2 (λ e. let x = (c.in-Ok.ensures.stays i.0 e.ended).0 in cc) in
     rw c.count_anew.ensures (other_now _ _ _ c.next.new.self.input _ _ (first-unused _ c.requires) i.2 _ _ refl w n o)
@@ -38,7 +38,7 @@ returns-in-Ok-Full-clause-ok g c =
     let i = c.loop-before.invariant in
     let n = rw c.in-Some.is at c.in-Ok.ensures.ok in
     let w = still_whole i.2 (λ e. let x = (c.in-Ok.ensures.stays i.0 e.ended).0 in cc) in
-    let a = rw c.in-Ok-Full.is at c.in-Ok-Full.ensures in
+    let a = rw c.in-Ok-Full.field-0-is at c.in-Ok-Full.ensures in
     rw c.count_anew.ensures (filled_now _ _ _ c.next.new.self.input _ _ (first-unused _ c.requires) i.2 _ a.0 _ _ _ refl w n a.1
     (fills_more _ c.loop-before.session _ i.2.steps a.0 i.2.so a.2))
 
@@ -47,7 +47,7 @@ loop-before-preserved g c =
     let i = c.loop-before.invariant in
     let n = rw c.in-Some.is at c.in-Ok.ensures.ok in
     let w = still_whole i.2 (λ e. let x = (c.in-Ok.ensures.stays i.0 e.ended).0 in cc) in
-    let a = rw c.in-Ok-Through.is at c.in-Ok-Through.ensures in
+    let a = rw c.in-Ok-Through.field-0-is at c.in-Ok-Through.ensures in
     rw c.count_anew.ensures (
       c.in-Ok.ensures.good,
       refl,
