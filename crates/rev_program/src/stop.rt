@@ -174,6 +174,23 @@ fn row_fault(fault: RowFault) -> &'static str
     }
 }
 
+// Tells a row of a trace and why it is none.
+fn tell_row_by<'a, E: Sink>(
+    errors: &mut E,
+    trace: &'a str,
+    digits: &'a str,
+    why: &'a str,
+) -> Result<(), WriteFailed>
+    ensures told { Told (E.contents errors.old) (E.contents errors.new) (E.failures errors.old) (E.failures errors.new) (row_told trace.now digits.now why.now) }
+    ensures ok { OnOk result (Appends (E.contents errors.old) (E.contents errors.new) (row_told trace.now digits.now why.now)) }
+    ensures err { OnErr result (E.failures errors.new ≡ one_more (E.failures errors.old)) }
+{
+    tell_parts(
+        errors,
+        &["lrudb: ", trace, ": line ", digits, ": ", why, "\n"],
+    )
+}
+
 // Tells why a row of a trace is none.
 fn tell_row<E: Sink>(
     errors: &mut E,
@@ -186,12 +203,8 @@ fn tell_row<E: Sink>(
     ensures err { OnErr result (E.failures errors.new ≡ one_more (E.failures errors.old)) }
 {
     let mut number = Buffer::new();
-    let digits = number.format(line);
     let why = row_fault(fault);
-    tell_parts(
-        errors,
-        &["lrudb: ", trace, ": line ", digits, ": ", why, "\n"],
-    )
+    tell_row_by(errors, trace, number.format(line), why)
 }
 
 impl Stop {
