@@ -24,12 +24,12 @@ All others are the files that the program is run beside. Two names stand for wha
                 and the lines below them are the text on the standard error, or an empty line where nothing is told.
                 Of words, all stand on one line.
 
-A log is a word that names a file and stands behind no option. Each case is run on its files, and with the script on
-the standard output. What is read from the standard input comes at once and byte by byte. An import of a single log
-also gets it from there: at once, byte by byte and in pieces of some other sizes, to files and to the standard output,
-and at status 0 with a read that fails at its end. At status 2 a read that fails at once changes nothing, since none is
-made. At status 0 a write to the standard output that fails is told, with status 4. No file is left but the script and
-the options, and these only at status 0.
+A log of an import, or its trace, is a word that names a file and stands behind no option. Each case is run on its
+files, and with the script on the standard output. What is read from the standard input comes at once and byte by byte.
+An import of a single log also gets it from there: at once, byte by byte and in pieces of some other sizes, to files and
+to the standard output, and at status 0 with a read that fails at its end. At status 2 a read that fails at once changes
+nothing, since none is made. At status 0 a write to the standard output that fails is told, with status 4: behind what
+is told of the traces of `open`. No file is left but the script and the options, and these only at status 0.
 
 Where a log is cut after whole lines, of which one tells an event, it becomes a script of whole lines, and the options
 are the same; where there is none, `no event` is told. What stands of a line behind them changes nothing but that a
@@ -46,6 +46,8 @@ STANDARD = "-"
 # The sizes of the pieces in which a log comes, and the longest log that is read in pieces.
 SIZES = (1, 2, 3, 5, 64, 4096)
 LONG = 65536
+# How lines begin that stand before the options, where an import tells these: of what was made of its settings.
+FIRST_TOLD = (b"settings: ", b"sample: pages of ")
 
 
 def read(file):
@@ -194,7 +196,7 @@ class Case:
     def beside_script(self, err):
         """What is told where the script goes to the standard output: the options too, and no files."""
         lines = err.splitlines(True)
-        settings = next(at for at, it in enumerate(lines) if not it.startswith(b"settings: "))
+        settings = next(at for at, it in enumerate(lines) if not it.startswith(FIRST_TOLD))
         if not lines[-1].startswith(b"to run it: "):
             raise ValueError(f"{self.name}: stderr does not tell how the script is run")
         return b"".join([*lines[:settings], self.options, *lines[settings:-1]])
@@ -250,7 +252,8 @@ class Case:
             return None
         with open("/dev/full", "wb") as full:
             ended = self.run(runner, out=out, output=full.fileno())
-        return ended.difference(End(4, b"", b"lrudb: cannot write\n", self.files))
+        first = self.err if self.words[0] == "open" else b""
+        return ended.difference(End(4, b"", first + b"lrudb: cannot write\n", self.files))
 
     def missing(self, err):
         """What does not stand in the text on the standard error."""

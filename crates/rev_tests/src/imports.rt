@@ -1,8 +1,7 @@
 //! Logs of a cache, taken in and made into scripts, where a read is interrupted, or a write or a file's call fails. What
-//! becomes of other logs stands in `worked/imports`.
+//! becomes of other logs, and of traces, stands in `worked/imports`.
 mod disk;
 mod files;
-mod traces;
 
 use crate::streams::{Narrow, Stutter};
 use rev_import::policy::Rhythm;

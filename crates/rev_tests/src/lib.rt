@@ -15,8 +15,6 @@ mod memory;
 #[cfg(test)]
 mod mentions;
 #[cfg(test)]
-mod opened;
-#[cfg(test)]
 mod owned;
 #[cfg(test)]
 mod players;
