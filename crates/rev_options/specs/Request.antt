@@ -1,9 +1,10 @@
 -- What holds of a request that was read.
--- Rule of this project: the bounds of `--temp-ttl`, `--heap` and the number of files; and which word asks for an import.
+-- Rule of this project: the bounds of `--temp-ttl`, `--heap` and the number of files; and which words ask for an import and
+-- for traces to be opened.
 use Rattle.std.specs.Prelude.{ℕ, ℤ, pos, negsuc, Bool, true, false, nat_eq, ◌≡◌, ◌≤◌, List, [], ◌∷◌, length, IfSome, codes}
 use Rattle.std.specs.Str.{bytes_eq}
 use Rattle.rev_options.specs.declared.Request.{Request}
-use Rattle.rev_options.specs.declared.Request.TheVariants.{Run, Record, ImportWatch, ImportCsv, ImportState}
+use Rattle.rev_options.specs.declared.Request.TheVariants.{Run, Record, ImportWatch, ImportCsv, ImportState, Open}
 
 -- -1 where no item enters TEMP, else a number of seconds
 abbrev pub is_temp_ttl : ℤ → Bool
@@ -21,6 +22,7 @@ IsInRange (Record config starts files) = (is_temp_ttl config.temp_ttl ≡ true) 
 IsInRange (ImportWatch asked) = 1 ≤ length asked.logs.items
 IsInRange (ImportCsv asked) = (is_temp_ttl asked.config.temp_ttl ≡ true) × (1 ≤ length asked.traces.items)
 IsInRange (ImportState asked) = Unit {0}
+IsInRange (Open asked) = is_temp_ttl asked.config.temp_ttl ≡ true
 
 -- the first word says `import`
 abbrev pub asks_import : List (List ℕ) → Bool
@@ -33,3 +35,13 @@ IsOfWords asks (ImportWatch asked) = asks ≡ true
 IsOfWords asks (ImportCsv asked) = asks ≡ true
 IsOfWords asks (ImportState asked) = asks ≡ true
 IsOfWords asks other = Unit {0}
+
+-- the first word says `open`
+abbrev pub asks_open : List (List ℕ) → Bool
+asks_open [] = false
+asks_open (word ∷ words) = bytes_eq word (codes "open")
+
+-- traces are opened by that word alone
+abbrev pub OpensBy : Bool → Request → Type 0
+OpensBy asks (Open asked) = asks ≡ true
+OpensBy asks other = Unit {0}

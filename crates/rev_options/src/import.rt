@@ -1,6 +1,6 @@
 //! The words of `lrudb import`.
-ghost use Rattle.std.specs.Prelude.{◌≡◌, ◌≤◌, length, map, true, IfOk};
-ghost use Rattle.rev_options.specs.Request.{IsInRange, IsOfWords, asks_import};
+ghost use Rattle.std.specs.Prelude.{◌≡◌, ◌≤◌, length, map, true, false, IfOk};
+ghost use Rattle.rev_options.specs.Request.{IsInRange, IsOfWords, OpensBy, asks_import};
 
 use crate::csv::{csv_command, csv_import};
 use crate::state::{state_command, state_import};
@@ -250,6 +250,7 @@ fn watch_import(alloc: Global, matches: &ArgMatches<'_>) -> Result<WatchImport, 
 pub fn import(alloc: Global, matches: &ArgMatches<'_>) -> Result<Request, Error>
     ensures range { IfOk result IsInRange }
     ensures words { IfOk result (IsOfWords true) }
+    ensures opens { IfOk result (OpensBy false) }
 {
     if let Some(inner) = matches.subcommand_matches("watch") {
         return Ok(Request::ImportWatch(watch_import(alloc, inner)?));

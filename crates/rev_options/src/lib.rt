@@ -3,16 +3,19 @@
 
 mod csv;
 mod import;
+mod opening;
 mod state;
 
 ghost use Rattle.std.specs.Prelude.{◌≡◌, ◌≤◌, length, map, IfOk, IfSome, true, false};
-ghost use Rattle.rev_options.specs.Request.{IsInRange, IsHeap, IsOfWords, asks_import, is_temp_ttl};
+ghost use Rattle.rev_options.specs.Request.{IsInRange, IsHeap, IsOfWords, OpensBy, asks_import, asks_open, is_temp_ttl};
 
 use crate::import::{asks_import, import, import_command};
+use crate::opening::{asks_open, open_command, opening_of};
 use clap::error::ErrorKind;
 use clap::{Arg, ArgAction, ArgMatches, Command, Error, value_parser};
 pub use csv::CsvImport;
 pub use import::{STANDARD, WatchImport};
+pub use opening::Opening;
 use rev_classes::Config;
 pub use state::StateImport;
 use std::alloc::{AllocError, Global};
@@ -52,6 +55,8 @@ pub enum Request {
     ImportCsv(CsvImport),
     /// Make a start of what a server told of its items.
     ImportState(StateImport),
+    /// Play traces, and answer the lines of the standard input at any node of theirs.
+    Open(Opening),
 }
 
 /// Why there is no request.
@@ -203,7 +208,8 @@ fn whole_command<'a>(alloc: Global) -> Result<Command<'a>, AllocError> {
         .arg_required_else_help(true)
         .subcommand(run_command(alloc)?)?
         .subcommand(record_command(alloc)?)?
-        .subcommand(import_command(alloc)?)
+        .subcommand(import_command(alloc)?)?
+        .subcommand(open_command(alloc)?)
 }
 
 // Each number has a default and passed its parser, so none is absent.
@@ -251,6 +257,7 @@ fn heap_of(alloc: Global, matches: &ArgMatches<'_>) -> Result<Option<usize>, Err
 fn run(alloc: Global, matches: &ArgMatches<'_>) -> Result<Request, Error>
     ensures range { IfOk result IsInRange }
     ensures words { IfOk result (IsOfWords false) }
+    ensures opens { IfOk result (OpensBy false) }
 {
     let config = config_of(matches);
     let heap = heap_of(alloc, matches)?;
@@ -282,6 +289,7 @@ fn fault(alloc: Global, kind: ErrorKind, text: &str) -> Result<Error, AllocError
 fn recording(alloc: Global, matches: &ArgMatches<'_>) -> Result<Request, Error>
     ensures range { IfOk result IsInRange }
     ensures words { IfOk result (IsOfWords false) }
+    ensures opens { IfOk result (OpensBy false) }
 {
     let config = config_of(matches);
     let starts = files_of(alloc, matches, "start")?;
@@ -300,11 +308,17 @@ fn recording(alloc: Global, matches: &ArgMatches<'_>) -> Result<Request, Error>
     })
 }
 
-// What the words ask for by the parser's reading of them, or the parser's error. Whether the first word says `import` is
-// told apart, since the parser's contracts do not say so.
-fn request_of(alloc: Global, matches: &ArgMatches<'_>, asks_import: bool) -> Result<Request, Error>
+// What the words ask for by the parser's reading of them, or the parser's error. Whether the first word says `import` or
+// `open` is told apart, since the parser's contracts do not say so.
+fn request_of(
+    alloc: Global,
+    matches: &ArgMatches<'_>,
+    asks_import: bool,
+    asks_open: bool,
+) -> Result<Request, Error>
     ensures range { IfOk result IsInRange }
     ensures words { IfOk result (IsOfWords asks_import) }
+    ensures opens { IfOk result (OpensBy asks_open) }
 {
     if let Some(inner) = matches.subcommand_matches("run") {
         return run(alloc, inner);
@@ -317,6 +331,11 @@ fn request_of(alloc: Global, matches: &ArgMatches<'_>, asks_import: bool) -> Res
             return import(alloc, inner);
         }
     }
+    if asks_open {
+        if let Some(inner) = matches.subcommand_matches("open") {
+            return opening_of(alloc, inner);
+        }
+    }
     Err(fault(alloc, ErrorKind::MissingSubcommand, "run")?)
 }
 
@@ -324,9 +343,10 @@ fn request_of(alloc: Global, matches: &ArgMatches<'_>, asks_import: bool) -> Res
 fn parsed<S: AsStr>(alloc: Global, words: &[S]) -> Result<Request, Error>
     ensures range { IfOk result IsInRange }
     ensures words { IfOk result (IsOfWords (asks_import (map S.text words.now))) }
+    ensures opens { IfOk result (OpensBy (asks_open (map S.text words.now))) }
 {
     let matches = whole_command(alloc)?.try_get_matches_from(words)?;
-    request_of(alloc, &matches, asks_import(words))
+    request_of(alloc, &matches, asks_import(words), asks_open(words))
 }
 
 fn told(alloc: Global, error: Error) -> Refused {
@@ -342,10 +362,11 @@ fn told(alloc: Global, error: Error) -> Refused {
 /// What the words behind the program's name ask for.
 ///
 /// Words that ask for nothing that there is are refused with the parser's text, and so is a wish for help; a want of
-/// memory is told apart. An import is asked for by the first word `import` alone. Whether a store can be opened with the numbers is `rev_classes::fault_of`'s to say.
+/// memory is told apart. An import is asked for by the first word `import` alone, and an opening by `open`. Whether a store can be opened with the numbers is `rev_classes::fault_of`'s to say.
 pub fn parse_words<S: AsStr>(alloc: Global, words: &[S]) -> Result<Request, Refused>
     ensures range { IfOk result IsInRange }
     ensures words { IfOk result (IsOfWords (asks_import (map S.text words.now))) }
+    ensures opens { IfOk result (OpensBy (asks_open (map S.text words.now))) }
 {
     match parsed(alloc, words) {
         Ok(asked) => Ok(asked),

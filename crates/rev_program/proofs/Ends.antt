@@ -1,9 +1,9 @@
 -- What the status tells of how the program ended.
-use Rattle.std.proofs.Common.{◌≡◌, ◌≢◌, ◌⊎◌, inl, inr, ℕ, List, Option, String, Result, Ok, Err, IsErr, OnOk, IfErr, MatchResult, refl}
+use Rattle.std.proofs.Common.{◌≡◌, ◌≢◌, ◌⊎◌, inl, inr, ℕ, List, Option, None, Some, String, Result, Ok, Err, IsErr, OnOk, IfErr, MatchResult, refl}
 use Rattle.std.specs.declared.alloc.Global.{Global}
 use Rattle.std.specs.Io.KnownBytes.{Keeps}
 use Rattle.rev_program.specs.Fault as fault
-use Rattle.rev_program.specs.Program.{StopsBy, FailsBy, EndsEarly, EndsUnwritten}
+use Rattle.rev_program.specs.Program.{StopsBy, FailsBy, EndsEarly, EndsBehind, EndsUnwritten}
 use Rattle.rev_program.specs.Recordings.{EndedBy, HasNoRows}
 use Rattle.rev_program.specs.Stop as stop
 use Rattle.rev_program.specs.Telling.{Told}
@@ -39,3 +39,11 @@ module _ (told tells : Option (List ℕ)) (before after : ℕ) where
     | inl s ↦ inl (s.0, s.1)
     | inr e ↦ inr (e.0, e.1)
   ]
+
+pub kept : (a : Option (List ℕ)) → Keeps a a
+kept None = tt
+kept (Some xs) = refl
+
+-- nothing was told of traces
+pub plainly : (told tells : Option (List ℕ)) (before after n : ℕ) → (n ≡ 0 → Keeps told tells) → (n ≢ 0 → EndsEarly told tells before after n) → EndsBehind told tells before after n
+plainly told tells before after n quiet early = record { full = None; between = told; failures = before; noted = kept told; quiet = quiet; early = early }

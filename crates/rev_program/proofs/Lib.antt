@@ -2,5 +2,6 @@ pub mod Reading
 pub mod Logs
 mod Scripts
 mod Ends
+mod Traced
 mod Parts
 mod Stops

@@ -3,10 +3,12 @@
 use Rattle.std.specs.Prelude.{◌≡◌, ◌≢◌, ◌≤◌, ◌⊎◌, ℕ, List, Option}
 use Rattle.std.specs.Io.KnownBytes.{Keeps}
 use Rattle.rev_program.specs.Fault as fault
+use Rattle.rev_program.specs.Opening.{IsNoted}
 use Rattle.rev_program.specs.Stop as stop
 use Rattle.rev_program.specs.Telling.{Told}
 use Rattle.rev_program.specs.declared.fault.RecordingFault.{RecordingFault}
 use Rattle.rev_program.specs.declared.fault.RecordingFault.TheVariants.{CannotWrite}
+use Rattle.rev_program.specs.declared.opening.Full.{Full}
 use Rattle.rev_program.specs.declared.stop.Stop.{Stop}
 
 -- 0 done, 2 command line or configuration, 3 memory, 4 input or output, 5 a file of steps has a line that is not a step,
@@ -28,7 +30,16 @@ pub record FailsBy (told tells : Option (List ℕ)) (before after : ℕ) (result
 abbrev pub EndsEarly : Option (List ℕ) → Option (List ℕ) → ℕ → ℕ → ℕ → Type 0
 EndsEarly told tells before after result = ((s : Stop) × StopsBy told tells before after result s) ⊎ ((e : RecordingFault) × FailsBy told tells before after result e)
 
--- the same, and nothing was written but where a write failed
+-- behind what may have been told of traces that fill the tree: nothing at status 0, else why the program ended early
+pub record EndsBehind (told tells : Option (List ℕ)) (before after : ℕ) (result : ℕ) : Type 0 where
+  pub full : Option Full
+  pub between : Option (List ℕ)
+  pub failures : ℕ
+  pub noted : IsNoted told between before failures full
+  pub quiet : result ≡ 0 → Keeps between tells
+  pub early : result ≢ 0 → EndsEarly between tells failures after result
+
+-- ended early as above, and nothing was written but where a write failed
 abbrev pub EndsUnwritten : Option (List ℕ) → Option (List ℕ) → ℕ → ℕ → ℕ → Option (List ℕ) → Option (List ℕ) → Type 0
 EndsUnwritten told tells before after result old new =
     ((s : Stop) × StopsBy told tells before after result s × Keeps old new)

@@ -4,6 +4,7 @@
 
 mod fault;
 pub mod import;
+pub mod opening;
 pub mod play;
 pub mod program;
 mod rows;

@@ -2,12 +2,13 @@
 ghost use Rattle.std.specs.Prelude.{◌≡◌, ◌≢◌, ◌≤◌, length, map, false, Err, IfOk, IfErr, IfSome, MatchResult};
 ghost use Rattle.std.specs.Io.KnownBytes.{Keeps};
 ghost use Rattle.rev_classes.specs.Limits.{IsWithinLimits, fault_of};
-ghost use Rattle.rev_options.specs.Request.{asks_import};
-ghost use Rattle.rev_program.specs.Program.{IsStatus, StopsBy, EndsEarly, EndsUnwritten};
+ghost use Rattle.rev_options.specs.Request.{asks_import, asks_open};
+ghost use Rattle.rev_program.specs.Program.{IsStatus, StopsBy, EndsEarly, EndsBehind, EndsUnwritten};
 ghost use Rattle.rev_program.specs.Stop.{status, text, stop_of_config};
 ghost use Rattle.rev_program.specs.Telling.{Told};
 
 use crate::import::import_watch;
+use crate::opening::open_traces;
 use crate::play::play_files;
 use crate::starts::started;
 use crate::state::import_state;
@@ -47,6 +48,28 @@ pub(crate) fn ended<E: Sink>(done: Result<(), Stop>, errors: &mut E) -> u8
     }
 }
 
+/// Runs the script of the reader, in a dialect, on a session, with all that the run keeps in `alloc`.
+pub(crate) fn run_on<A: Allocator + Clone, I: Read + Drop, O: Write + Drop>(
+    alloc: &A,
+    session: Session<A>,
+    dialect: Dialect,
+    reader: I,
+    exchange: &Exchange<O>,
+) -> Result<(), Stop> {
+    let mut source = FromRead::new(reader);
+    let mut sink = ToWrite::new(Outgoing::new(exchange));
+    let done = run_at_last(alloc, session, dialect, &mut source, &mut sink);
+    // What was answered before a fault is sent all the same.
+    let sent = exchange.send();
+    match done {
+        // A read sends first, and what failed then was a write.
+        Err(RunFault::Read) if exchange.has_failed() => Err(Stop::CannotWrite),
+        Err(fault) => Err(Stop::from(fault)),
+        Ok(_) if sent.is_err() => Err(Stop::CannotWrite),
+        Ok(_) => Ok(()),
+    }
+}
+
 // Runs the script of the reader behind the steps of the starts, with all that the run keeps in `alloc`.
 fn run_in<A: Allocator + Clone, F: Read + Drop, I: Read, O: Write + Drop>(
     alloc: &A,
@@ -59,21 +82,9 @@ where
     I: Drop,
     requires { IsWithinLimits config.now }
 {
-    let session = match started(alloc, config, starts) {
-        Err(stop) => return Err(stop),
-        Ok(session) => session,
-    };
-    let mut source = FromRead::new(reader);
-    let mut sink = ToWrite::new(Outgoing::new(exchange));
-    let done = run_at_last(alloc, session, Dialect::CrLf, &mut source, &mut sink);
-    // What was answered before a fault is sent all the same.
-    let sent = exchange.send();
-    match done {
-        // A read sends first, and what failed then was a write.
-        Err(RunFault::Read) if exchange.has_failed() => Err(Stop::CannotWrite),
-        Err(fault) => Err(Stop::from(fault)),
-        Ok(_) if sent.is_err() => Err(Stop::CannotWrite),
-        Ok(_) => Ok(()),
+    match started(alloc, config, starts) {
+        Err(stop) => Err(stop),
+        Ok(session) => run_on(alloc, session, Dialect::CrLf, reader, exchange),
     }
 }
 
@@ -126,8 +137,8 @@ fn opened<R: Files>(rt: &R, name: String) -> Result<(String, R::File), Stop> {
     }
 }
 
-// The files of the names, opened in order. The first that cannot be opened ends it.
-fn all_opened<R: Files>(
+/// The files of the names, opened in order. The first that cannot be opened ends it.
+pub(crate) fn all_opened<R: Files>(
     rt: &R,
     alloc: Global,
     names: Vec<String>,
@@ -212,8 +223,9 @@ fn record_files<R: Files + Threads + Wait + Sync + AllocGlobal, O: Write, E: Sin
 
 /// The whole program: does what the words behind its name ask for, and answers its exit status, 0 or 2 to 6.
 ///
-/// Answers go to `writer`. At status 0 nothing goes to `errors`, but what an import tells of itself; at any other the text of the reason does, whole where no
-/// write to `errors` has failed. The players of a recording wait for one another.
+/// Answers go to `writer`. At status 0 nothing goes to `errors`, but what an import tells of itself, and what is told of
+/// traces that fill the tree; at any other the text of the reason does, whole where no write to `errors` has failed. The
+/// players of a recording wait for one another.
 pub fn program<
     R: Files + Threads + Wait + Sync + AllocGlobal,
     S: AsStr,
@@ -222,8 +234,9 @@ pub fn program<
     E: Sink,
 >(rt: &R, words: &[S], reader: I, mut writer: O, errors: &mut E) -> u8
     ensures status { IsStatus result }
-    ensures early { result ≢ 0 → EndsEarly (E.contents errors.old) (E.contents errors.new) (E.failures errors.old) (E.failures errors.new) result }
-    ensures quiet { result ≡ 0 → asks_import (map S.text words.now) ≡ false → Keeps (E.contents errors.old) (E.contents errors.new) }
+    ensures early { result ≢ 0 → asks_open (map S.text words.now) ≡ false → EndsEarly (E.contents errors.old) (E.contents errors.new) (E.failures errors.old) (E.failures errors.new) result }
+    ensures quiet { result ≡ 0 → asks_import (map S.text words.now) ≡ false → asks_open (map S.text words.now) ≡ false → Keeps (E.contents errors.old) (E.contents errors.new) }
+    ensures behind { asks_import (map S.text words.now) ≡ false → EndsBehind (E.contents errors.old) (E.contents errors.new) (E.failures errors.old) (E.failures errors.new) result }
 {
     match parse_words(rt.alloc(), words) {
         Err(refused) => ended(Err(Stop::from(refused)), errors),
@@ -244,5 +257,6 @@ pub fn program<
         Ok(Request::ImportWatch(asked)) => import_watch(rt, asked, reader, &mut writer, errors),
         Ok(Request::ImportCsv(asked)) => import_csv(rt, asked, reader, &mut writer, errors),
         Ok(Request::ImportState(asked)) => import_state(rt, asked, errors),
+        Ok(Request::Open(asked)) => open_traces(rt, asked, reader, writer, errors),
     }
 }

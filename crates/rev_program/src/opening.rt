@@ -1,0 +1,175 @@
+//! `lrudb open`: traces are played, each step as a node, and then a session is answered at any of them.
+ghost use Rattle.std.specs.Prelude.{IfOk, IfSome};
+ghost use Rattle.rev_classes.specs.Limits.{IsWithinLimits, fault_of};
+ghost use Rattle.rev_program.specs.Opening.{IsTrace, AreTraces, IsOpened, IsNoted};
+ghost use Rattle.rev_program.specs.Program.{IsStatus, StopsBy, EndsBehind};
+ghost use Rattle.rev_program.specs.Stop.{stop_of_config};
+
+use crate::program::{all_opened, ended, run_on};
+use crate::starts::started;
+use crate::stop::Stop;
+use crate::telling::tell_parts;
+use itoa::Buffer;
+use rev_classes::{Config, fault_of};
+use rev_options::Opening;
+use rev_output::Sink;
+use rev_output::exchange::{Exchange, Incoming};
+use rev_script::dialect::Dialect;
+use rev_script::source::FromRead;
+use rev_shell::trace::{TraceEnd, play_trace};
+use rev_undotree::Session;
+use std::alloc::{Allocator, Global};
+use std::collections::VecDeque;
+use std::io::{Read, Write};
+use std::mem::ManuallyDrop;
+use std::rt::Files;
+
+/// The place in the traces where the tree is full: the first line, from 1, of which it has no room for a step.
+#[derive(Debug, Drop)]
+pub struct Full {
+    pub file: String,
+    pub line: u64,
+}
+
+// Plays the steps of a trace, and tells where it fills the tree, if it does.
+fn play_file<A: Allocator + Clone, F: Read + Drop>(
+    alloc: &A,
+    session: &mut Session<A>,
+    name: String,
+    reader: F,
+) -> Result<Option<Full>, Stop>
+    ensures { IfOk result (λ full. IsTrace (F.remaining reader) name session.old session.new full) }
+{
+    let mut source = FromRead::new(reader);
+    match play_trace(alloc, session, Dialect::CrLf, &mut source) {
+        Ok(TraceEnd::Whole) => Ok(None),
+        Ok(TraceEnd::Full { line }) => Ok(Some(Full { file: name, line })),
+        Err(fault) => Err(Stop::of(fault, name)),
+    }
+}
+
+// Plays the steps of the traces, in order, and tells where they fill the tree, if they do. The first fault ends it.
+fn play_files<A: Allocator + Clone, F: Read + Drop>(
+    alloc: &A,
+    session: &mut Session<A>,
+    files: Vec<(String, F)>,
+) -> Result<Option<Full>, Stop>
+    ensures { IfOk result (λ full. AreTraces F.remaining files.items session.old session.new full) }
+{
+    let mut rest = VecDeque::from_vec(files);
+    while let Some((name, reader)) = rest.pop_front() {
+        match play_file(alloc, session, name, reader) {
+            Err(stop) => return Err(stop),
+            Ok(Some(full)) => return Ok(Some(full)),
+            Ok(None) => {}
+        }
+    }
+    Ok(None)
+}
+
+// The session behind the starts and the traces, each a name and a reader, and where these fill its tree, if they do.
+fn with_traces<A: Allocator + Clone, F: Read + Drop>(
+    alloc: &A,
+    config: &Config,
+    starts: Vec<(String, F)>,
+    traces: Vec<(String, F)>,
+) -> Result<(Session<A>, Option<Full>), Stop>
+    requires { IsWithinLimits config.now }
+    ensures { IfOk result (λ opened. IsOpened F.remaining config.entry.now starts.items traces.items opened.0 opened.1) }
+{
+    let mut session = match started(alloc, config, starts) {
+        Err(stop) => return Err(stop),
+        Ok(session) => session,
+    };
+    match play_files(alloc, &mut session, traces) {
+        Ok(full) => Ok((session, full)),
+        Err(stop) => {
+            // The program ends here, and all memory goes back at once.
+            let _session = ManuallyDrop::new(session);
+            Err(stop)
+        }
+    }
+}
+
+// Tells where the traces fill the tree, if they do.
+fn note<E: Sink>(full: &Option<Full>, errors: &mut E)
+    ensures { IsNoted (E.contents errors.old) (E.contents errors.new) (E.failures errors.old) (E.failures errors.new) full.now }
+{
+    if let Some(full) = full {
+        let mut number = Buffer::new();
+        let digits = number.format(full.line);
+        let parts = [
+            "lrudb: ",
+            full.file.as_str(),
+            ": line ",
+            digits,
+            ": no room in the tree for this step and what follows; --start FILE plays any number of steps before the traces\n",
+        ];
+        // There is nobody left to tell that this cannot be written.
+        let _ = tell_parts(errors, &parts);
+    }
+}
+
+// The files, opened in order, those of the starts first, and what `with_traces` makes of them.
+fn opened_with_traces<R: Files + AllocGlobal>(
+    rt: &R,
+    config: &Config,
+    starts: Vec<String>,
+    traces: Vec<String>,
+) -> Result<(Session<Global>, Option<Full>), Stop>
+    requires { IsWithinLimits config.now }
+{
+    let starts = all_opened(rt, rt.alloc(), starts)?;
+    let traces = all_opened(rt, rt.alloc(), traces)?;
+    with_traces(&rt.alloc(), config, starts, traces)
+}
+
+// Answers the session that the reader gives, of which LF ends data as CR LF does.
+fn answer<I: Read + Drop, O: Write + Drop>(
+    alloc: Global,
+    session: Session<Global>,
+    reader: I,
+    writer: O,
+) -> Result<(), Stop> {
+    // Where there is no memory the program ends, and all memory goes back at once.
+    let Ok(exchange) = Exchange::new(alloc, writer) else {
+        let _session = ManuallyDrop::new(session);
+        return Err(Stop::Memory);
+    };
+    let Ok(incoming) = Incoming::new(alloc, reader, &exchange) else {
+        let _session = ManuallyDrop::new(session);
+        return Err(Stop::Memory);
+    };
+    run_on(&alloc, session, Dialect::AnyFeed, incoming, &exchange)
+}
+
+/// Plays the traces that are asked for, and answers the session that the reader gives. A configuration at fault is told
+/// before a file is opened, and a file that cannot be opened before one is read. Traces that fill the tree are told of
+/// before the session is read. Answers the exit status, and tells why where it is not 0.
+pub fn open_traces<R: Files + AllocGlobal, I: Read + Drop, O: Write + Drop, E: Sink>(
+    rt: &R,
+    asked: Opening,
+    reader: I,
+    writer: O,
+    errors: &mut E,
+) -> u8
+    ensures config { IfSome (fault_of asked.config) (λ fault. StopsBy (E.contents errors.old) (E.contents errors.new) (E.failures errors.old) (E.failures errors.new) result (stop_of_config fault)) }
+    ensures status { IsStatus result }
+    ensures ends { EndsBehind (E.contents errors.old) (E.contents errors.new) (E.failures errors.old) (E.failures errors.new) result }
+{
+    let Opening {
+        config,
+        starts,
+        traces,
+    } = asked;
+    if let Some(fault) = fault_of(&config) {
+        return ended(Err(Stop::from(fault)), errors);
+    }
+    match opened_with_traces(rt, &config, starts, traces) {
+        Err(stop) => ended(Err(stop), errors),
+        Ok((session, full)) => {
+            note(&full, errors);
+            ended(answer(rt.alloc(), session, reader, writer), errors)
+        }
+    }
+}
