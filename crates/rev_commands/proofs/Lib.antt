@@ -3,6 +3,7 @@ mod Leaving
 mod Holding
 mod Settling
 mod Sizes
+mod Standing
 mod Digits
 mod Plans
 mod Needs

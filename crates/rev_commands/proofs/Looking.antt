@@ -77,10 +77,10 @@ none_found (Some f) e = absurd (cc)
 pub missed : (s : State) (k : List ℕ) → None ≡ chunk_of (lookup s k).1 → (lookup s k).1 ≡ None
 missed s k e = none_found (lookup s k).1 e
 
--- where no new key was bound, a removal takes no more moves
-pub removal_less : (s t : State) (k : List ℕ) → (find s k ≡ None → find t k ≡ None) → removal_need t k ≤ removal_need s k
-removal_less s t k h = go (find s k) h
+-- where a key leads nowhere else than before, a removal takes no more moves
+pub removal_less : (s t : State) (k : List ℕ) → ((x : ChunkRef) → find t k ≡ Some x → find s k ≡ Some x) → removal_need t k ≤ removal_need s k
+removal_less s t k h = go (find t k) refl
   where
-    go : (o : Option ChunkRef) → (o ≡ None → find t k ≡ None) → found_need (find t k) ≤ found_need o
-    go None f = rw (f refl) (omega arith)
-    go (Some x) f = removal_most (find t k)
+    go : (o : Option ChunkRef) → find t k ≡ o → found_need o ≤ removal_need s k
+    go None e = omega arith
+    go (Some x) e = rw (h x e) (omega arith)

@@ -5,11 +5,15 @@ use Rattle.std.specs.Option.{option_map}
 use Rattle.rev_items.specs.Plain.{PlainItem}
 use Rattle.rev_model.specs.State.{State}
 use Rattle.rev_model.specs.declared.ChunkRef.{ChunkRef}
-use Rattle.rev_model.specs.Client.{lookup}
+use Rattle.rev_model.specs.Client.{lookup, looked_at}
 
 -- the item of what was found
 abbrev pub item_of : Option (ChunkRef × PlainItem) → Option PlainItem
 item_of o = option_map (λ f. f.1) o
+
+-- the same by the chunk that a key leads to
+abbrev pub live_at : State → Option ChunkRef → Option PlainItem
+live_at s o = item_of (looked_at s o).1
 
 -- none where the key has no item, or a dead one
 abbrev pub live_of : State → List ℕ → Option PlainItem

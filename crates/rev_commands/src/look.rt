@@ -11,6 +11,7 @@ ghost use Rattle.rev_model.specs.Track.{removal};
 ghost use Rattle.rev_edits.specs.Telling.{Tells};
 ghost use Rattle.rev_model.specs.Causes.{dead_removals, look_removals, clear_removals};
 ghost use Rattle.rev_commands.specs.Looking.{dead_need, look_need, found_need, removal_need};
+ghost use Rattle.rev_commands.specs.Finding.{standing};
 
 use rev_changes::Record;
 use rev_edits::leave::drop_item;
@@ -72,8 +73,8 @@ fn look_at<A: Allocator>(
     }
 }
 
-/// The chunk of the key's item, if it is alive; a dead one is removed: four moves, else none. The chunk that the key leads
-/// to is `found`, for a caller who has asked for it already.
+/// The chunk of the key's item, if it is alive; a dead one is removed: four moves, else none. A caller who has asked for
+/// the chunk that the key leads to hands it on as `found`. It may hold no item any more: then the key leads nowhere.
 pub fn lookup_at<A: Allocator>(
     store: &mut Store<A>,
     key: &Key<A>,
@@ -82,7 +83,7 @@ pub fn lookup_at<A: Allocator>(
 ) -> Option<ChunkRef>
     requires sound { (h : Option ChunkRef) × SoundBut h store.old }
     requires room { length undo.old.moves + look_need store.old key.now ≤ undo.old.room }
-    requires led { found ≡ find store.old key.now }
+    requires led { find store.old key.now ≡ standing store.old found }
     ensures state { store.new ≡ (lookup store.old key.now).0 }
     ensures found { result ≡ option_map (λ f. f.0) (lookup store.old key.now).1 }
     ensures sound { (h : Option ChunkRef) → SoundBut h store.old → SoundBut h store.new }

@@ -1,10 +1,11 @@
 //! The new item, which is made before the step's first change.
 ghost use Rattle.std.specs.Prelude.{◌≡◌, ℕ, ◌+◌, ◌++◌, ◌≤◌, length, option_copied, None, Some, IfOk};
 ghost use Rattle.rev_model.specs.Client.{Bytes, join, count};
+ghost use Rattle.rev_model.specs.State.{find};
 ghost use Rattle.rev_model.specs.Sound.{Sound};
 ghost use Rattle.rev_requests.specs.Plain.{plain_payload, plain_side, plain_sum, amount};
 ghost use Rattle.rev_commands.specs.Drafts.{IsDraft, IsPlan};
-ghost use Rattle.rev_commands.specs.Living.{live_of};
+ghost use Rattle.rev_commands.specs.Living.{live_at};
 ghost use Rattle.rev_model.specs.declared.Outcome.TheVariants as outcome;
 ghost use Rattle.rev_model.specs.Causes.{join_removals, count_removals};
 
@@ -13,7 +14,7 @@ use crate::number::{number_of, summed};
 use itoa::Buffer;
 use rev_inverse::Store;
 use rev_items::{Data, Item, Key};
-use rev_model::Outcome;
+use rev_model::{ChunkRef, Outcome};
 use rev_requests::{Arithmetic, JoinSide, Payload};
 use std::alloc::{AllocError, Allocator};
 
@@ -38,12 +39,11 @@ pub enum Plan<A: Allocator> {
     Replaced(Draft<A>),
 }
 
-/// The key's item, if it is alive.
-fn live<'a, A: Allocator>(store: &'a Store<A>, key: &Key<A>) -> Option<&'a Item<A>>
-    requires { Sound store.now }
-    ensures { option_copied result ≡ live_of store.now key.now }
+/// The item of the chunk that a key leads to, if it is alive.
+fn live<A: Allocator>(store: &Store<A>, found: Option<ChunkRef>) -> Option<&Item<A>>
+    ensures { option_copied result ≡ live_at store.now found }
 {
-    let (_, item) = store.item(key)?;
+    let item = store.content(found?)?;
     let globals = store.globals();
     if item.is_dead(globals.clock, globals.flush_limit) {
         return None;
@@ -93,19 +93,21 @@ fn plan_data<A: Allocator + Clone>(
     }
 }
 
-/// The plan of append or prepend.
+/// The plan of append or prepend, for the item in the chunk `found`, to which the key leads.
 ///
 /// Err: a growth was refused.
 pub fn plan_join<A: Allocator + Clone>(
     store: &Store<A>,
     side: JoinSide,
     key: &Key<A>,
+    found: Option<ChunkRef>,
     payload: &Payload<A>,
 ) -> Result<Plan<A>, AllocError>
-    requires { Sound store.now }
+    requires sound { Sound store.now }
+    requires led { found ≡ find store.now key.now }
     ensures { IfOk result (λ plan. IsPlan store.now key.now outcome.NotStored (join store.now (plain_side side) key.now (plain_payload payload.now)) (join_removals store.now (plain_side side) key.now (plain_payload payload.now)) plan) }
 {
-    let Some(old) = live(store, key) else {
+    let Some(old) = live(store, found) else {
         return Ok(Plan::Missing);
     };
     match payload {
@@ -120,18 +122,20 @@ pub fn plan_join<A: Allocator + Clone>(
     }
 }
 
-/// The plan of incr or decr.
+/// The plan of incr or decr, for the item in the chunk `found`, to which the key leads.
 ///
 /// Err: a growth was refused.
 pub fn plan_count<A: Allocator + Clone>(
     store: &Store<A>,
     arithmetic: Arithmetic,
     key: &Key<A>,
+    found: Option<ChunkRef>,
 ) -> Result<Plan<A>, AllocError>
-    requires { Sound store.now }
+    requires sound { Sound store.now }
+    requires led { found ≡ find store.now key.now }
     ensures { IfOk result (λ plan. IsPlan store.now key.now outcome.NotFound (count store.now (plain_sum arithmetic) key.now (amount arithmetic)) (count_removals store.now (plain_sum arithmetic) key.now (amount arithmetic)) plan) }
 {
-    let Some(old) = live(store, key) else {
+    let Some(old) = live(store, found) else {
         return Ok(Plan::Missing);
     };
     let Some(number) = number_of(old.value()) else {

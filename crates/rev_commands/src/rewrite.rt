@@ -1,5 +1,6 @@
 //! What a plan is carried out by.
 ghost use Rattle.std.specs.Prelude.{◌≡◌, ◌≤◌, length, [], IfOk, OnOk, OnErr};
+ghost use Rattle.rev_model.specs.State.{find};
 ghost use Rattle.rev_model.specs.Sound.{Sound};
 ghost use Rattle.rev_model.specs.Move.{LeadsBack};
 ghost use Rattle.rev_model.specs.Causes.{look_removals, rewrite_in_removals};
@@ -7,14 +8,14 @@ ghost use Rattle.rev_edits.specs.Telling.{TellsAll};
 ghost use Rattle.rev_commands.specs.Rewriting.{rewritten_in, named};
 ghost use Rattle.rev_commands.specs.Drafts.{Drafted, Fits, missed, unchanged, carried, carried_removals};
 
-use crate::look::{REMOVAL_MOVES, lookup, removal_moves};
+use crate::look::{REMOVAL_MOVES, lookup_at, removal_moves_at};
 use crate::place::place;
 use crate::plan::{Draft, Plan};
 use rev_changes::Record;
 use rev_inverse::Store;
 use rev_items::Key;
 use rev_maintainer::room::plan_room;
-use rev_model::Outcome;
+use rev_model::{ChunkRef, Outcome};
 use rev_requests::StoreVerb;
 use std::alloc::{AllocError, Allocator};
 
@@ -36,10 +37,12 @@ fn named(outcome: Outcome, missing: Outcome, answer: Outcome) -> Outcome
 fn rewrite<A: Allocator + Clone>(
     store: &mut Store<A>,
     key: &Key<A>,
+    found: Option<ChunkRef>,
     draft: Draft<A>,
     missing: Outcome,
 ) -> Result<(Outcome, Record<A>), AllocError>
     requires sound { Sound store.old }
+    requires led { found ≡ find store.old key.now }
     requires drafted { Drafted store.old key.now draft }
     ensures step { IfOk result (λ p. (store.new, p.0) ≡ rewritten_in store.old draft.class key.now draft.item.value draft.item.flags draft.item.moment missing draft.answer) }
     ensures sound { OnOk result (Sound store.new) }
@@ -52,7 +55,15 @@ fn rewrite<A: Allocator + Clone>(
     let moves = plan.moves + REMOVAL_MOVES + 4;
     let mut undo = Record::with_room(store.alloc()?, moves)?;
     let verb = StoreVerb::Replace;
-    let outcome = place(store, verb, draft.class, plan.page, draft.item, &mut undo);
+    let outcome = place(
+        store,
+        verb,
+        draft.class,
+        plan.page,
+        found,
+        draft.item,
+        &mut undo,
+    );
     Ok((named(outcome, missing, draft.answer), undo))
 }
 
@@ -62,9 +73,11 @@ fn rewrite<A: Allocator + Clone>(
 fn miss<A: Allocator + Clone>(
     store: &mut Store<A>,
     key: &Key<A>,
+    found: Option<ChunkRef>,
     missing: Outcome,
 ) -> Result<(Outcome, Record<A>), AllocError>
-    requires { Sound store.old }
+    requires sound { Sound store.old }
+    requires led { found ≡ find store.old key.now }
     ensures step { IfOk result (λ p. (store.new, p.0) ≡ missed store.old key.now missing) }
     ensures sound { OnOk result (Sound store.new) }
     ensures leads { IfOk result (λ p. LeadsBack p.1.moves store.new store.old) }
@@ -72,8 +85,8 @@ fn miss<A: Allocator + Clone>(
     ensures err { OnErr result (store.new ≡ store.old) }
     ensures told { IfOk result (λ p. TellsAll p.1 store.new (look_removals store.old key.now)) }
 {
-    let mut undo = Record::with_room(store.alloc()?, removal_moves(store, key))?;
-    let _found = lookup(store, key, &mut undo);
+    let mut undo = Record::with_room(store.alloc()?, removal_moves_at(found))?;
+    let _none = lookup_at(store, key, found, &mut undo);
     Ok((missing, undo))
 }
 
@@ -96,16 +109,19 @@ fn refuse<A: Allocator + Clone>(
     Ok((outcome, undo))
 }
 
-/// Carries the plan out; `missing` is answered where the key has no live item, or loses it to room.
+/// Carries the plan out for the item in the chunk `found`, to which the key leads; `missing` is answered where the key has
+/// no live item, or loses it to room.
 ///
 /// Err: a growth was refused, and the store is as it was.
 pub fn carry_out<A: Allocator + Clone>(
     store: &mut Store<A>,
     key: &Key<A>,
+    found: Option<ChunkRef>,
     plan: Plan<A>,
     missing: Outcome,
 ) -> Result<(Outcome, Record<A>), AllocError>
     requires sound { Sound store.old }
+    requires led { found ≡ find store.old key.now }
     requires fits { Fits store.old key.now plan }
     ensures step { IfOk result (λ p. (store.new, p.0) ≡ carried store.old key.now missing plan) }
     ensures sound { OnOk result (Sound store.new) }
@@ -115,8 +131,8 @@ pub fn carry_out<A: Allocator + Clone>(
     ensures told { IfOk result (λ p. TellsAll p.1 store.new (carried_removals store.old key.now plan)) }
 {
     match plan {
-        Plan::Missing => miss(store, key, missing),
+        Plan::Missing => miss(store, key, found, missing),
         Plan::Refused(outcome) => refuse(store, outcome),
-        Plan::Replaced(draft) => rewrite(store, key, draft, missing),
+        Plan::Replaced(draft) => rewrite(store, key, found, draft, missing),
     }
 }

@@ -36,8 +36,9 @@ pub fn join<A: Allocator + Clone>(
     ensures err { OnErr result (store.new ≡ store.old) }
     ensures told { IfOk result (λ p. TellsAll p.1 store.new (join_removals store.old (plain_side side) key.now (plain_payload payload.now))) }
 {
-    let plan = plan_join(store, side, key, payload)?;
-    carry_out(store, key, plan, Outcome::NotStored)
+    let found = store.find(key);
+    let plan = plan_join(store, side, key, found, payload)?;
+    carry_out(store, key, found, plan, Outcome::NotStored)
 }
 
 /// incr and decr (protocol.txt): the number that the key's live item holds grows, and wraps past 64 bits, or falls, and
@@ -59,6 +60,7 @@ pub fn count<A: Allocator + Clone>(
     ensures err { OnErr result (store.new ≡ store.old) }
     ensures told { IfOk result (λ p. TellsAll p.1 store.new (count_removals store.old (plain_sum arithmetic) key.now (amount arithmetic))) }
 {
-    let plan = plan_count(store, arithmetic, key)?;
-    carry_out(store, key, plan, Outcome::NotFound)
+    let found = store.find(key);
+    let plan = plan_count(store, arithmetic, key, found)?;
+    carry_out(store, key, found, plan, Outcome::NotFound)
 }

@@ -68,7 +68,8 @@ fn store_in<A: Allocator + Clone>(
     let item = item_for(store, key, flags, exptime, value)?;
     // the record comes last: it is soon given back, and then lies at the end of the heap
     let mut undo = Record::with_room(store.alloc()?, moves)?;
-    let outcome = place(store, verb, class, plan.page, item, &mut undo);
+    let found = store.find(key);
+    let outcome = place(store, verb, class, plan.page, found, item, &mut undo);
     Ok((outcome, undo))
 }
 

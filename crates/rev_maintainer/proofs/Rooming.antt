@@ -23,38 +23,40 @@ pub record SamePages (s t : State) : Type 0 where
   pub fixed : t.fixed ≡ s.fixed
   pub owner : t.owner ≡ s.owner
   pub globals : t.globals ≡ s.globals
-  -- no key is new
-  pub keys : (k : List ℕ) → find s k ≡ None → find t k ≡ None
+  -- no key is new, and none leads elsewhere
+  pub keys : (k : List ℕ) (x : ChunkRef) → find t k ≡ Some x → find s k ≡ Some x
 
 -- nor is one where a key leaves
-gone : (m : Keys) (l k : List ℕ) → map.get m k ≡ None → map.get (map.remove m l) k ≡ None
-gone m l k e = map.get-remove nat_list_cmp_total m l k ∙ elim (cases_Bool (eq_by_cmp (slice_cmp nat_cmp) k l)) as (λ _. cond (eq_by_cmp (slice_cmp nat_cmp) k l) None (map.get m k) ≡ None) [
-  | inl f ↦ rw f refl
-  | inr f ↦ rw f e
-]
+kept : (m : Keys) (l k : List ℕ) (x : ChunkRef) → map.get (map.remove m l) k ≡ Some x → map.get m k ≡ Some x
+kept m l k x e =
+    let by_key : cond (eq_by_cmp (slice_cmp nat_cmp) k l) None (map.get m k) ≡ Some x = sym (map.get-remove nat_list_cmp_total m l k) ∙ e in
+    elim (cases_Bool (eq_by_cmp (slice_cmp nat_cmp) k l)) [
+      | inl f ↦ let none : None ≡ Some x = rw f at by_key in absurd (cc)
+      | inr f ↦ rw f at by_key
+    ]
 
 same_pages_self : (s : State) → SamePages s s
-same_pages_self s = record { fixed = refl; owner = refl; globals = refl; keys = λ k h. h }
+same_pages_self s = record { fixed = refl; owner = refl; globals = refl; keys = λ k x h. h }
 
 same_pages_live : (s : State) (c : ℕ) (q : Queue) (m : PullMode) (x : ChunkRef) (i : PlainItem) → SamePages s (pull_live s c q m x i).0
 same_pages_live s c Hot m x i = elim (cases_Bool i.bits.active) [
-  | inl e ↦ rw e (record { fixed = refl; owner = refl; globals = refl; keys = λ k h. h })
+  | inl e ↦ rw e (record { fixed = refl; owner = refl; globals = refl; keys = λ k x h. h })
   | inr e ↦ rw e (elim (cases_Bool (takes_all m || (over s c Hot || idle s c Hot i))) [
-    | inl f ↦ rw f (record { fixed = refl; owner = refl; globals = refl; keys = λ k h. h })
+    | inl f ↦ rw f (record { fixed = refl; owner = refl; globals = refl; keys = λ k x h. h })
     | inr f ↦ rw f (same_pages_self s)
   ])
 ]
 same_pages_live s c Warm m x i = elim (cases_Bool i.bits.active) [
-  | inl e ↦ rw e (record { fixed = refl; owner = refl; globals = refl; keys = λ k h. h })
+  | inl e ↦ rw e (record { fixed = refl; owner = refl; globals = refl; keys = λ k x h. h })
   | inr e ↦ rw e (elim (cases_Bool (over s c Warm || idle s c Warm i)) [
-    | inl f ↦ rw f (record { fixed = refl; owner = refl; globals = refl; keys = λ k h. h })
+    | inl f ↦ rw f (record { fixed = refl; owner = refl; globals = refl; keys = λ k x h. h })
     | inr f ↦ rw f (same_pages_self s)
   ])
 ]
 same_pages_live s c Cold m x i = elim (cases_Bool (evicts m)) [
-  | inl e ↦ rw e (record { fixed = refl; owner = refl; globals = refl; keys = λ k h. gone s.index i.key k h })
+  | inl e ↦ rw e (record { fixed = refl; owner = refl; globals = refl; keys = λ k y h. kept s.index i.key k y h })
   | inr e ↦ rw e (elim (cases_Bool i.bits.active) [
-    | inl f ↦ rw f (record { fixed = refl; owner = refl; globals = refl; keys = λ k h. h })
+    | inl f ↦ rw f (record { fixed = refl; owner = refl; globals = refl; keys = λ k x h. h })
     | inr f ↦ rw f (same_pages_self s)
   ])
 ]
@@ -63,7 +65,7 @@ same_pages_live s c Temp m x i = same_pages_self s
 same_pages_item : (s : State) (c : ℕ) (q : Queue) (m : PullMode) (x : ChunkRef) (o : Option PlainItem) → SamePages s (pull_item s c q m x o).0
 same_pages_item s c q m x None = same_pages_self s
 same_pages_item s c q m x (Some i) = elim (cases_Bool (is_dead s.globals i)) [
-  | inl e ↦ rw e (record { fixed = refl; owner = refl; globals = refl; keys = λ k h. gone s.index i.key k h })
+  | inl e ↦ rw e (record { fixed = refl; owner = refl; globals = refl; keys = λ k y h. kept s.index i.key k y h })
   | inr e ↦ rw e (same_pages_live s c q m x i)
 ]
 
@@ -103,15 +105,15 @@ need_some k (x ∷ xs) p = omega arith
 need_some k [] (Some p) = omega arith
 need_some k [] None = omega arith
 
--- ---- room changes neither the configuration nor the globals, and binds no key
+-- ---- room changes neither the configuration nor the globals, and each key that is left leads where it led
 
 pub record SameGlobals (s t : State) : Type 0 where
   pub fixed : t.fixed ≡ s.fixed
   pub globals : t.globals ≡ s.globals
-  pub keys : (k : List ℕ) → find s k ≡ None → find t k ≡ None
+  pub keys : (k : List ℕ) (x : ChunkRef) → find t k ≡ Some x → find s k ≡ Some x
 
 same_globals_self : (s : State) → SameGlobals s s
-same_globals_self s = record { fixed = refl; globals = refl; keys = λ k h. h }
+same_globals_self s = record { fixed = refl; globals = refl; keys = λ k x h. h }
 
 abbrev SameGlobalsIf : State → Option (State × ChunkRef) → Type 0
 SameGlobalsIf s None = Unit {0}
@@ -123,9 +125,9 @@ same_globals_fronted s t c (x ∷ xs) h = record { fixed = h.fixed; globals = h.
 
 same_globals_carved : (s : State) (c : ℕ) (p : Option (ℕ × Form)) → SameGlobals s (carved s c p)
 same_globals_carved s c None = same_globals_self s
-same_globals_carved s c (Some (p, Fresh)) = record { fixed = refl; globals = refl; keys = λ k h. h }
-same_globals_carved s c (Some (p, Pool)) = record { fixed = refl; globals = refl; keys = λ k h. h }
-same_globals_carved s c (Some (p, Withdrawn)) = record { fixed = refl; globals = refl; keys = λ k h. h }
+same_globals_carved s c (Some (p, Fresh)) = record { fixed = refl; globals = refl; keys = λ k x h. h }
+same_globals_carved s c (Some (p, Pool)) = record { fixed = refl; globals = refl; keys = λ k x h. h }
+same_globals_carved s c (Some (p, Withdrawn)) = record { fixed = refl; globals = refl; keys = λ k x h. h }
 
 same_globals_or : (s : State) (c : ℕ) (o : Option (State × ChunkRef)) → SameGlobalsIf s o → SameGlobalsIf s (or_carved s c o)
 same_globals_or s c (Some r) h = h
@@ -136,12 +138,12 @@ same_globals_taken s (Some (t, x)) later h k = h
 same_globals_taken s None later h k = k
 
 pub same_globals_room : (k : ℕ) (s : State) (c : ℕ) → SameGlobals s (room_by k s c).0
-same_globals_room zero s c = record { fixed = refl; globals = refl; keys = λ k h. h }
+same_globals_room zero s c = record { fixed = refl; globals = refl; keys = λ k x h. h }
 same_globals_room (suc k) s c =
     let more = same_globals_room k (squeezed s c) c in
     let same_pages = same_pages_squeezed s c in
     same_globals_taken s (given s c) (room_by k (squeezed s c) c) (same_globals_or s c (fronted s c (free_of s c)) (same_globals_fronted s s c (free_of s c) (same_globals_self s)))
-    (record { fixed = more.fixed ∙ same_pages.fixed; globals = more.globals ∙ same_pages.globals; keys = λ l h. more.keys l (same_pages.keys l h) })
+    (record { fixed = more.fixed ∙ same_pages.fixed; globals = more.globals ∙ same_pages.globals; keys = λ l x h. same_pages.keys l x (more.keys l x h) })
 
 -- ---- a round that got no chunk
 

@@ -6,6 +6,7 @@ use Rattle.rev_edits.specs.Telling.{Tells}
 use Rattle.rev_edits.proofs.Telling.{tells_then, append_nil}
 use Rattle.rev_model.specs.Causes.{look_removals}
 use Rattle.rev_commands.proofs.Leaving.{deleted_by, found_clear, missed_clear, there}
+use Rattle.rev_commands.proofs.Standing.{found_stands}
 use Rattle.rev_commands.proofs.delete.delete_found.Goals as goal
 
 pub returns-in-Some-clause-done : goal.returns-in-Some-clause-done
@@ -32,6 +33,9 @@ returns-in-None-clause-done g c = search rules steps 1500000
 
 pub lookup_at-requires-clause-sound : goal.lookup_at-requires-clause-sound
 lookup_at-requires-clause-sound g c = (None, c.requires.sound)
+
+pub lookup_at-requires-clause-led : goal.lookup_at-requires-clause-led
+lookup_at-requires-clause-led g c = found_stands c.args.store.now c.requires.sound.well c.args.key.now c.args.found c.requires.led
 
 pub lookup_at-requires-clause-room : goal.lookup_at-requires-clause-room
 lookup_at-requires-clause-room g c = omega (arith, look_most c.args.store.now c.args.key.now, c.requires.room)

@@ -8,6 +8,7 @@ use Rattle.rev_commands.proofs.Leaving.{got_by, there}
 use Rattle.rev_edits.proofs.Telling.{tells_still}
 use Rattle.std.specs.Option.{option_map}
 use Rattle.rev_model.specs.Words.{header_of}
+use Rattle.rev_commands.proofs.Standing.{found_stands}
 use Rattle.rev_commands.proofs.get.get_in.Goals as goal
 
 pub hit-requires-clause-room : goal.hit-requires-clause-room
@@ -53,6 +54,9 @@ hit-requires-clause-sound g c = c.lookup_at.ensures.sound None c.requires.sound
 
 pub hit-requires-clause-item : goal.hit-requires-clause-item
 hit-requires-clause-item g c = sym c.header.ensures ∙ c.in-Some-header.is
+
+pub lookup_at-requires-clause-led : goal.lookup_at-requires-clause-led
+lookup_at-requires-clause-led g c = found_stands c.args.store.now c.requires.sound.well c.args.key.now c.args.found c.requires.led
 
 pub lookup_at-requires-clause-room : goal.lookup_at-requires-clause-room
 lookup_at-requires-clause-room g c = omega (arith, look_access 0 c.args.store.now c.args.key.now, c.requires.room)

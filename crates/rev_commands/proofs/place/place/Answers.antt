@@ -10,6 +10,7 @@ use Rattle.rev_requests.specs.Plain.{plain_verb}
 use Rattle.rev_commands.proofs.Looking.{removal_less}
 use Rattle.rev_commands.specs.Looking.{removal_need}
 use Rattle.rev_commands.proofs.Settling.{told_some, told_none, placed_some, placed_none}
+use Rattle.rev_commands.proofs.Standing.{still_led}
 use Rattle.rev_commands.proofs.place.place.Goals as goal
 
 pub settle-requires-clause-class : goal.settle-requires-clause-class
@@ -24,6 +25,12 @@ pub settle-requires-clause-fits : goal.settle-requires-clause-fits
 settle-requires-clause-fits g c =
     let same = same_globals_after c.args.store.now c.room.new.store c.args.class c.room.result c.room.ensures.done in
     rw same.fixed c.requires.fits
+
+pub settle-requires-clause-led : goal.settle-requires-clause-led
+settle-requires-clause-led g c =
+    let s = c.args.store.now in
+    let same = same_globals_after s c.room.new.store c.args.class c.room.result c.room.ensures.done in
+    still_led c.room.result s c.room.new.store c.requires.sound.well c.room.ensures.sound same.keys c.args.item.key c.args.found c.requires.led
 
 pub settle-requires-clause-room : goal.settle-requires-clause-room
 settle-requires-clause-room g c =

@@ -1,5 +1,5 @@
 use Rattle.std.specs.Prelude.{length, ◌≡◌}
-use Rattle.std.proofs.Common.{◌∙◌, ap, subst, arith}
+use Rattle.std.proofs.Common.{sym, ◌∙◌, ap, subst, arith}
 use Rattle.rev_items.specs.Plain.{PlainItem}
 use Rattle.rev_model.specs.State.{find}
 use Rattle.rev_model.specs.Client.{Replaces}
@@ -17,6 +17,11 @@ use Rattle.rev_commands.proofs.rewrite.rewrite.Goals as goal
 pub place-outcome-requires-clause-room : goal.place-outcome-requires-clause-room
 place-outcome-requires-clause-room g c =
     omega (arith, removal_most (find c.args.store.now c.args.draft.item.key), ap (λ (r : PlainRecord). length r.moves) c.in_ok-undo.ensures, ap (λ (r : PlainRecord). r.room) c.in_ok-undo.ensures, c.in_ok-plan.ensures.moves)
+
+pub place-outcome-requires-clause-led : goal.place-outcome-requires-clause-led
+place-outcome-requires-clause-led g c =
+    let key : c.args.draft.item.key ≡ c.args.key.now = ap (λ (i : PlainItem). i.key) c.requires.drafted.item in
+    c.requires.led ∙ ap (find c.args.store.now) (sym key)
 
 pub place-outcome-requires-clause-plan : goal.place-outcome-requires-clause-plan
 place-outcome-requires-clause-plan g c = c.in_ok-plan.ensures.page

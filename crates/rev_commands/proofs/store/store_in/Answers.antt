@@ -1,5 +1,5 @@
 use Rattle.std.specs.Prelude.{length}
-use Rattle.std.proofs.Common.{ap, subst, arith, w32, to_z, of_z}
+use Rattle.std.proofs.Common.{sym, ◌∙◌, ap, subst, arith, w32, to_z, of_z}
 use Rattle.std.proofs.lemmas.Int.{to_z-of_z}
 use Rattle.rev_items.specs.Plain.{PlainItem}
 use Rattle.rev_model.specs.Causes.{store_in_removals}
@@ -17,6 +17,9 @@ use Rattle.rev_commands.proofs.store.store_in.Goals as goal
 pub place-outcome-requires-clause-room : goal.place-outcome-requires-clause-room
 place-outcome-requires-clause-room g c =
     omega (arith, removal_most (find c.args.store.now c.in_ok-item.item.key), ap (λ (r : PlainRecord). length r.moves) c.in_ok-undo.ensures, ap (λ (r : PlainRecord). r.room) c.in_ok-undo.ensures, c.in_ok-plan.ensures.moves)
+
+pub place-outcome-requires-clause-led : goal.place-outcome-requires-clause-led
+place-outcome-requires-clause-led g c = c.find-found.ensures ∙ ap (find c.args.store.now) (sym (ap (λ (i : PlainItem). i.key) c.in_ok-item.ensures))
 
 pub place-outcome-requires-clause-plan : goal.place-outcome-requires-clause-plan
 place-outcome-requires-clause-plan g c = c.in_ok-plan.ensures.page

@@ -10,6 +10,7 @@ use Rattle.rev_commands.proofs.Leaving.{touched_by, there}
 use Rattle.rev_edits.proofs.Telling.{tells_still}
 use Rattle.std.specs.Option.{option_map}
 use Rattle.rev_model.specs.Words.{header_of}
+use Rattle.rev_commands.proofs.Standing.{found_stands}
 use Rattle.rev_commands.proofs.touch.touch_in.Goals as goal
 
 pub touch_found-requires-clause-room : goal.touch_found-requires-clause-room
@@ -50,6 +51,9 @@ returns-in-Some-header-clause-room g c = c.touch_found.ensures.room ∙ c.lookup
 
 pub returns-in-Some-header-clause-told : goal.returns-in-Some-header-clause-told
 returns-in-Some-header-clause-told g c = tells_still _ _ _ _ _ _ _ c.lookup_at.ensures.told c.touch_found.ensures.told
+
+pub lookup_at-requires-clause-led : goal.lookup_at-requires-clause-led
+lookup_at-requires-clause-led g c = found_stands c.args.store.now c.requires.sound.well c.args.key.now c.args.found c.requires.led
 
 pub lookup_at-requires-clause-room : goal.lookup_at-requires-clause-room
 lookup_at-requires-clause-room g c = omega (arith, look_access 1 c.args.store.now c.args.key.now, c.requires.room)
