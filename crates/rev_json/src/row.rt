@@ -102,6 +102,18 @@ fn put_row<S: Serializer>(out: &mut S, row: &Row<'_>, numbered: Numbered) -> Res
     out.end_map()
 }
 
+// Puts the objects of all rows, but for an `END`.
+fn put_rows<S: Serializer>(out: &mut S, text: &[u8], numbered: Numbered) -> Result<(), S::Error> {
+    let mut rest = text;
+    'rows: while let Some((row, behind)) = first_row(rest) {
+        if !is_word(row.line, b"END") {
+            put_row(out, &row, numbered)?;
+        }
+        rest = behind;
+    }
+    Ok(())
+}
+
 /// The rows of an answer, without the `END` of a list.
 #[derive(Clone, Copy)]
 pub struct Rows<'a> {
@@ -113,14 +125,8 @@ impl Described for Rows<'_> {}
 
 impl Serialize for Rows<'_> {
     fn serialize<S: Serializer>(&self, out: &mut S) -> Result<(), S::Error> {
-        let mut rest = self.text;
         out.begin_seq(None)?;
-        'rows: while let Some((row, behind)) = first_row(rest) {
-            if !is_word(row.line, b"END") {
-                put_row(out, &row, self.numbered)?;
-            }
-            rest = behind;
-        }
+        put_rows(out, self.text, self.numbered)?;
         out.end_seq()
     }
 }

@@ -5,7 +5,8 @@ ghost use Rattle.rev_program.specs.Opening.{IsTrace, AreTraces, IsOpened, IsNote
 ghost use Rattle.rev_program.specs.Program.{IsStatus, StopsBy, EndsBehind};
 ghost use Rattle.rev_program.specs.Stop.{stop_of_config};
 
-use crate::program::{all_opened, ended, run_as_json_on, run_on};
+use crate::json::run_as_json_on;
+use crate::program::{all_opened, ended, run_on};
 use crate::starts::started;
 use crate::stop::Stop;
 use crate::telling::tell_parts;

@@ -8,6 +8,7 @@ ghost use Rattle.rev_program.specs.Stop.{status, text, stop_of_config};
 ghost use Rattle.rev_program.specs.Telling.{Told};
 
 use crate::import::import_watch;
+use crate::json::run_script_as_json;
 use crate::opening::open_traces;
 use crate::play::play_files;
 use crate::starts::started;
@@ -16,7 +17,6 @@ use crate::stop::Stop;
 use crate::traces::import_csv;
 use linked_list_allocator::LocalHeap;
 use rev_classes::{Config, fault_of};
-use rev_json::run::run_as_json;
 use rev_options::{Request, parse_words};
 use rev_output::exchange::{Exchange, Incoming, Outgoing};
 use rev_output::{Sink, ToWrite};
@@ -27,7 +27,6 @@ use rev_undotree::Session;
 use std::alloc::{Allocator, Global};
 use std::convert::AsStr;
 use std::io::{Read, Write};
-use std::mem::ManuallyDrop;
 use std::rt::Files;
 use std::sync::Wait;
 use std::thread::Threads;
@@ -50,8 +49,8 @@ pub(crate) fn ended<E: Sink>(done: Result<(), Stop>, errors: &mut E) -> u8
     }
 }
 
-// How a run ended, behind what it wrote. What was answered before a fault is sent all the same.
-fn sent_behind<O: Write + Drop>(
+/// How a run ended, behind what it wrote. What was answered before a fault is sent all the same.
+pub(crate) fn sent_behind<O: Write + Drop>(
     done: Result<Summary, RunFault>,
     exchange: &Exchange<O>,
 ) -> Result<(), Stop> {
@@ -76,23 +75,6 @@ pub(crate) fn run_on<A: Allocator + Clone, I: Read + Drop, O: Write + Drop>(
     let mut source = FromRead::new(reader);
     let mut sink = ToWrite::new(Outgoing::new(exchange));
     let done = run_at_last(alloc, session, dialect, &mut source, &mut sink);
-    sent_behind(done, exchange)
-}
-
-/// Runs the script of the reader, in a dialect, on a session, and tells of its lines as JSON.
-pub(crate) fn run_as_json_on<I: Read + Drop, O: Write + Drop>(
-    alloc: Global,
-    session: Session<Global>,
-    dialect: Dialect,
-    reader: I,
-    exchange: &Exchange<O>,
-) -> Result<(), Stop> {
-    let mut source = FromRead::new(reader);
-    let mut sink = ToWrite::new(Outgoing::new(exchange));
-    let mut session = session;
-    let done = run_as_json(alloc, &mut session, dialect, &mut source, &mut sink);
-    // The program ends here, and all memory goes back at once.
-    let _session = ManuallyDrop::new(session);
     sent_behind(done, exchange)
 }
 
@@ -129,28 +111,6 @@ fn run_in_heap<F: Read + Drop, I: Read + Drop, O: Write + Drop>(
         return Err(Stop::Memory);
     };
     run_in(&&heap, config, starts, reader, exchange)
-}
-
-// Runs the script of the reader behind the steps of the starts, and tells of its lines as JSON.
-fn run_as_json_in<F: Read + Drop, I: Read + Drop, O: Write + Drop>(
-    alloc: Global,
-    config: &Config,
-    starts: Vec<(String, F)>,
-    reader: I,
-    writer: O,
-) -> Result<(), Stop>
-    requires { IsWithinLimits config.now }
-{
-    let Ok(exchange) = Exchange::new(alloc, writer) else {
-        return Err(Stop::Memory);
-    };
-    let Ok(incoming) = Incoming::new(alloc, reader, &exchange) else {
-        return Err(Stop::Memory);
-    };
-    match started(&alloc, config, starts) {
-        Err(stop) => Err(stop),
-        Ok(session) => run_as_json_on(alloc, session, Dialect::CrLf, incoming, &exchange),
-    }
 }
 
 // Runs the script of the reader behind the steps of the starts, with a heap or none.
@@ -223,25 +183,6 @@ pub fn run_script<R: Files + AllocGlobal, I: Read + Drop, O: Write + Drop>(
     match all_opened(rt, rt.alloc(), starts) {
         Err(stop) => Err(stop),
         Ok(starts) => run_sound(rt.alloc(), &config, heap, starts, reader, writer),
-    }
-}
-
-// Runs the script of the reader as `run_script` does without a heap, and tells of its lines as JSON.
-fn run_script_as_json<R: Files + AllocGlobal, I: Read + Drop, O: Write + Drop>(
-    rt: &R,
-    config: Config,
-    starts: Vec<String>,
-    reader: I,
-    writer: O,
-) -> Result<(), Stop>
-    ensures { IfSome (fault_of config) (λ fault. result ≡ Err (stop_of_config fault)) }
-{
-    if let Some(fault) = fault_of(&config) {
-        return Err(Stop::from(fault));
-    }
-    match all_opened(rt, rt.alloc(), starts) {
-        Err(stop) => Err(stop),
-        Ok(starts) => run_as_json_in(rt.alloc(), &config, starts, reader, writer),
     }
 }
 
