@@ -1,7 +1,7 @@
 -- What holds of a request that was read.
 -- Rule of this project: the bounds of `--temp-ttl`, `--heap` and the number of files; and which words ask for an import and
 -- for traces to be opened.
-use Rattle.std.specs.Prelude.{ℕ, ℤ, pos, negsuc, Bool, true, false, nat_eq, ◌≡◌, ◌≤◌, List, [], ◌∷◌, length, IfSome, codes}
+use Rattle.std.specs.Prelude.{ℕ, ℤ, pos, negsuc, Bool, true, false, nat_eq, ◌≡◌, ◌≤◌, List, [], ◌∷◌, length, IfSome, Option, None, codes}
 use Rattle.std.specs.Str.{bytes_eq}
 use Rattle.rev_options.specs.declared.Request.{Request}
 use Rattle.rev_options.specs.declared.Request.TheVariants.{Run, Record, ImportWatch, ImportCsv, ImportState, Open}
@@ -15,9 +15,9 @@ is_temp_ttl (negsuc n) = nat_eq n 0
 abbrev pub IsHeap : ℕ → Type 0
 IsHeap bytes = (4096 ≤ bytes) × (bytes ≤ 1073741824)
 
--- a time to live that there is; for a run a heap that may be asked for, where one is; for a recording one to eight files; for an import a log, or a trace
+-- a time to live that there is; for a run a heap that may be asked for, where one is, and none where JSON is; for a recording one to eight files; for an import a log, or a trace
 abbrev pub IsInRange : Request → Type 0
-IsInRange (Run config heap starts) = (is_temp_ttl config.temp_ttl ≡ true) × IfSome heap IsHeap
+IsInRange (Run config heap starts json) = (is_temp_ttl config.temp_ttl ≡ true) × IfSome heap IsHeap × (json ≡ true → heap ≡ None)
 IsInRange (Record config starts files) = (is_temp_ttl config.temp_ttl ≡ true) × (1 ≤ length files.items) × (length files.items ≤ 8)
 IsInRange (ImportWatch asked) = 1 ≤ length asked.logs.items
 IsInRange (ImportCsv asked) = (is_temp_ttl asked.config.temp_ttl ≡ true) × (1 ≤ length asked.traces.items)

@@ -37,11 +37,12 @@ pub const MAX_HEAP: usize = 1073741824;
 #[derive(Debug, Drop)]
 pub enum Request {
     /// Run the script of the standard input, from the state that the steps of the files `starts` leave. With `heap`, all
-    /// that the run keeps lies in one heap of so many bytes.
+    /// that the run keeps lies in one heap of so many bytes. With `json`, and no heap then, answers are told as JSON.
     Run {
         config: Config,
         heap: Option<usize>,
         starts: Vec<String>,
+        json: bool,
     },
     /// Play the scripts of one to eight files at once, each as an actor, from the state that the steps of `starts` leave.
     Record {
@@ -173,11 +174,22 @@ fn start<'a>(alloc: Global) -> Arg<'a> {
         )
 }
 
+/// The option by which answers are told as JSON.
+fn json<'a>(alloc: Global) -> Arg<'a> {
+    Arg::new(alloc, "json")
+        .long("json")
+        .action(ArgAction::SetTrue)
+        .help("Tells of each line in a line of JSON, in the place of its answer")
+}
+
 fn run_command<'a>(alloc: Global) -> Result<Command<'a>, AllocError> {
     let run = Command::new(alloc, "run").about(
         "Runs a script from the standard input, and answers each line",
     );
-    with_config(alloc, run)?.arg(heap(alloc))?.arg(start(alloc))
+    with_config(alloc, run)?
+        .arg(heap(alloc))?
+        .arg(start(alloc))?
+        .arg(json(alloc))
 }
 
 fn files<'a>(alloc: Global) -> Arg<'a> {
@@ -262,10 +274,19 @@ fn run(alloc: Global, matches: &ArgMatches<'_>) -> Result<Request, Error>
     let config = config_of(matches);
     let heap = heap_of(alloc, matches)?;
     let starts = files_of(alloc, matches, "start")?;
+    let json = matches.get_flag("json");
+    if json && heap.is_some() {
+        return Err(fault(
+            alloc,
+            ErrorKind::ArgumentConflict,
+            "run: --json takes no --heap",
+        )?);
+    }
     Ok(Request::Run {
         config,
         heap,
         starts,
+        json,
     })
 }
 

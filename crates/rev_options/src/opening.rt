@@ -3,7 +3,7 @@ ghost use Rattle.std.specs.Prelude.{◌≡◌, map, true, false, IfOk};
 ghost use Rattle.rev_options.specs.Request.{IsInRange, IsOfWords, asks_open, OpensBy};
 
 use crate::import::STANDARD;
-use crate::{Request, config_of, fault, files_of, start, with_config};
+use crate::{Request, config_of, fault, files_of, json, start, with_config};
 use clap::error::ErrorKind;
 use clap::{Arg, ArgAction, ArgMatches, Command, Error};
 use rev_classes::Config;
@@ -18,6 +18,8 @@ pub struct Opening {
     pub starts: Vec<String>,
     /// The names of the traces in order, none of them `-`.
     pub traces: Vec<String>,
+    /// Whether answers are told as JSON.
+    pub json: bool,
 }
 
 fn traces<'a>(alloc: Global) -> Arg<'a> {
@@ -37,7 +39,8 @@ pub fn open_command<'a>(alloc: Global) -> Result<Command<'a>, AllocError> {
     );
     with_config(alloc, command)?
         .arg(start(alloc))?
-        .arg(traces(alloc))
+        .arg(traces(alloc))?
+        .arg(json(alloc))
 }
 
 /// Whether the first word says `open`.
@@ -74,5 +77,6 @@ pub fn opening_of(alloc: Global, matches: &ArgMatches<'_>) -> Result<Request, Er
         config,
         starts,
         traces,
+        json: matches.get_flag("json"),
     }))
 }

@@ -4,6 +4,7 @@
 
 mod fault;
 pub mod import;
+mod json;
 pub mod opening;
 pub mod play;
 pub mod program;

@@ -5,6 +5,7 @@ ghost use Rattle.rev_program.specs.Opening.{IsTrace, AreTraces, IsOpened, IsNote
 ghost use Rattle.rev_program.specs.Program.{IsStatus, StopsBy, EndsBehind};
 ghost use Rattle.rev_program.specs.Stop.{stop_of_config};
 
+use crate::json::run_as_json_on;
 use crate::program::{all_opened, ended, run_on};
 use crate::starts::started;
 use crate::stop::Stop;
@@ -124,10 +125,11 @@ fn opened_with_traces<R: Files + AllocGlobal>(
     with_traces(&rt.alloc(), config, starts, traces)
 }
 
-// Answers the session that the reader gives, of which LF ends data as CR LF does.
+// Answers the session that the reader gives, of which LF ends data as CR LF does; with `json` as JSON.
 fn answer<I: Read + Drop, O: Write + Drop>(
     alloc: Global,
     session: Session<Global>,
+    json: bool,
     reader: I,
     writer: O,
 ) -> Result<(), Stop> {
@@ -140,7 +142,11 @@ fn answer<I: Read + Drop, O: Write + Drop>(
         let _session = ManuallyDrop::new(session);
         return Err(Stop::Memory);
     };
-    run_on(&alloc, session, Dialect::AnyFeed, incoming, &exchange)
+    if json {
+        run_as_json_on(alloc, session, Dialect::AnyFeed, incoming, &exchange)
+    } else {
+        run_on(&alloc, session, Dialect::AnyFeed, incoming, &exchange)
+    }
 }
 
 /// Plays the traces that are asked for, and answers the session that the reader gives. A configuration at fault is told
@@ -161,6 +167,7 @@ pub fn open_traces<R: Files + AllocGlobal, I: Read + Drop, O: Write + Drop, E: S
         config,
         starts,
         traces,
+        json,
     } = asked;
     if let Some(fault) = fault_of(&config) {
         return ended(Err(Stop::from(fault)), errors);
@@ -169,7 +176,7 @@ pub fn open_traces<R: Files + AllocGlobal, I: Read + Drop, O: Write + Drop, E: S
         Err(stop) => ended(Err(stop), errors),
         Ok((session, full)) => {
             note(&full, errors);
-            ended(answer(rt.alloc(), session, reader, writer), errors)
+            ended(answer(rt.alloc(), session, json, reader, writer), errors)
         }
     }
 }

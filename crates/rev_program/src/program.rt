@@ -8,6 +8,7 @@ ghost use Rattle.rev_program.specs.Stop.{status, text, stop_of_config};
 ghost use Rattle.rev_program.specs.Telling.{Told};
 
 use crate::import::import_watch;
+use crate::json::run_script_as_json;
 use crate::opening::open_traces;
 use crate::play::play_files;
 use crate::starts::started;
@@ -21,7 +22,7 @@ use rev_output::exchange::{Exchange, Incoming, Outgoing};
 use rev_output::{Sink, ToWrite};
 use rev_script::dialect::Dialect;
 use rev_script::source::FromRead;
-use rev_shell::run::{RunFault, run_at_last};
+use rev_shell::run::{RunFault, Summary, run_at_last};
 use rev_undotree::Session;
 use std::alloc::{Allocator, Global};
 use std::convert::AsStr;
@@ -48,6 +49,21 @@ pub(crate) fn ended<E: Sink>(done: Result<(), Stop>, errors: &mut E) -> u8
     }
 }
 
+/// How a run ended, behind what it wrote. What was answered before a fault is sent all the same.
+pub(crate) fn sent_behind<O: Write + Drop>(
+    done: Result<Summary, RunFault>,
+    exchange: &Exchange<O>,
+) -> Result<(), Stop> {
+    let sent = exchange.send();
+    match done {
+        // A read sends first, and what failed then was a write.
+        Err(RunFault::Read) if exchange.has_failed() => Err(Stop::CannotWrite),
+        Err(fault) => Err(Stop::from(fault)),
+        Ok(_) if sent.is_err() => Err(Stop::CannotWrite),
+        Ok(_) => Ok(()),
+    }
+}
+
 /// Runs the script of the reader, in a dialect, on a session, with all that the run keeps in `alloc`.
 pub(crate) fn run_on<A: Allocator + Clone, I: Read + Drop, O: Write + Drop>(
     alloc: &A,
@@ -59,15 +75,7 @@ pub(crate) fn run_on<A: Allocator + Clone, I: Read + Drop, O: Write + Drop>(
     let mut source = FromRead::new(reader);
     let mut sink = ToWrite::new(Outgoing::new(exchange));
     let done = run_at_last(alloc, session, dialect, &mut source, &mut sink);
-    // What was answered before a fault is sent all the same.
-    let sent = exchange.send();
-    match done {
-        // A read sends first, and what failed then was a write.
-        Err(RunFault::Read) if exchange.has_failed() => Err(Stop::CannotWrite),
-        Err(fault) => Err(Stop::from(fault)),
-        Ok(_) if sent.is_err() => Err(Stop::CannotWrite),
-        Ok(_) => Ok(()),
-    }
+    sent_behind(done, exchange)
 }
 
 // Runs the script of the reader behind the steps of the starts, with all that the run keeps in `alloc`.
@@ -178,6 +186,25 @@ pub fn run_script<R: Files + AllocGlobal, I: Read + Drop, O: Write + Drop>(
     }
 }
 
+// Runs the script of the reader as `run_script` does; with `json`, and no heap then, it tells of its lines as JSON.
+fn run_asked<R: Files + AllocGlobal, I: Read + Drop, O: Write + Drop>(
+    rt: &R,
+    config: Config,
+    heap: Option<usize>,
+    starts: Vec<String>,
+    json: bool,
+    reader: I,
+    writer: O,
+) -> Result<(), Stop>
+    ensures { IfSome (fault_of config) (λ fault. result ≡ Err (stop_of_config fault)) }
+{
+    if json {
+        run_script_as_json(rt, config, starts, reader, writer)
+    } else {
+        run_script(rt, config, heap, starts, reader, writer)
+    }
+}
+
 // The starts and the files, opened in order, and a session on which the steps of the starts were played.
 fn opened_for_recording<R: Files + AllocGlobal>(
     rt: &R,
@@ -245,8 +272,14 @@ pub fn program<
                 config,
                 heap,
                 starts,
+                json,
             },
-        ) => { ended(run_script(rt, config, heap, starts, reader, writer), errors) }
+        ) => {
+            ended(
+                run_asked(rt, config, heap, starts, json, reader, writer),
+                errors,
+            )
+        }
         Ok(
             Request::Record {
                 config,

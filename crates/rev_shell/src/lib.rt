@@ -2,7 +2,7 @@
 #![tactic(auto)]
 
 mod answer;
-mod bookmarks;
+pub mod bookmarks;
 mod classes;
 mod play;
 pub mod quiet;

@@ -46,7 +46,8 @@ pub enum RunFault {
     TooLong,
 }
 
-fn fault_at(fault: LineFault, line: u64) -> RunFault
+/// The fault of a run that a reader's fault at this line is, counted from 1.
+pub fn fault_at(fault: LineFault, line: u64) -> RunFault
     ensures { result ≡ run_fault fault line }
 {
     match fault {
@@ -56,8 +57,8 @@ fn fault_at(fault: LineFault, line: u64) -> RunFault
     }
 }
 
-// Does what a line asks for; the answer is then in `text` and nothing else.
-fn answer_line<A: Allocator + Clone>(
+/// Does what a line asks for; the answer is then in `text` and nothing else. At an error the text is of no use.
+pub fn answer_line<A: Allocator + Clone>(
     session: &mut Session<A>,
     bookmarks: &mut Bookmarks<'_, A>,
     line: Line<A>,

@@ -7,12 +7,12 @@ returns-in-Err-clause-status c = search rules steps 4000000
 
 pub returns-in-Ok-Run-clause-early : goal.returns-in-Ok-Run-clause-early
 returns-in-Ok-Run-clause-early g c =
-    λ n o. inl (stopped_of _ _ _ _ c.run_script.result _ c.ended-in-Ok-Run.ensures.status c.ended-in-Ok-Run.ensures.told n)
+    λ n o. inl (stopped_of _ _ _ _ c.run_asked.result _ c.ended-in-Ok-Run.ensures.status c.ended-in-Ok-Run.ensures.told n)
 
 pub returns-in-Ok-Run-clause-behind : goal.returns-in-Ok-Run-clause-behind
 returns-in-Ok-Run-clause-behind g c =
     λ i. plainly _ _ _ _ _ c.ended-in-Ok-Run.ensures.quiet
-    (λ n. inl (stopped_of _ _ _ _ c.run_script.result _ c.ended-in-Ok-Run.ensures.status c.ended-in-Ok-Run.ensures.told n))
+    (λ n. inl (stopped_of _ _ _ _ c.run_asked.result _ c.ended-in-Ok-Run.ensures.status c.ended-in-Ok-Run.ensures.told n))
 
 pub returns-in-Err-clause-behind : goal.returns-in-Err-clause-behind
 returns-in-Err-clause-behind g c =

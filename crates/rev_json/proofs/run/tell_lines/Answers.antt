@@ -1,0 +1,104 @@
+use Rattle.std.proofs.Common.{[], None, inl, refl, sym, ◌∙◌, ap, arith}
+use Rattle.rev_script.specs.Script.{onwards, cuts}
+use Rattle.rev_script.proofs.Known.{Took-refl}
+use Rattle.rev_script.proofs.Scripts.{takes_byte, first-unused, first-given}
+use Rattle.rev_output.specs.Sink.{PlainSink, sink_at}
+use Rattle.rev_shell.proofs.Runs.{progress, finished, memory_now, fault_now, front_now, still_whole}
+use Rattle.rev_json.proofs.run.tell_lines.Goals as goal
+
+-- (what is not written to)
+nowhere : PlainSink
+nowhere = sink_at None 0
+
+pub lines-init : goal.lines-init
+lines-init g c =
+    let start = c.args.lines.now.input in (
+      ap (λ l. l.fault) c.requires,
+      omega arith,
+      omega (arith, first-given _ c.requires),
+      record {
+        done = [];
+        read = [];
+        took = Took-refl;
+        dialect_is = refl;
+        lines_are = inl (record { cuts_are = λ more. ap (λ l. cuts start.dialect (onwards l.input.passes more)) (sym c.requires) });
+        count_is = refl;
+        session_is = refl;
+        wrote = tt;
+        writes = refl;
+      },
+    )
+
+pub returns-in-Err-clause-err : goal.returns-in-Err-clause-err
+returns-in-Err-clause-err g c =
+    let i = c.lines.invariant in
+    let w = still_whole i.3 (λ e. let n = (c.in-Err.ensures.stays i.0 e.ended).0 in cc) in
+    rw c.fault_at.ensures (fault_now _ _ _ c.next.new.self.input _ _ nowhere _ _ _ (first-unused _ c.requires) (first-given _ c.requires) i.3 c.in-Err.fault w (c.in-Err.ensures.err i.0))
+
+pub returns-in-None-clause-ok : goal.returns-in-None-clause-ok
+returns-in-None-clause-ok g c =
+    let i = c.lines.invariant in
+    let n = rw c.in-None.is at c.in-Ok.ensures.ok in
+    finished _ _ _ c.next.new.self.input _ _ nowhere _ _ _ (first-unused _ c.requires) (first-given _ c.requires) i.3 _ c.issued.ensures (λ e. (c.in-Ok.ensures.stays i.0 e).1) n
+
+pub returns-in-Err-answer_line-clause-err : goal.returns-in-Err-answer_line-clause-err
+returns-in-Err-answer_line-clause-err g c =
+    let i = c.lines.invariant in
+    let n = rw c.in-Some.is at c.in-Ok.ensures.ok in
+    let w = still_whole i.3 (λ e. let x = (c.in-Ok.ensures.stays i.0 e.ended).0 in cc) in
+    memory_now _ _ _ c.next.new.self.input _ _ nowhere _ _ _ (first-unused _ c.requires) (first-given _ c.requires) i.3 _ w n
+
+pub returns-in-Err-json_line-clause-err : goal.returns-in-Err-json_line-clause-err
+returns-in-Err-json_line-clause-err g c =
+    let i = c.lines.invariant in
+    let n = rw c.in-Some.is at c.in-Ok.ensures.ok in
+    let w = still_whole i.3 (λ e. let x = (c.in-Ok.ensures.stays i.0 e.ended).0 in cc) in
+    memory_now _ _ _ c.next.new.self.input _ _ nowhere _ _ _ (first-unused _ c.requires) (first-given _ c.requires) i.3 _ w n
+
+pub returns-in-Err-write_all-clause-err : goal.returns-in-Err-write_all-clause-err
+returns-in-Err-write_all-clause-err g c =
+    let i = c.lines.invariant in
+    let n = rw c.in-Some.is at c.in-Ok.ensures.ok in
+    let w = still_whole i.3 (λ e. let x = (c.in-Ok.ensures.stays i.0 e.ended).0 in cc) in
+    front_now _ _ _ _ _ _ _ _ _ _ (first-unused _ c.requires) (first-given _ c.requires) i.3 _ w n ([], _, tt, refl) c.in-Err-write_all.ensures.err.1
+
+pub lines-preserved : goal.lines-preserved
+lines-preserved g c =
+    let i = c.lines.invariant in
+    let n = rw c.in-Some.is at c.in-Ok.ensures.ok in
+    let w = still_whole i.3 (λ e. let x = (c.in-Ok.ensures.stays i.0 e.ended).0 in cc) in (
+      c.in-Ok.ensures.good,
+      omega (arith, takes_byte _ _ _ n.0 _ _ n.3, n.1.passed.count, i.1),
+      c.in-Ok.ensures.most,
+      progress _ _ _ _ _ _ _ _ _ _ (first-unused _ c.requires) (first-given _ c.requires) i.3 _ _ w n c.in-Ok-answer_line.ensures.state tt c.in-Ok-write_all.ensures.ok.1,
+    )
+
+pub lines-smaller : goal.lines-smaller
+lines-smaller g c =
+    let n = rw c.in-Some.is at c.in-Ok.ensures.ok in
+    omega (arith, takes_byte _ _ _ n.0 _ _ n.3, n.1.passed.count, c.in-Ok.ensures.most)
+
+pub returns-in-Err-clause-same : goal.returns-in-Err-clause-same
+returns-in-Err-clause-same g c =
+    let i = c.lines.invariant in
+    (c.in-Err.ensures.err i.0).1.passed.same ∙ i.3.took.passed.same
+
+pub returns-in-None-clause-same : goal.returns-in-None-clause-same
+returns-in-None-clause-same g c =
+    let n = rw c.in-None.is at c.in-Ok.ensures.ok in
+    n.1.passed.same ∙ c.lines.invariant.3.took.passed.same
+
+pub returns-in-Err-answer_line-clause-same : goal.returns-in-Err-answer_line-clause-same
+returns-in-Err-answer_line-clause-same g c =
+    let n = rw c.in-Some.is at c.in-Ok.ensures.ok in
+    n.1.passed.same ∙ c.lines.invariant.3.took.passed.same
+
+pub returns-in-Err-json_line-clause-same : goal.returns-in-Err-json_line-clause-same
+returns-in-Err-json_line-clause-same g c =
+    let n = rw c.in-Some.is at c.in-Ok.ensures.ok in
+    n.1.passed.same ∙ c.lines.invariant.3.took.passed.same
+
+pub returns-in-Err-write_all-clause-same : goal.returns-in-Err-write_all-clause-same
+returns-in-Err-write_all-clause-same g c =
+    let n = rw c.in-Some.is at c.in-Ok.ensures.ok in
+    n.1.passed.same ∙ c.lines.invariant.3.took.passed.same

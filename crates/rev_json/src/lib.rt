@@ -1,0 +1,10 @@
+//! Answers as JSON: one object for each line of a script.
+#![tactic(auto)]
+
+mod command;
+mod fields;
+mod forms;
+mod object;
+mod row;
+pub mod run;
+mod words;
