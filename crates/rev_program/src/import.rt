@@ -6,7 +6,7 @@ ghost use Rattle.rev_program.specs.declared.stop.Stop.{Stop};
 use crate::program::ended;
 use crate::stop::Stop;
 use either::Either;
-use rev_import::setup::{Setup, follow};
+use rev_import::setup::{Factor, Setup, follow};
 use rev_intake::fault::IntakeFault;
 use rev_intake::intake::{Intake, Range};
 use rev_intake::logs::make_script;
@@ -133,10 +133,14 @@ fn stats_if<R: Files + AllocGlobal>(
     }
 }
 
-// What lrudb is opened with in the place of the server.
-fn setup_of<R: Files + AllocGlobal>(rt: &R, asked: &WatchImport) -> Result<Setup, Stop> {
-    let settings = settings_of(rt, asked.settings.as_str())?;
-    match follow(&settings, asked.factor) {
+/// What lrudb is opened with in the place of the server whose settings this file has.
+pub(crate) fn setup_of<R: Files + AllocGlobal>(
+    rt: &R,
+    settings: &str,
+    factor: Option<Factor>,
+) -> Result<Setup, Stop> {
+    let settings = settings_of(rt, settings)?;
+    match follow(&settings, factor) {
         Ok(setup) => Ok(setup),
         Err(fault) => Err(Stop::from(fault)),
     }
@@ -178,8 +182,8 @@ pub(crate) fn all_opened<R: Files, I: Read + Drop>(
     Ok(logs)
 }
 
-// Why an import ends, at a log of this name.
-fn stop_of(alloc: Global, fault: IntakeFault, log: &str) -> Result<Stop, Stop> {
+/// Why an import ends, at a log of this name.
+pub(crate) fn stop_of(alloc: Global, fault: IntakeFault, log: &str) -> Result<Stop, Stop> {
     Ok(match fault {
         IntakeFault::Memory => Stop::Memory,
         IntakeFault::Read => Stop::CannotOpen(copied(alloc, log)?),
@@ -388,7 +392,7 @@ fn import<R: Files + AllocGlobal, I: Read + Drop, O: Write>(
     notes: &mut Vec<u8>,
 ) -> Result<(), Stop> {
     let stats = stats_if(rt, &asked.stats)?;
-    let setup = setup_of(rt, asked)?;
+    let setup = setup_of(rt, asked.settings.as_str(), asked.factor)?;
     put_unfollowed(notes, &setup.unfollowed)?;
     let mut words = Vec::new(rt.alloc());
     put_options(&mut words, &setup.config)?;

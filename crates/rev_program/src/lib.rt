@@ -2,8 +2,10 @@
 //! scripts played at once by several players on one session, with the rows that tell how it went.
 #![tactic(auto)]
 
+pub mod direct;
 mod fault;
 pub mod import;
+mod imported;
 pub mod opening;
 pub mod play;
 pub mod program;
