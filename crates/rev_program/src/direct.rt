@@ -11,6 +11,7 @@ use crate::opening::{Full, answer};
 use crate::program::{all_opened, ended};
 use crate::starts::started;
 use crate::stop::Stop;
+use crate::telling::tell_bytes;
 use crate::traces::{intake_of, sampled};
 use rev_classes::{Config, fault_of};
 use rev_intake::feed::{LogFeed, RowFeed};
@@ -19,7 +20,7 @@ use rev_intake::report::{put_part, put_report, put_unfollowed};
 use rev_intake::row_report::put_row_report;
 use rev_intake::rows::RowIntake;
 use rev_options::{CsvOpening, WatchOpening};
-use rev_output::{Sink, write_all};
+use rev_output::Sink;
 use rev_script::dialect::Dialect;
 use rev_script::source::FromRead;
 use rev_shell::trace::{TraceEnd, play_trace};
@@ -208,8 +209,7 @@ fn answered<I: Read + Drop, O: Write + Drop, E: Sink>(
     match opened {
         Err(stop) => ended(Err(stop), errors),
         Ok(session) => {
-            // There is nobody left to tell that this cannot be written.
-            let _ = write_all(errors, notes);
+            tell_bytes(errors, notes);
             ended(answer(alloc, session, reader, writer), errors)
         }
     }

@@ -2,6 +2,7 @@
 //! scripts played at once by several players on one session, with the rows that tell how it went.
 #![tactic(auto)]
 
+mod check;
 pub mod direct;
 mod fault;
 pub mod import;
