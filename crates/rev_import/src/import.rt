@@ -1,7 +1,7 @@
 //! The events of a log, made into the lines of a script.
 ghost use Rattle.std.specs.Prelude.{◌≡◌, ◌++◌, ◌∷◌, ◌-◌, [], length, OnOk, Some, None};
 ghost use Rattle.std.specs.Option.{option_copied};
-ghost use Rattle.core.specs.Slice.{IsItemAt};
+ghost use Rattle.std.specs.Slice.{IsItemAt};
 ghost use Rattle.rev_import.specs.Becoming.{Moves, evicted_key};
 ghost use Rattle.rev_import.specs.Figures.{no_figures};
 
