@@ -1,6 +1,7 @@
 //! The events of a log, made into the lines of a script.
 ghost use Rattle.std.specs.Prelude.{◌≡◌, ◌++◌, ◌∷◌, ◌-◌, [], length, OnOk, Some, None};
 ghost use Rattle.std.specs.Option.{option_copied};
+ghost use Rattle.std.specs.Slice.{IsItemAt};
 ghost use Rattle.rev_import.specs.Becoming.{Moves, evicted_key};
 ghost use Rattle.rev_import.specs.Figures.{no_figures};
 
@@ -130,6 +131,13 @@ impl<A: Allocator + Copy> Import<A> {
             self.write_first(out)?;
         }
         Ok(())
+    }
+
+    /// The event that waits longest, where any does.
+    pub fn first(&self) -> Option<&LogLine<A>>
+        ensures { IsItemAt self.now.waiting 0 result }
+    {
+        self.waiting.front()
     }
 
     /// How many events wait.

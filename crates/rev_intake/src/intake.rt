@@ -91,8 +91,8 @@ impl<A: Allocator + Copy> Intake<A> {
         })
     }
 
-    // Sends what is at hand of the script.
-    fn send<K: Sink>(&mut self, sink: &mut K) -> Result<(), IntakeFault>
+    /// Sends what is at hand of the script.
+    pub(crate) fn send<K: Sink>(&mut self, sink: &mut K) -> Result<(), IntakeFault>
         ensures sent { OnOk result (Appends (K.contents sink.old) (K.contents sink.new) self.old.waits) }
         ensures none_failed { OnOk result (K.failures sink.new ≡ K.failures sink.old) }
         ensures rest { OnOk result (self.new ≡ record self.old { waits = [] }) }
@@ -244,6 +244,49 @@ impl<A: Allocator + Copy> Intake<A> {
         self.empty_window(sink)?;
         self.empty_import(sink)?;
         self.send(sink)
+    }
+
+    /// Takes in the next line of a log, if there is one, as `take_log` does. The answer is whether there may be more.
+    pub(crate) fn take_next<S: Source, K: Sink>(
+        &mut self,
+        log: &mut LogReader<S>,
+        sink: &mut K,
+    ) -> Result<bool, IntakeFault> {
+        if log.lines() >= u64::MAX {
+            return Err(IntakeFault::TooLong);
+        }
+        match log.next(self.alloc)? {
+            None => Ok(false),
+            Some(NextLine::CutOff) => {
+                add(&mut self.counts.lines, 1);
+                add(&mut self.counts.cut_off, 1);
+                Ok(false)
+            }
+            Some(NextLine::Whole(line)) => {
+                self.take_line(line, sink)?;
+                Ok(true)
+            }
+        }
+    }
+
+    /// Behind the last log, takes in the next event that is held back, or writes the lines of one that waits, as `finish`
+    /// does with all. The answer is whether there may be more.
+    pub(crate) fn take_held<K: Sink>(&mut self, sink: &mut K) -> Result<bool, IntakeFault> {
+        let has_asked = self.counts.asked > 0;
+        if !has_asked {
+            return Err(IntakeFault::NoEvent);
+        }
+        if let Some(first) = self.window.pop() {
+            self.take(first.1, sink)?;
+            return Ok(true);
+        }
+        self.import.write_first(&mut self.out)?;
+        Ok(self.import.waiting() > 0)
+    }
+
+    /// The event whose lines are written next, where any waits.
+    pub(crate) fn first(&self) -> Option<&LogLine<A>> {
+        self.import.first()
     }
 
     /// What became of the lines so far.

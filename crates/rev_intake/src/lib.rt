@@ -4,6 +4,7 @@
 
 pub mod counts;
 pub mod fault;
+pub mod feed;
 pub mod intake;
 pub mod logs;
 pub mod report;

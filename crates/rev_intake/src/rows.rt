@@ -74,8 +74,8 @@ impl RowIntake {
         Ok(())
     }
 
-    // Takes in a row.
-    fn take<K: Sink>(&mut self, row: &Row, sink: &mut K) -> Result<(), RowsFault>
+    /// Takes in a row.
+    pub(crate) fn take<K: Sink>(&mut self, row: &Row, sink: &mut K) -> Result<(), RowsFault>
         ensures takes { OnOk result (TakesRows self.old self.new (row.now ∷ []) (K.contents sink.old) (K.contents sink.new) (K.failures sink.old) (K.failures sink.new)) }
         ensures err { IfErr result (λ e. StopsRow (K.failures sink.old) (K.failures sink.new) e) }
     {
@@ -125,6 +125,11 @@ impl RowIntake {
         }
         send(&mut self.out, sink)?;
         Ok(())
+    }
+
+    /// Sends what is at hand of the script.
+    pub(crate) fn send<K: Sink>(&mut self, sink: &mut K) -> Result<(), RowsFault> {
+        Ok(send(&mut self.out, sink)?)
     }
 
     /// What became of the rows so far.

@@ -1,10 +1,10 @@
 -- What holds of a request that was read.
--- Rule of this project: the bounds of `--temp-ttl`, `--heap` and the number of files; and which words ask for an import and
--- for traces to be opened.
-use Rattle.std.specs.Prelude.{ℕ, ℤ, pos, negsuc, Bool, true, false, nat_eq, ◌≡◌, ◌≤◌, List, [], ◌∷◌, length, IfSome, Option, None, codes}
+-- Rule of this project: the bounds of `--temp-ttl`, `--heap` and the number of files; and which words ask for an import, for
+-- traces to be opened, and for what `open` imports.
+use Rattle.std.specs.Prelude.{ℕ, ℤ, pos, negsuc, Bool, true, false, nat_eq, ◌||◌, ◌≡◌, ◌≤◌, List, [], ◌∷◌, take, length, IfSome, Option, None, codes}
 use Rattle.std.specs.Str.{bytes_eq}
 use Rattle.rev_options.specs.declared.Request.{Request}
-use Rattle.rev_options.specs.declared.Request.TheVariants.{Run, Record, ImportWatch, ImportCsv, ImportState, Open}
+use Rattle.rev_options.specs.declared.Request.TheVariants.{Run, Record, ImportWatch, ImportCsv, ImportState, Open, OpenWatch, OpenCsv}
 
 -- -1 where no item enters TEMP, else a number of seconds
 abbrev pub is_temp_ttl : ℤ → Bool
@@ -23,6 +23,8 @@ IsInRange (ImportWatch asked) = 1 ≤ length asked.logs.items
 IsInRange (ImportCsv asked) = (is_temp_ttl asked.config.temp_ttl ≡ true) × (1 ≤ length asked.traces.items)
 IsInRange (ImportState asked) = Unit {0}
 IsInRange (Open asked) = is_temp_ttl asked.config.temp_ttl ≡ true
+IsInRange (OpenWatch asked) = Unit {0}
+IsInRange (OpenCsv asked) = is_temp_ttl asked.config.temp_ttl ≡ true
 
 -- the first word says `import`
 abbrev pub asks_import : List (List ℕ) → Bool
@@ -44,4 +46,21 @@ asks_open (word ∷ words) = bytes_eq word (codes "open")
 -- traces are opened by that word alone
 abbrev pub OpensBy : Bool → Request → Type 0
 OpensBy asks (Open asked) = asks ≡ true
+OpensBy asks (OpenWatch asked) = asks ≡ true
+OpensBy asks (OpenCsv asked) = asks ≡ true
 OpensBy asks other = Unit {0}
+
+-- the word begins with these bytes
+abbrev pub begins_with : List ℕ → List ℕ → Bool
+begins_with front word = bytes_eq front (take (length front) word)
+
+-- a word begins with `--watch` or `--csv`
+abbrev pub brings : List (List ℕ) → Bool
+brings [] = false
+brings (word ∷ words) = (begins_with (codes "--watch") word || begins_with (codes "--csv") word) || brings words
+
+-- what `open` imports is asked for by such words alone
+abbrev pub BringsBy : Bool → Request → Type 0
+BringsBy brings (OpenWatch asked) = brings ≡ true
+BringsBy brings (OpenCsv asked) = brings ≡ true
+BringsBy brings other = Unit {0}

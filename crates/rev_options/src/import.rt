@@ -1,6 +1,6 @@
 //! The words of `lrudb import`.
 ghost use Rattle.std.specs.Prelude.{◌≡◌, ◌≤◌, length, map, true, false, IfOk};
-ghost use Rattle.rev_options.specs.Request.{IsInRange, IsOfWords, OpensBy, asks_import};
+ghost use Rattle.rev_options.specs.Request.{IsInRange, IsOfWords, OpensBy, BringsBy, asks_import};
 
 use crate::csv::{csv_command, csv_import};
 use crate::state::{state_command, state_import};
@@ -35,6 +35,8 @@ pub struct WatchImport {
     pub last: u32,
     /// What the files' names begin with; `-`: the script goes to the standard output.
     pub out: String,
+    /// The script is also played, and compared with the logs.
+    pub check: bool,
 }
 
 fn logs<'a>(alloc: Global) -> Arg<'a> {
@@ -106,7 +108,13 @@ fn watch_command<'a>(alloc: Global) -> Result<Command<'a>, AllocError> {
             "0",
             "The first second of the events that are asked for, by the Unix clock",
         ))?
-        .arg(second(alloc, "to", "4294967295", "The last second"))
+        .arg(second(alloc, "to", "4294967295", "The last second"))?
+        .arg(
+            Arg::new(alloc, "check")
+                .long("check")
+                .action(ArgAction::SetTrue)
+                .help("Also plays the script, and tells how many gets and evictions are as logged"),
+        )
 }
 
 /// The subcommand `import` with its own.
@@ -243,6 +251,7 @@ fn watch_import(alloc: Global, matches: &ArgMatches<'_>) -> Result<WatchImport, 
         first: matches.get_one("from").unwrap_or(0),
         last: matches.get_one("to").unwrap_or(u32::MAX),
         out: required(alloc, matches, "out")?,
+        check: matches.get_flag("check"),
     })
 }
 
@@ -251,6 +260,7 @@ pub fn import(alloc: Global, matches: &ArgMatches<'_>) -> Result<Request, Error>
     ensures range { IfOk result IsInRange }
     ensures words { IfOk result (IsOfWords true) }
     ensures opens { IfOk result (OpensBy false) }
+    ensures brings { IfOk result (BringsBy false) }
 {
     if let Some(inner) = matches.subcommand_matches("watch") {
         return Ok(Request::ImportWatch(watch_import(alloc, inner)?));

@@ -7,15 +7,15 @@ mod opening;
 mod state;
 
 ghost use Rattle.std.specs.Prelude.{◌≡◌, ◌≤◌, length, map, IfOk, IfSome, true, false};
-ghost use Rattle.rev_options.specs.Request.{IsInRange, IsHeap, IsOfWords, OpensBy, asks_import, asks_open, is_temp_ttl};
+ghost use Rattle.rev_options.specs.Request.{IsInRange, IsHeap, IsOfWords, OpensBy, BringsBy, asks_import, asks_open, brings, is_temp_ttl};
 
 use crate::import::{asks_import, import, import_command};
-use crate::opening::{asks_open, open_command, opening_of};
+use crate::opening::{asks_open, brings, open_command, opening_of};
 use clap::error::ErrorKind;
 use clap::{Arg, ArgAction, ArgMatches, Command, Error, value_parser};
 pub use csv::CsvImport;
 pub use import::{STANDARD, WatchImport};
-pub use opening::Opening;
+pub use opening::{CsvOpening, Opening, WatchOpening};
 use rev_classes::Config;
 pub use state::StateImport;
 use std::alloc::{AllocError, Global};
@@ -58,6 +58,10 @@ pub enum Request {
     ImportState(StateImport),
     /// Play traces, and answer the lines of the standard input at any node of theirs.
     Open(Opening),
+    /// The same of what logs become, as they are read.
+    OpenWatch(WatchOpening),
+    /// The same of what published traces become, as they are read.
+    OpenCsv(CsvOpening),
 }
 
 /// Why there is no request.
@@ -270,6 +274,7 @@ fn run(alloc: Global, matches: &ArgMatches<'_>) -> Result<Request, Error>
     ensures range { IfOk result IsInRange }
     ensures words { IfOk result (IsOfWords false) }
     ensures opens { IfOk result (OpensBy false) }
+    ensures brings { IfOk result (BringsBy false) }
 {
     let config = config_of(matches);
     let heap = heap_of(alloc, matches)?;
@@ -311,6 +316,7 @@ fn recording(alloc: Global, matches: &ArgMatches<'_>) -> Result<Request, Error>
     ensures range { IfOk result IsInRange }
     ensures words { IfOk result (IsOfWords false) }
     ensures opens { IfOk result (OpensBy false) }
+    ensures brings { IfOk result (BringsBy false) }
 {
     let config = config_of(matches);
     let starts = files_of(alloc, matches, "start")?;
@@ -330,16 +336,18 @@ fn recording(alloc: Global, matches: &ArgMatches<'_>) -> Result<Request, Error>
 }
 
 // What the words ask for by the parser's reading of them, or the parser's error. Whether the first word says `import` or
-// `open` is told apart, since the parser's contracts do not say so.
+// `open`, and whether one names what `open` is to import, is told apart, since the parser's contracts do not say so.
 fn request_of(
     alloc: Global,
     matches: &ArgMatches<'_>,
     asks_import: bool,
     asks_open: bool,
+    brings: bool,
 ) -> Result<Request, Error>
     ensures range { IfOk result IsInRange }
     ensures words { IfOk result (IsOfWords asks_import) }
     ensures opens { IfOk result (OpensBy asks_open) }
+    ensures brings { IfOk result (BringsBy brings) }
 {
     if let Some(inner) = matches.subcommand_matches("run") {
         return run(alloc, inner);
@@ -354,7 +362,7 @@ fn request_of(
     }
     if asks_open {
         if let Some(inner) = matches.subcommand_matches("open") {
-            return opening_of(alloc, inner);
+            return opening_of(alloc, inner, brings);
         }
     }
     Err(fault(alloc, ErrorKind::MissingSubcommand, "run")?)
@@ -365,9 +373,16 @@ fn parsed<S: AsStr>(alloc: Global, words: &[S]) -> Result<Request, Error>
     ensures range { IfOk result IsInRange }
     ensures words { IfOk result (IsOfWords (asks_import (map S.text words.now))) }
     ensures opens { IfOk result (OpensBy (asks_open (map S.text words.now))) }
+    ensures brings { IfOk result (BringsBy (brings (map S.text words.now))) }
 {
     let matches = whole_command(alloc)?.try_get_matches_from(words)?;
-    request_of(alloc, &matches, asks_import(words), asks_open(words))
+    request_of(
+        alloc,
+        &matches,
+        asks_import(words),
+        asks_open(words),
+        brings(words),
+    )
 }
 
 fn told(alloc: Global, error: Error) -> Refused {
@@ -383,11 +398,13 @@ fn told(alloc: Global, error: Error) -> Refused {
 /// What the words behind the program's name ask for.
 ///
 /// Words that ask for nothing that there is are refused with the parser's text, and so is a wish for help; a want of
-/// memory is told apart. An import is asked for by the first word `import` alone, and an opening by `open`. Whether a store can be opened with the numbers is `rev_classes::fault_of`'s to say.
+/// memory is told apart. An import is asked for by the first word `import` alone, and an opening by `open`; it imports only where a word
+/// begins with `--watch` or `--csv`. Whether a store can be opened with the numbers is `rev_classes::fault_of`'s to say.
 pub fn parse_words<S: AsStr>(alloc: Global, words: &[S]) -> Result<Request, Refused>
     ensures range { IfOk result IsInRange }
     ensures words { IfOk result (IsOfWords (asks_import (map S.text words.now))) }
     ensures opens { IfOk result (OpensBy (asks_open (map S.text words.now))) }
+    ensures brings { IfOk result (BringsBy (brings (map S.text words.now))) }
 {
     match parsed(alloc, words) {
         Ok(asked) => Ok(asked),

@@ -1,14 +1,30 @@
 //! The words of `lrudb open`.
-ghost use Rattle.std.specs.Prelude.{◌≡◌, map, true, false, IfOk};
-ghost use Rattle.rev_options.specs.Request.{IsInRange, IsOfWords, asks_open, OpensBy};
+ghost use Rattle.std.specs.Prelude.{◌≡◌, map, true, false, IfOk, IfSome};
+ghost use Rattle.rev_options.specs.Request.{IsInRange, IsOfWords, asks_open, OpensBy, BringsBy, begins_with, brings, is_temp_ttl};
 
-use crate::import::STANDARD;
+use crate::csv::sample_of;
+use crate::import::{STANDARD, factor_of, required, rhythm_of, text};
 use crate::{Request, config_of, fault, files_of, json, start, with_config};
 use clap::error::ErrorKind;
 use clap::{Arg, ArgAction, ArgMatches, Command, Error};
 use rev_classes::Config;
+use rev_import::policy::Rhythm;
+use rev_import::sample::Sample;
+use rev_import::setup::Factor;
 use std::alloc::{AllocError, Global};
 use std::convert::AsStr;
+
+/// The options that tell of the cache. A server's settings stand for them.
+const OF_THE_CACHE: [&str; 8] = [
+    "page-size",
+    "pages",
+    "num",
+    "den",
+    "bump",
+    "hash-power",
+    "now",
+    "temp-ttl",
+];
 
 /// Traces to look around in: their steps are played, each as a node, and a session is read from the standard input then.
 #[derive(Debug, Drop)]
@@ -18,6 +34,38 @@ pub struct Opening {
     pub starts: Vec<String>,
     /// The names of the traces in order, none of them `-`.
     pub traces: Vec<String>,
+    /// Whether answers are told as JSON.
+    pub json: bool,
+}
+
+/// Logs of a server's `watch` to look around in: what they become is played as they are read.
+#[derive(Debug, Drop)]
+pub struct WatchOpening {
+    /// The names of files whose steps are played before the logs, and of which only the state is kept.
+    pub starts: Vec<String>,
+    /// The logs' names in order, none of them `-`.
+    pub logs: Vec<String>,
+    /// The name of the text of `stats settings`.
+    pub settings: String,
+    /// The growth factor of chunk sizes, where it is given exactly.
+    pub factor: Option<Factor>,
+    pub rhythm: Rhythm,
+    /// Whether answers are told as JSON.
+    pub json: bool,
+}
+
+/// Published traces to look around in: what they become is played as they are read.
+#[derive(Debug, Drop)]
+pub struct CsvOpening {
+    /// The cache that is asked.
+    pub config: Config,
+    /// The names of files whose steps are played before the traces, and of which only the state is kept.
+    pub starts: Vec<String>,
+    /// The traces' names in order, none of them `-`.
+    pub traces: Vec<String>,
+    pub rhythm: Rhythm,
+    /// Which keys are taken, of how many.
+    pub sample: Sample,
     /// Whether answers are told as JSON.
     pub json: bool,
 }
@@ -32,15 +80,77 @@ fn traces<'a>(alloc: Global) -> Arg<'a> {
         )
 }
 
+// An option whose value is the name of a file, and which may be given again.
+fn names<'a>(alloc: Global, name: &'a str, unit: &'a str, help: &'a str) -> Arg<'a> {
+    text(alloc, name, unit, help).action(ArgAction::Append)
+}
+
+fn watch<'a>(alloc: Global) -> Result<Arg<'a>, AllocError> {
+    names(
+        alloc,
+        "watch",
+        "LOG",
+        "Plays what `import watch` makes of a log of memcached's watch; the settings tell of the cache [may be given again]",
+    )
+    .requires_arg("settings")?
+    .conflicts_with_all(&["traces", "csv", "sample"])?
+    .conflicts_with_all(&OF_THE_CACHE)
+}
+
+fn csv<'a>(alloc: Global) -> Result<Arg<'a>, AllocError> {
+    names(
+        alloc,
+        "csv",
+        "TRACE",
+        "Plays what `import csv` makes of a published trace of a cache [may be given again]",
+    )
+    .conflicts_with_all(&["traces", "settings", "factor"])
+}
+
+fn with_imports<'a>(alloc: Global, command: Command<'a>) -> Result<Command<'a>, AllocError> {
+    command
+        .arg(watch(alloc)?)?
+        .arg(text(
+            alloc,
+            "settings",
+            "FILE",
+            "With --watch: the server's text of `stats settings`",
+        )
+        .requires_arg("watch")?)?
+        .arg(text(
+            alloc,
+            "factor",
+            "N/D",
+            "With --watch: the growth factor of chunk sizes [without it: the decimals of the settings]",
+        )
+        .requires_arg("watch")?)?
+        .arg(csv(alloc)?)?
+        .arg(text(
+            alloc,
+            "sample",
+            "1/N",
+            "With --csv: takes one key of N, and makes pages N times smaller",
+        )
+        .requires_arg("csv")?)?
+        .arg(text(
+            alloc,
+            "steps",
+            "WHICH",
+            "With --watch or --csv: steps of the LRU maintainer: lean, none, or every:N lines of clients [without it: lean]",
+        )
+        .conflicts_with("traces")?)
+}
+
 /// The subcommand `open`.
 pub fn open_command<'a>(alloc: Global) -> Result<Command<'a>, AllocError> {
     let command = Command::new(alloc, "open").about(
         "Plays the steps of traces, and answers the lines of the standard input at any node of theirs",
     );
-    with_config(alloc, command)?
+    let command = with_config(alloc, command)?
         .arg(start(alloc))?
         .arg(traces(alloc))?
-        .arg(json(alloc))
+        .arg(json(alloc))?;
+    with_imports(alloc, command)
 }
 
 /// Whether the first word says `open`.
@@ -53,19 +163,31 @@ pub fn asks_open<S: AsStr>(words: &[S]) -> bool
     }
 }
 
+fn begins_with(word: &str, front: &str) -> bool
+    ensures { result ≡ begins_with front.now word.now }
+{
+    word.as_bytes().starts_with(front.as_bytes())
+}
+
+/// Whether a word names what is to be imported: it begins with `--watch` or `--csv`.
+pub fn brings<S: AsStr>(words: &[S]) -> bool
+    ensures { result ≡ brings (map S.text words.now) }
+{
+    for word in words {
+        if begins_with(word.as_str(), "--watch") || begins_with(word.as_str(), "--csv") {
+            return true;
+        }
+    }
+    false
+}
+
 fn has_standard(names: &Vec<String>) -> bool {
     names.iter().any(|name| name.as_str() == STANDARD)
 }
 
-/// The session that the words ask for, or the parser's error.
-pub fn opening_of(alloc: Global, matches: &ArgMatches<'_>) -> Result<Request, Error>
-    ensures range { IfOk result IsInRange }
-    ensures words { IfOk result (IsOfWords false) }
-    ensures opens { IfOk result (OpensBy true) }
-{
-    let config = config_of(matches);
-    let starts = files_of(alloc, matches, "start")?;
-    let traces = files_of(alloc, matches, "traces")?;
+// The names of traces that an argument has, in order, or the parser's error.
+fn named(alloc: Global, matches: &ArgMatches<'_>, of: &str) -> Result<Vec<String>, Error> {
+    let traces = files_of(alloc, matches, of)?;
     if has_standard(&traces) {
         return Err(fault(
             alloc,
@@ -73,10 +195,76 @@ pub fn opening_of(alloc: Global, matches: &ArgMatches<'_>) -> Result<Request, Er
             "open: - is no trace, since the session is read from the standard input",
         )?);
     }
-    Ok(Request::Open(Opening {
-        config,
-        starts,
+    Ok(traces)
+}
+
+fn watch_opening(
+    alloc: Global,
+    matches: &ArgMatches<'_>,
+    logs: Vec<String>,
+) -> Result<WatchOpening, Error> {
+    Ok(WatchOpening {
+        starts: files_of(alloc, matches, "start")?,
+        logs,
+        settings: required(alloc, matches, "settings")?,
+        factor: factor_of(alloc, matches)?,
+        rhythm: rhythm_of(alloc, matches)?,
+        json: matches.get_flag("json"),
+    })
+}
+
+fn csv_opening(
+    alloc: Global,
+    matches: &ArgMatches<'_>,
+    traces: Vec<String>,
+) -> Result<CsvOpening, Error>
+    ensures { IfOk result (λ asked. is_temp_ttl asked.config.temp_ttl ≡ true) }
+{
+    Ok(CsvOpening {
+        config: config_of(matches),
+        starts: files_of(alloc, matches, "start")?,
         traces,
+        rhythm: rhythm_of(alloc, matches)?,
+        sample: sample_of(alloc, matches)?,
+        json: matches.get_flag("json"),
+    })
+}
+
+// What is to be imported by the words, where something is, or the parser's error.
+fn brought(alloc: Global, matches: &ArgMatches<'_>) -> Result<Option<Request>, Error>
+    ensures range { IfOk result (λ asked. IfSome asked IsInRange) }
+    ensures words { IfOk result (λ asked. IfSome asked (IsOfWords false)) }
+    ensures opens { IfOk result (λ asked. IfSome asked (OpensBy true)) }
+    ensures brings { IfOk result (λ asked. IfSome asked (BringsBy true)) }
+{
+    let logs = named(alloc, matches, "watch")?;
+    if !logs.is_empty() {
+        return Ok(Some(Request::OpenWatch(watch_opening(alloc, matches, logs)?)));
+    }
+    let traces = named(alloc, matches, "csv")?;
+    if !traces.is_empty() {
+        return Ok(Some(Request::OpenCsv(csv_opening(alloc, matches, traces)?)));
+    }
+    Ok(None)
+}
+
+/// The session that the words ask for, or the parser's error. Whether a word names what is to be imported is told apart,
+/// since the parser's contracts do not say so.
+pub fn opening_of(alloc: Global, matches: &ArgMatches<'_>, brings: bool) -> Result<Request, Error>
+    ensures range { IfOk result IsInRange }
+    ensures words { IfOk result (IsOfWords false) }
+    ensures opens { IfOk result (OpensBy true) }
+    ensures brings { IfOk result (BringsBy brings) }
+{
+    if brings {
+        if let Some(asked) = brought(alloc, matches)? {
+            return Ok(asked);
+        }
+    }
+    Ok(Request::Open(Opening {
+        config: config_of(matches),
+        starts: files_of(alloc, matches, "start")?,
+        traces: named(alloc, matches, "traces")?,
         json: matches.get_flag("json"),
     }))
 }

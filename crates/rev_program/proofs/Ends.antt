@@ -1,14 +1,16 @@
 -- What the status tells of how the program ended.
-use Rattle.std.proofs.Common.{◌≡◌, ◌≢◌, ◌⊎◌, inl, inr, ℕ, List, Option, None, Some, String, Result, Ok, Err, IsErr, OnOk, IfErr, MatchResult, refl}
+use Rattle.std.proofs.Common.{◌≡◌, ◌≢◌, ◌⊎◌, inl, inr, ℕ, List, [], ◌++◌, Option, None, Some, String, Result, Ok, Err, IsErr, OnOk, IfErr, MatchResult, refl, sym, ◌∙◌, append-nil}
 use Rattle.std.specs.declared.alloc.Global.{Global}
-use Rattle.std.specs.Io.KnownBytes.{Keeps}
+use Rattle.std.specs.Io.KnownBytes.{Keeps, Appends}
 use Rattle.rev_program.specs.Fault as fault
-use Rattle.rev_program.specs.Program.{StopsBy, FailsBy, EndsEarly, EndsBehind, EndsUnwritten}
+use Rattle.rev_program.specs.Opening.{IsNoted, full_text}
+use Rattle.rev_program.specs.Program.{StopsBy, FailsBy, EndsEarly, EndsBehind, EndsNoted, EndsUnwritten}
 use Rattle.rev_program.specs.Recordings.{EndedBy, HasNoRows}
 use Rattle.rev_program.specs.Stop as stop
 use Rattle.rev_program.specs.Telling.{Told}
 use Rattle.rev_program.specs.declared.fault.RecordingFault.{RecordingFault}
 use Rattle.rev_program.specs.declared.fault.RecordingFault.TheVariants.{CannotWrite}
+use Rattle.rev_program.specs.declared.opening.Full.{Full}
 use Rattle.rev_program.specs.declared.stop.Stop.{Stop}
 
 -- only what ended well has the status 0
@@ -47,3 +49,32 @@ kept (Some xs) = refl
 -- nothing was told of traces
 pub plainly : (told tells : Option (List ℕ)) (before after n : ℕ) → (n ≡ 0 → Keeps told tells) → (n ≢ 0 → EndsEarly told tells before after n) → EndsBehind told tells before after n
 plainly told tells before after n quiet early = record { full = None; between = told; failures = before; noted = kept told; quiet = quiet; early = early }
+
+-- nothing is the empty text
+nothing : (a b : Option (List ℕ)) → Keeps a b → Appends a b []
+nothing None b h = tt
+nothing (Some xs) None h = absurd h
+nothing (Some xs) (Some ys) h = h ∙ sym (append-nil xs)
+
+noted_text : Option Full → List ℕ
+noted_text None = []
+noted_text (Some full) = full_text full
+
+told_text : (old new : Option (List ℕ)) (before after : ℕ) (full : Option Full) → IsNoted old new before after full → Told old new before after (noted_text full)
+told_text old new before after None h = record { front = ([], [], nothing old new h, refl); whole = λ _. nothing old new h }
+told_text old new before after (Some full) h = h
+
+-- what is told of traces is a note
+pub noted_of : (told tells : Option (List ℕ)) (before after n : ℕ) → EndsBehind told tells before after n → EndsNoted told tells before after n
+noted_of told tells before after n h = record {
+  notes = noted_text h.full;
+  between = h.between;
+  failures = h.failures;
+  noted = told_text told h.between before h.failures h.full h.noted;
+  quiet = h.quiet;
+  early = h.early;
+}
+
+-- nothing was told of an import
+pub unnoted : (told tells : Option (List ℕ)) (before after n : ℕ) → (n ≡ 0 → Keeps told tells) → (n ≢ 0 → EndsEarly told tells before after n) → EndsNoted told tells before after n
+unnoted told tells before after n quiet early = noted_of told tells before after n (plainly told tells before after n quiet early)

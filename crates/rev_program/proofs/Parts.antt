@@ -1,5 +1,5 @@
 -- Parts of a text, written one behind another.
-use Rattle.std.proofs.Common.{◌≡◌, ◌<◌, ℕ, zero, suc, ◌+◌, Bool, true, false, List, [], ◌∷◌, ◌++◌, length, map, drop, slice_index_or, Option, None, Some, refl, sym, subst, ◌∙◌, ap, arith, append_assoc, append-nil}
+use Rattle.std.proofs.Common.{◌≡◌, ◌<◌, ℕ, zero, suc, ◌+◌, Bool, true, false, List, [], ◌∷◌, ◌++◌, length, map, drop, slice_index_or, Option, None, Some, Result, Ok, Err, OnOk, OnErr, refl, sym, subst, ◌∙◌, ap, arith, append_assoc, append-nil}
 use Rattle.std.specs.Io.KnownBytes.{Appends}
 use Rattle.std.proofs.KnownBytes.{Appends-nil, Appends-trans}
 use Rattle.rev_output.specs.Sink.{WroteFront}
@@ -60,3 +60,9 @@ told_front old now new before after part rest left all s e w bad = record {
   );
   whole = λ good. absurd (one_more-differs before (sym bad ∙ good));
 }
+
+-- what was written at once
+pub told_by : {X E : Type 0} (r : Result X E) (old new : Option (List ℕ)) (before after : ℕ) (all : List ℕ) →
+    OnOk r (Appends old new all × (after ≡ before)) → OnErr r (WroteFront old new all × (after ≡ failures.one_more before)) → Told old new before after all
+told_by (Ok x) old new before after all ok err = told_all old new before after all ok.0
+told_by (Err e) old new before after all ok err = record { front = err.0; whole = λ good. absurd (one_more-differs before (sym err.1 ∙ good)) }

@@ -39,6 +39,16 @@ pub record EndsBehind (told tells : Option (List ℕ)) (before after : ℕ) (res
   pub quiet : result ≡ 0 → Keeps between tells
   pub early : result ≢ 0 → EndsEarly between tells failures after result
 
+-- behind what may have been told of what was imported, and of traces that fill the tree: nothing at status 0, else why the
+-- program ended early
+pub record EndsNoted (told tells : Option (List ℕ)) (before after : ℕ) (result : ℕ) : Type 0 where
+  pub notes : List ℕ
+  pub between : Option (List ℕ)
+  pub failures : ℕ
+  pub noted : Told told between before failures notes
+  pub quiet : result ≡ 0 → Keeps between tells
+  pub early : result ≢ 0 → EndsEarly between tells failures after result
+
 -- ended early as above, and nothing was written but where a write failed
 abbrev pub EndsUnwritten : Option (List ℕ) → Option (List ℕ) → ℕ → ℕ → ℕ → Option (List ℕ) → Option (List ℕ) → Type 0
 EndsUnwritten told tells before after result old new =

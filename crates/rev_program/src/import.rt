@@ -3,10 +3,12 @@ ghost use Rattle.std.specs.Prelude.{◌≡◌, ◌≢◌};
 ghost use Rattle.rev_program.specs.Program.{IsStatus, StopsBy};
 ghost use Rattle.rev_program.specs.declared.stop.Stop.{Stop};
 
+use crate::check::{Check, CheckedLogs};
 use crate::program::ended;
 use crate::stop::Stop;
 use either::Either;
-use rev_import::setup::{Setup, follow};
+use rev_classes::Config;
+use rev_import::setup::{Factor, Setup, follow};
 use rev_intake::fault::IntakeFault;
 use rev_intake::intake::{Intake, Range};
 use rev_intake::logs::make_script;
@@ -133,10 +135,14 @@ fn stats_if<R: Files + AllocGlobal>(
     }
 }
 
-// What lrudb is opened with in the place of the server.
-fn setup_of<R: Files + AllocGlobal>(rt: &R, asked: &WatchImport) -> Result<Setup, Stop> {
-    let settings = settings_of(rt, asked.settings.as_str())?;
-    match follow(&settings, asked.factor) {
+/// What lrudb is opened with in the place of the server whose settings this file has.
+pub(crate) fn setup_of<R: Files + AllocGlobal>(
+    rt: &R,
+    settings: &str,
+    factor: Option<Factor>,
+) -> Result<Setup, Stop> {
+    let settings = settings_of(rt, settings)?;
+    match follow(&settings, factor) {
         Ok(setup) => Ok(setup),
         Err(fault) => Err(Stop::from(fault)),
     }
@@ -178,8 +184,8 @@ pub(crate) fn all_opened<R: Files, I: Read + Drop>(
     Ok(logs)
 }
 
-// Why an import ends, at a log of this name.
-fn stop_of(alloc: Global, fault: IntakeFault, log: &str) -> Result<Stop, Stop> {
+/// Why an import ends, at a log of this name.
+pub(crate) fn stop_of(alloc: Global, fault: IntakeFault, log: &str) -> Result<Stop, Stop> {
     Ok(match fault {
         IntakeFault::Memory => Stop::Memory,
         IntakeFault::Read => Stop::CannotOpen(copied(alloc, log)?),
@@ -340,18 +346,31 @@ fn intake_of(alloc: Global, setup: Setup, asked: &WatchImport) -> Result<Intake<
     }
 }
 
+// A replay beside the import, where it is asked for.
+fn check_of(alloc: Global, is_asked: bool, config: &Config) -> Result<Option<Check>, Stop> {
+    if !is_asked {
+        return Ok(None);
+    }
+    match Check::open(alloc, config) {
+        Ok(check) => Ok(Some(check)),
+        Err(stop) => Err(stop),
+    }
+}
+
 // Opens the logs, and makes their script where it is asked for.
 fn import_logs<R: Files + AllocGlobal, I: Read + Drop, O: Write>(
     rt: &R,
     asked: &WatchImport,
     words: &[u8],
     intake: &mut Intake<Global>,
+    check: Option<&mut Check>,
     reader: I,
     writer: &mut O,
 ) -> Result<(), Stop> {
-    match all_opened(rt, rt.alloc(), asked.logs.as_slice(), reader) {
-        Ok(logs) => {
-            let names = asked.logs.as_slice();
+    let names = asked.logs.as_slice();
+    let logs = all_opened(rt, rt.alloc(), names, reader)?;
+    match check {
+        None => {
             let making = Logs {
                 intake,
                 names,
@@ -359,23 +378,38 @@ fn import_logs<R: Files + AllocGlobal, I: Read + Drop, O: Write>(
             };
             send(rt, asked.out.as_str(), words, making, writer)
         }
-        Err(stop) => Err(stop),
+        Some(check) => {
+            let making = CheckedLogs {
+                intake,
+                names,
+                logs,
+                check,
+            };
+            send(rt, asked.out.as_str(), words, making, writer)
+        }
     }
 }
 
-// Adds what is told of an import that went well: how its script is run, and what was counted.
+// Adds what is told of an import that went well: what was counted and compared, and how its script is run.
 fn add_report(
     notes: &mut Vec<u8>,
     asked: &WatchImport,
     words: &[u8],
     intake: &Intake<Global>,
+    check: &Option<Check>,
     stats: Option<LogStats>,
 ) -> Result<(), AllocError> {
-    if asked.out.as_str() == STANDARD {
+    let is_standard = asked.out.as_str() == STANDARD;
+    if is_standard {
         notes.extend_from_slice(words)?;
-        return put_report(notes, &intake.counts(), &intake.figures(), stats);
     }
     put_report(notes, &intake.counts(), &intake.figures(), stats)?;
+    if let Some(check) = check {
+        check.put(notes)?;
+    }
+    if is_standard {
+        return Ok(());
+    }
     put_run(notes, asked.out.as_bytes())
 }
 
@@ -388,13 +422,23 @@ fn import<R: Files + AllocGlobal, I: Read + Drop, O: Write>(
     notes: &mut Vec<u8>,
 ) -> Result<(), Stop> {
     let stats = stats_if(rt, &asked.stats)?;
-    let setup = setup_of(rt, asked)?;
+    let setup = setup_of(rt, asked.settings.as_str(), asked.factor)?;
     put_unfollowed(notes, &setup.unfollowed)?;
     let mut words = Vec::new(rt.alloc());
     put_options(&mut words, &setup.config)?;
+    let mut check = check_of(rt.alloc(), asked.check, &setup.config)?;
     let mut intake = intake_of(rt.alloc(), setup, asked)?;
-    import_logs(rt, asked, words.as_slice(), &mut intake, reader, writer)?;
-    match add_report(notes, asked, words.as_slice(), &intake, stats) {
+    let words = words.as_slice();
+    import_logs(
+        rt,
+        asked,
+        words,
+        &mut intake,
+        check.as_mut(),
+        reader,
+        writer,
+    )?;
+    match add_report(notes, asked, words, &intake, &check, stats) {
         Ok(()) => Ok(()),
         Err(_) => Err(Stop::Memory),
     }

@@ -2,8 +2,11 @@
 //! scripts played at once by several players on one session, with the rows that tell how it went.
 #![tactic(auto)]
 
+mod check;
+pub mod direct;
 mod fault;
 pub mod import;
+mod imported;
 mod json;
 pub mod opening;
 pub mod play;

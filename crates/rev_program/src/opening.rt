@@ -125,8 +125,8 @@ fn opened_with_traces<R: Files + AllocGlobal>(
     with_traces(&rt.alloc(), config, starts, traces)
 }
 
-// Answers the session that the reader gives, of which LF ends data as CR LF does; with `json` as JSON.
-fn answer<I: Read + Drop, O: Write + Drop>(
+/// Answers the session that the reader gives, of which LF ends data as CR LF does; with `json` as JSON.
+pub(crate) fn answer<I: Read + Drop, O: Write + Drop>(
     alloc: Global,
     session: Session<Global>,
     json: bool,

@@ -2,11 +2,12 @@
 ghost use Rattle.std.specs.Prelude.{◌≡◌, ◌≢◌, ◌≤◌, length, map, false, Err, IfOk, IfErr, IfSome, MatchResult};
 ghost use Rattle.std.specs.Io.KnownBytes.{Keeps};
 ghost use Rattle.rev_classes.specs.Limits.{IsWithinLimits, fault_of};
-ghost use Rattle.rev_options.specs.Request.{asks_import, asks_open};
-ghost use Rattle.rev_program.specs.Program.{IsStatus, StopsBy, EndsEarly, EndsBehind, EndsUnwritten};
+ghost use Rattle.rev_options.specs.Request.{asks_import, asks_open, brings};
+ghost use Rattle.rev_program.specs.Program.{IsStatus, StopsBy, EndsEarly, EndsBehind, EndsNoted, EndsUnwritten};
 ghost use Rattle.rev_program.specs.Stop.{status, text, stop_of_config};
 ghost use Rattle.rev_program.specs.Telling.{Told};
 
+use crate::direct::{open_csv, open_watch};
 use crate::import::import_watch;
 use crate::json::run_script_as_json;
 use crate::opening::open_traces;
@@ -250,8 +251,8 @@ fn record_files<R: Files + Threads + Wait + Sync + AllocGlobal, O: Write, E: Sin
 
 /// The whole program: does what the words behind its name ask for, and answers its exit status, 0 or 2 to 6.
 ///
-/// Answers go to `writer`. At status 0 nothing goes to `errors`, but what an import tells of itself, and what is told of
-/// traces that fill the tree; at any other the text of the reason does, whole where no write to `errors` has failed. The
+/// Answers go to `writer`. At status 0 nothing goes to `errors`, but what an import tells of itself, that of `open` too, and
+/// what is told of traces that fill the tree; at any other the text of the reason does, whole where no write to `errors` has failed. The
 /// players of a recording wait for one another.
 pub fn program<
     R: Files + Threads + Wait + Sync + AllocGlobal,
@@ -263,7 +264,8 @@ pub fn program<
     ensures status { IsStatus result }
     ensures early { result ≢ 0 → asks_open (map S.text words.now) ≡ false → EndsEarly (E.contents errors.old) (E.contents errors.new) (E.failures errors.old) (E.failures errors.new) result }
     ensures quiet { result ≡ 0 → asks_import (map S.text words.now) ≡ false → asks_open (map S.text words.now) ≡ false → Keeps (E.contents errors.old) (E.contents errors.new) }
-    ensures behind { asks_import (map S.text words.now) ≡ false → EndsBehind (E.contents errors.old) (E.contents errors.new) (E.failures errors.old) (E.failures errors.new) result }
+    ensures noted { asks_import (map S.text words.now) ≡ false → EndsNoted (E.contents errors.old) (E.contents errors.new) (E.failures errors.old) (E.failures errors.new) result }
+    ensures behind { asks_import (map S.text words.now) ≡ false → brings (map S.text words.now) ≡ false → EndsBehind (E.contents errors.old) (E.contents errors.new) (E.failures errors.old) (E.failures errors.new) result }
 {
     match parse_words(rt.alloc(), words) {
         Err(refused) => ended(Err(Stop::from(refused)), errors),
@@ -291,5 +293,7 @@ pub fn program<
         Ok(Request::ImportCsv(asked)) => import_csv(rt, asked, reader, &mut writer, errors),
         Ok(Request::ImportState(asked)) => import_state(rt, asked, errors),
         Ok(Request::Open(asked)) => open_traces(rt, asked, reader, writer, errors),
+        Ok(Request::OpenWatch(asked)) => open_watch(rt, asked, reader, writer, errors),
+        Ok(Request::OpenCsv(asked)) => open_csv(rt, asked, reader, writer, errors),
     }
 }

@@ -17,3 +17,11 @@ pub fn tell_parts<E: Sink>(errors: &mut E, parts: &[&str]) -> Result<(), WriteFa
     }
     Ok(())
 }
+
+/// Writes a text, or a front of it where that fails.
+pub fn tell_bytes<E: Sink>(errors: &mut E, text: &[u8])
+    ensures { Told (E.contents errors.old) (E.contents errors.new) (E.failures errors.old) (E.failures errors.new) text.now }
+{
+    // There is nobody left to tell that this cannot be written.
+    let _ = write_all(errors, text);
+}

@@ -7,7 +7,8 @@ use crate::import::{Making, all_opened, copied, name_in, send};
 use crate::program::ended;
 use crate::stop::Stop;
 use rev_classes::{ClassTable, Config, fault_of};
-use rev_import::sample::LEAST_PAGE;
+use rev_import::policy::Rhythm;
+use rev_import::sample::{LEAST_PAGE, Sample};
 use rev_intake::fault::RowsFault;
 use rev_intake::report::put_run;
 use rev_intake::row_report::{put_row_report, put_thin};
@@ -20,8 +21,8 @@ use std::alloc::{AllocError, Global};
 use std::io::{Read, Write};
 use std::rt::Files;
 
-// Why an import ends, at a trace of this name.
-fn stop_of(alloc: Global, fault: RowsFault, trace: &str) -> Result<Stop, Stop> {
+/// Why an import ends, at a trace of this name.
+pub(crate) fn stop_of(alloc: Global, fault: RowsFault, trace: &str) -> Result<Stop, Stop> {
     Ok(match fault {
         RowsFault::Memory => Stop::Memory,
         RowsFault::Read => Stop::CannotOpen(copied(alloc, trace)?),
@@ -62,22 +63,39 @@ impl<'a, F: Read + Drop> Making for Traces<'a, F> {
     }
 }
 
-// The configuration with pages as much smaller as the sample is, and a note where they would be too small.
-fn sampled(asked: &CsvImport, notes: &mut Vec<u8>) -> Result<Config, Stop> {
-    if let Some(fault) = fault_of(&asked.config) {
+/// The configuration with pages as much smaller as the sample is, and a note where they would be too small.
+pub(crate) fn sampled(
+    config: &Config,
+    sample: Sample,
+    notes: &mut Vec<u8>,
+) -> Result<Config, Stop> {
+    if let Some(fault) = fault_of(config) {
         return Err(Stop::from(fault));
     }
-    let page_size = match asked.sample.page_size(asked.config.page_size) {
+    let page_size = match sample.page_size(config.page_size) {
         Some(bytes) => bytes,
         None => {
-            put_thin(notes, asked.sample.one_of)?;
+            put_thin(notes, sample.one_of)?;
             LEAST_PAGE
         }
     };
     Ok(Config {
         page_size,
-        ..asked.config
+        ..*config
     })
+}
+
+/// An intake of the rows that are asked for.
+pub(crate) fn intake_of(
+    alloc: Global,
+    config: &Config,
+    rhythm: Rhythm,
+    sample: Sample,
+) -> Result<RowIntake, Stop> {
+    match ClassTable::build(config) {
+        Ok(classes) => Ok(RowIntake::new(alloc, classes, rhythm, sample, config.now)),
+        Err(fault) => Err(Stop::from(fault)),
+    }
 }
 
 // An intake of the rows that are asked for, and the words for a run of its script.
@@ -86,14 +104,10 @@ fn opened(
     asked: &CsvImport,
     notes: &mut Vec<u8>,
 ) -> Result<(RowIntake, Vec<u8>), Stop> {
-    let config = sampled(asked, notes)?;
-    let classes = match ClassTable::build(&config) {
-        Ok(classes) => classes,
-        Err(fault) => return Err(Stop::from(fault)),
-    };
+    let config = sampled(&asked.config, asked.sample, notes)?;
     let mut words = Vec::new(alloc);
     put_all_options(&mut words, &config)?;
-    let intake = RowIntake::new(alloc, classes, asked.rhythm, asked.sample, config.now);
+    let intake = intake_of(alloc, &config, asked.rhythm, asked.sample)?;
     Ok((intake, words))
 }
 

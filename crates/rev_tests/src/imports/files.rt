@@ -28,6 +28,7 @@ fn asked(rt: &impl Abort, alloc: Global) -> WatchImport {
         first: 0,
         last: u32::MAX,
         out: text(rt, alloc, "t"),
+        check: false,
     }
 }
 

@@ -1,5 +1,5 @@
 use Rattle.std.proofs.Common.{◌≡◌, true, false, inl, rules, sym, ◌∙◌, Err}
-use Rattle.rev_program.proofs.Ends.{stopped_of, plainly, early_of}
+use Rattle.rev_program.proofs.Ends.{stopped_of, plainly, unnoted, noted_of, early_of}
 use Rattle.rev_program.proofs.program.program.Goals as goal
 
 pub returns-in-Err-clause-status : goal.returns-in-Err-clause-status
@@ -11,13 +11,35 @@ returns-in-Ok-Run-clause-early g c =
 
 pub returns-in-Ok-Run-clause-behind : goal.returns-in-Ok-Run-clause-behind
 returns-in-Ok-Run-clause-behind g c =
-    λ i. plainly _ _ _ _ _ c.ended-in-Ok-Run.ensures.quiet
+    λ i b. plainly _ _ _ _ _ c.ended-in-Ok-Run.ensures.quiet
     (λ n. inl (stopped_of _ _ _ _ c.run_asked.result _ c.ended-in-Ok-Run.ensures.status c.ended-in-Ok-Run.ensures.told n))
 
 pub returns-in-Err-clause-behind : goal.returns-in-Err-clause-behind
 returns-in-Err-clause-behind g c =
-    λ i. plainly _ _ _ _ _ c.ended.ensures.quiet (λ n. inl (stopped_of _ _ _ _ (Err c.from.result) _ c.ended.ensures.status c.ended.ensures.told n))
+    λ i b. plainly _ _ _ _ _ c.ended.ensures.quiet (λ n. inl (stopped_of _ _ _ _ (Err c.from.result) _ c.ended.ensures.status c.ended.ensures.told n))
 
 pub returns-in-Ok-Record-clause-behind : goal.returns-in-Ok-Record-clause-behind
 returns-in-Ok-Record-clause-behind g c =
-    λ i. plainly _ _ _ _ _ c.record_files.ensures.quiet (λ n. early_of _ _ _ _ _ _ _ (c.record_files.ensures.early n))
+    λ i b. plainly _ _ _ _ _ c.record_files.ensures.quiet (λ n. early_of _ _ _ _ _ _ _ (c.record_files.ensures.early n))
+
+pub returns-in-Ok-Run-clause-noted : goal.returns-in-Ok-Run-clause-noted
+returns-in-Ok-Run-clause-noted g c =
+    λ i. unnoted _ _ _ _ _ c.ended-in-Ok-Run.ensures.quiet
+    (λ n. inl (stopped_of _ _ _ _ c.run_script.result _ c.ended-in-Ok-Run.ensures.status c.ended-in-Ok-Run.ensures.told n))
+
+pub returns-in-Err-clause-noted : goal.returns-in-Err-clause-noted
+returns-in-Err-clause-noted g c =
+    λ i. unnoted _ _ _ _ _ c.ended.ensures.quiet (λ n. inl (stopped_of _ _ _ _ (Err c.from.result) _ c.ended.ensures.status c.ended.ensures.told n))
+
+pub returns-in-Ok-Record-clause-noted : goal.returns-in-Ok-Record-clause-noted
+returns-in-Ok-Record-clause-noted g c =
+    λ i. unnoted _ _ _ _ _ c.record_files.ensures.quiet (λ n. early_of _ _ _ _ _ _ _ (c.record_files.ensures.early n))
+
+pub returns-in-Ok-Open-clause-noted : goal.returns-in-Ok-Open-clause-noted
+returns-in-Ok-Open-clause-noted g c = λ i. noted_of _ _ _ _ _ c.open_traces.ensures.ends
+
+pub returns-in-Ok-OpenWatch-clause-noted : goal.returns-in-Ok-OpenWatch-clause-noted
+returns-in-Ok-OpenWatch-clause-noted g c = λ i. c.open_watch.ensures.ends
+
+pub returns-in-Ok-OpenCsv-clause-noted : goal.returns-in-Ok-OpenCsv-clause-noted
+returns-in-Ok-OpenCsv-clause-noted g c = λ i. c.open_csv.ensures.ends

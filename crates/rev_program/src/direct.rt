@@ -1,0 +1,275 @@
+//! `lrudb open` of logs and of published traces: what an import would write is played as they are read, and then a session
+//! is answered.
+ghost use Rattle.std.specs.Prelude.{IfSome};
+ghost use Rattle.rev_classes.specs.Limits.{fault_of};
+ghost use Rattle.rev_program.specs.Program.{IsStatus, StopsBy, EndsNoted};
+ghost use Rattle.rev_program.specs.Stop.{stop_of_config};
+
+use crate::import::{all_opened as all_imported, copied, setup_of};
+use crate::imported::{Feed, ImportedScript, NamedLogs, NamedTraces};
+use crate::opening::{Full, answer};
+use crate::program::{all_opened, ended};
+use crate::starts::started;
+use crate::stop::Stop;
+use crate::telling::tell_bytes;
+use crate::traces::{intake_of, sampled};
+use rev_classes::{Config, fault_of};
+use rev_intake::feed::{LogFeed, RowFeed};
+use rev_intake::intake::{Intake, Range};
+use rev_intake::report::{put_part, put_report, put_unfollowed};
+use rev_intake::row_report::put_row_report;
+use rev_intake::rows::RowIntake;
+use rev_options::{CsvOpening, WatchOpening};
+use rev_output::Sink;
+use rev_script::dialect::Dialect;
+use rev_script::source::FromRead;
+use rev_shell::trace::{TraceEnd, play_trace};
+use rev_undotree::Session;
+use std::alloc::{AllocError, Global};
+use std::io;
+use std::io::{Read, Write};
+use std::mem::ManuallyDrop;
+use std::rt::Files;
+
+/// All seconds.
+const ALL: Range = Range {
+    first: 0,
+    last: u32::MAX,
+};
+
+// Plays the script of what is fed, each step as a node, and tells where it fills the tree, if it does.
+fn play_script<T: Feed + Drop>(
+    alloc: Global,
+    session: &mut Session<Global>,
+    feed: T,
+) -> Result<Option<Full>, Stop> {
+    let mut script = ImportedScript::new(alloc, feed);
+    let mut source = FromRead::new(&mut script);
+    match play_trace(&alloc, session, Dialect::CrLf, &mut source) {
+        Ok(TraceEnd::Whole) => Ok(None),
+        Ok(TraceEnd::Full { line }) => Ok(Some(Full {
+            file: copied(alloc, script.name())?,
+            line,
+        })),
+        Err(fault) => {
+            let name = copied(alloc, script.name())?;
+            match script.into_stop() {
+                Some(stop) => Err(stop),
+                None => Err(Stop::of(fault, name)),
+            }
+        }
+    }
+}
+
+// Adds where a script fills the tree, if it does. Each of its lines makes one step.
+fn add_full(notes: &mut Vec<u8>, full: Option<Full>) -> Result<(), AllocError> {
+    let Some(full) = full else {
+        return Ok(());
+    };
+    notes.extend_from_slice(b"lrudb: ")?;
+    notes.extend_from_slice(full.file.as_bytes())?;
+    put_part(
+        notes,
+        b": step ",
+        full.line,
+        b": no room in the tree for this step and what follows; a script of `lrudb import` can be parted, and --start FILE plays any number of steps\n",
+    )
+}
+
+// Plays what the logs become, and adds what is told of it.
+fn play_logs<R: Files + AllocGlobal>(
+    rt: &R,
+    names: &[String],
+    session: &mut Session<Global>,
+    intake: &mut Intake<Global>,
+    notes: &mut Vec<u8>,
+) -> Result<(), Stop> {
+    let alloc = rt.alloc();
+    let files = all_imported(rt, alloc, names, io::empty())?;
+    let logs = LogFeed::new(alloc, intake, files);
+    let full = play_script(alloc, session, NamedLogs { alloc, names, logs })?;
+    put_report(notes, &intake.counts(), &intake.figures(), None)?;
+    add_full(notes, full)?;
+    Ok(())
+}
+
+// Plays what the traces become, and adds what is told of it.
+fn play_rows<R: Files + AllocGlobal>(
+    rt: &R,
+    names: &[String],
+    session: &mut Session<Global>,
+    intake: &mut RowIntake,
+    notes: &mut Vec<u8>,
+) -> Result<(), Stop> {
+    let alloc = rt.alloc();
+    let files = all_imported(rt, alloc, names, io::empty())?;
+    let traces = RowFeed::new(alloc, intake, files);
+    let full = play_script(
+        alloc,
+        session,
+        NamedTraces {
+            alloc,
+            names,
+            traces,
+        },
+    )?;
+    put_row_report(notes, &intake.counts(), &intake.figures())?;
+    add_full(notes, full)?;
+    Ok(())
+}
+
+// The session behind the starts. A configuration at fault is told before a file is opened.
+fn begun<R: Files + AllocGlobal>(
+    rt: &R,
+    config: &Config,
+    starts: Vec<String>,
+) -> Result<Session<Global>, Stop> {
+    if let Some(fault) = fault_of(config) {
+        return Err(Stop::from(fault));
+    }
+    let alloc = rt.alloc();
+    let files = all_opened(rt, alloc, starts)?;
+    started(&alloc, config, files)
+}
+
+// The session, where all went well.
+fn kept(session: Session<Global>, played: Result<(), Stop>) -> Result<Session<Global>, Stop> {
+    match played {
+        Ok(()) => Ok(session),
+        Err(stop) => {
+            // The program ends here, and all memory goes back at once.
+            let _session = ManuallyDrop::new(session);
+            Err(stop)
+        }
+    }
+}
+
+// The session behind what the logs become.
+fn with_logs<R: Files + AllocGlobal>(
+    rt: &R,
+    asked: WatchOpening,
+    notes: &mut Vec<u8>,
+) -> Result<Session<Global>, Stop> {
+    let WatchOpening {
+        starts,
+        logs,
+        settings,
+        factor,
+        rhythm,
+    } = asked;
+    let setup = setup_of(rt, settings.as_str(), factor)?;
+    put_unfollowed(notes, &setup.unfollowed)?;
+    let config = setup.config;
+    let mut intake = Intake::open(rt.alloc(), setup, rhythm, ALL)?;
+    match begun(rt, &config, starts) {
+        Err(stop) => Err(stop),
+        Ok(mut session) => {
+            let played = play_logs(rt, logs.as_slice(), &mut session, &mut intake, notes);
+            kept(session, played)
+        }
+    }
+}
+
+// The session behind what the traces become.
+fn with_rows<R: Files + AllocGlobal>(
+    rt: &R,
+    asked: CsvOpening,
+    notes: &mut Vec<u8>,
+) -> Result<Session<Global>, Stop> {
+    let CsvOpening {
+        config,
+        starts,
+        traces,
+        rhythm,
+        sample,
+        ..
+    } = asked;
+    let config = sampled(&config, sample, notes)?;
+    let mut intake = intake_of(rt.alloc(), &config, rhythm, sample)?;
+    match begun(rt, &config, starts) {
+        Err(stop) => Err(stop),
+        Ok(mut session) => {
+            let played = play_rows(rt, traces.as_slice(), &mut session, &mut intake, notes);
+            kept(session, played)
+        }
+    }
+}
+
+// Tells the notes, and answers the session that the reader gives, where there is one; with `json` as JSON.
+fn answered<I: Read + Drop, O: Write + Drop, E: Sink>(
+    alloc: Global,
+    opened: Result<Session<Global>, Stop>,
+    notes: &[u8],
+    json: bool,
+    reader: I,
+    writer: O,
+    errors: &mut E,
+) -> u8
+    ensures status { IsStatus result }
+    ensures ends { EndsNoted (E.contents errors.old) (E.contents errors.new) (E.failures errors.old) (E.failures errors.new) result }
+{
+    match opened {
+        Err(stop) => ended(Err(stop), errors),
+        Ok(session) => {
+            tell_bytes(errors, notes);
+            ended(answer(alloc, session, json, reader, writer), errors)
+        }
+    }
+}
+
+/// Plays what the logs become that are asked for, each step as a node, as they are read, and answers the session that the
+/// reader gives. What the import tells of itself, and where the tree is full, is told before the session is read. Answers
+/// the exit status, and tells why where it is not 0.
+pub fn open_watch<R: Files + AllocGlobal, I: Read + Drop, O: Write + Drop, E: Sink>(
+    rt: &R,
+    asked: WatchOpening,
+    reader: I,
+    writer: O,
+    errors: &mut E,
+) -> u8
+    ensures status { IsStatus result }
+    ensures ends { EndsNoted (E.contents errors.old) (E.contents errors.new) (E.failures errors.old) (E.failures errors.new) result }
+{
+    let json = asked.json;
+    let mut notes = Vec::new(rt.alloc());
+    let opened = with_logs(rt, asked, &mut notes);
+    answered(
+        rt.alloc(),
+        opened,
+        notes.as_slice(),
+        json,
+        reader,
+        writer,
+        errors,
+    )
+}
+
+/// Plays what the published traces become that are asked for, in the same way. A configuration at fault is told before a
+/// file is opened.
+pub fn open_csv<R: Files + AllocGlobal, I: Read + Drop, O: Write + Drop, E: Sink>(
+    rt: &R,
+    asked: CsvOpening,
+    reader: I,
+    writer: O,
+    errors: &mut E,
+) -> u8
+    ensures config { IfSome (fault_of asked.config) (λ fault. StopsBy (E.contents errors.old) (E.contents errors.new) (E.failures errors.old) (E.failures errors.new) result (stop_of_config fault)) }
+    ensures status { IsStatus result }
+    ensures ends { EndsNoted (E.contents errors.old) (E.contents errors.new) (E.failures errors.old) (E.failures errors.new) result }
+{
+    if let Some(fault) = fault_of(&asked.config) {
+        return ended(Err(Stop::from(fault)), errors);
+    }
+    let json = asked.json;
+    let mut notes = Vec::new(rt.alloc());
+    let opened = with_rows(rt, asked, &mut notes);
+    answered(
+        rt.alloc(),
+        opened,
+        notes.as_slice(),
+        json,
+        reader,
+        writer,
+        errors,
+    )
+}
