@@ -74,7 +74,7 @@ fn sample(text: &str) -> Option<Sample> {
     }
 }
 
-fn sample_of(alloc: Global, matches: &ArgMatches<'_>) -> Result<Sample, Error> {
+pub(crate) fn sample_of(alloc: Global, matches: &ArgMatches<'_>) -> Result<Sample, Error> {
     match sample(matches.get_str("sample").unwrap_or("1/1")) {
         Some(sample) => Ok(sample),
         None => Err(fault(

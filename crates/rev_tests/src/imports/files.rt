@@ -3,6 +3,7 @@ use crate::imports::disk::{Disk, Room};
 use crate::imports::{LOG, SETTINGS};
 use crate::streams::Stutter;
 use rev_import::policy::Rhythm;
+use rev_import::sample::Sample;
 use rev_options::WatchImport;
 use rev_output::ToWrite;
 use rev_program::import::import_watch;
@@ -28,6 +29,8 @@ fn asked(rt: &impl Abort, alloc: Global) -> WatchImport {
         first: 0,
         last: u32::MAX,
         out: text(rt, alloc, "t"),
+        sample: Sample { one_of: 1 },
+        split: None,
     }
 }
 
