@@ -11,7 +11,24 @@ is_due None first = false
 is_due (Some split) None = false
 is_due (Some split) (Some first) = nat_le split first
 
--- before the lines of the event that waits longest are written: where the start ends in front of it, all that waited was sent to the
--- start, and it has ended; else nothing changes
+-- all that waited was sent to the start, and it has ended
+abbrev pub start_ended : {A : Type 0} → PlainIntake A → PlainIntake A
+start_ended i = record i { waits = []; split = None; start_lines = i.figures.lines }
+
+-- before the lines of the event that waits longest are written, the start ends where it ends in front of this event; else nothing changes
 abbrev pub split_off : {A : Type 0} → PlainIntake A → PlainIntake A
-split_off i = if is_due i.split (first_second i.waiting) then record i { waits = []; split = None } else i
+split_off i = if is_due i.split (first_second i.waiting) then start_ended i else i
+
+-- the lines of events that stand in the start: all so far, where it has not ended
+abbrev pub lines_before : Option ℕ → ℕ → ℕ → ℕ
+lines_before None ended all = ended
+lines_before (Some split) ended all = all
+
+abbrev pub lines_of_start : {A : Type 0} → PlainIntake A → ℕ
+lines_of_start i = lines_before i.split i.start_lines i.figures.lines
+
+-- what a contract sees of two writers, one for a start and one for what stands behind it: whether the start has ended, and how many writes
+-- and flushes failed, counted modulo 2 ^ 64
+pub record PlainStartAndScript : Type 0 where
+  pub is_behind : Bool
+  pub failures : ℕ

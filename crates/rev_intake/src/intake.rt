@@ -1,11 +1,11 @@
 //! Logs taken in line by line, and the script that they become sent out piece by piece.
-ghost use Rattle.std.specs.Prelude.{◌≡◌, ◌++◌, ◌∷◌, ◌-◌, [], length, None, IfOk, IfErr, OnOk};
+ghost use Rattle.std.specs.Prelude.{◌≡◌, ◌++◌, ◌∷◌, ◌-◌, [], length, IfOk, IfErr, OnOk};
 ghost use Rattle.std.specs.Io.KnownBytes.{Appends};
 ghost use Rattle.rev_watch.specs.Window.{empty_window, put_of};
 ghost use Rattle.rev_intake.specs.Counting.{more, no_counts, counted_put};
 ghost use Rattle.rev_intake.specs.Events.{is_asked, given_of, held_in};
 ghost use Rattle.rev_intake.specs.Sending.{Sends, Passes, Stops};
-ghost use Rattle.rev_intake.specs.Splitting.{split_off};
+ghost use Rattle.rev_intake.specs.Splitting.{start_ended, split_off, lines_of_start};
 
 use crate::counts::{LineCounts, add};
 use crate::fault::IntakeFault;
@@ -66,7 +66,7 @@ impl<A: Allocator> Model for Intake<A> {
 
     ghost Value = { PlainIntake A };
 
-    ghost view = { λ i. record { range = i.range; window = i.window; waiting = i.import.waiting; waits = i.out.items; counts = i.counts; figures = i.import.figures; split = i.split } };
+    ghost view = { λ i. record { range = i.range; window = i.window; waiting = i.import.waiting; waits = i.out.items; counts = i.counts; figures = i.import.figures; split = i.split; start_lines = i.start_lines } };
 }
 
 impl<A: Allocator + Copy> Intake<A> {
@@ -133,7 +133,7 @@ impl<A: Allocator + Copy> Intake<A> {
     // Sends what is at hand, which is the rest of the start, and ends it.
     fn end_start<K: Outlet>(&mut self, sink: &mut K) -> Result<(), IntakeFault>
         ensures sends { OnOk result (Sends self.old.waits [] [] (K.contents sink.old) (K.contents sink.new) (K.failures sink.old) (K.failures sink.new)) }
-        ensures ended { OnOk result (self.new ≡ record self.old { waits = []; split = None }) }
+        ensures ended { OnOk result (self.new ≡ start_ended self.old) }
         ensures err { IfErr result (λ e. Stops (K.failures sink.old) (K.failures sink.new) e) }
     {
         self.send(sink)?;
@@ -323,7 +323,9 @@ impl<A: Allocator + Copy> Intake<A> {
     }
 
     /// How many lines of events stand in the start so far, all of them where it has not ended. Each makes one step.
-    pub fn start_lines(&self) -> u64 {
+    pub fn start_lines(&self) -> u64
+        ensures { result ≡ lines_of_start self.now }
+    {
         match self.split {
             Some(_) => self.import.figures().lines,
             None => self.start_lines,

@@ -1,5 +1,5 @@
 //! Where a script goes, which may begin with a start: the steps in front of a second.
-ghost use Rattle.std.specs.Prelude.{◌≡◌};
+ghost use Rattle.std.specs.Prelude.{◌≡◌, false};
 ghost use Rattle.rev_intake.specs.Splitting.{is_due};
 
 use rev_output::{Sink, ToWrite, WriteFailed};
@@ -44,17 +44,17 @@ pub struct StartAndScript<W: Write> {
 }
 
 impl<W: Write> Model for StartAndScript<W> {
-    ghost use Rattle.std.specs.Prelude.{ℕ};
+    ghost use Rattle.rev_intake.specs.Splitting.{PlainStartAndScript};
 
-    ghost Value = { ℕ };
+    ghost Value = { PlainStartAndScript };
 
-    ghost view = { λ s. s.failures };
+    ghost view = { λ s. record { is_behind = s.is_behind; failures = s.failures } };
 }
 
 impl<W: Write> StartAndScript<W> {
     /// Nothing was written yet, and the start has not ended.
     pub fn new(start: W, script: W) -> StartAndScript<W>
-        ensures { result ≡ 0 }
+        ensures { result ≡ record { is_behind = false; failures = 0 } }
     {
         StartAndScript {
             start: ToWrite::new(start),
@@ -65,7 +65,9 @@ impl<W: Write> StartAndScript<W> {
     }
 
     /// Whether the start has ended.
-    pub fn is_behind(&self) -> bool {
+    pub fn is_behind(&self) -> bool
+        ensures { result ≡ self.now.is_behind }
+    {
         self.is_behind
     }
 }
@@ -76,7 +78,7 @@ impl<W: Write> Sink for StartAndScript<W> {
     // (those of two files are not known as one text)
     ghost contents = { λ s. None };
 
-    ghost failures = { λ s. s };
+    ghost failures = { λ s. s.failures };
 
     fn write(&mut self, buf: &[u8]) -> Result<usize, WriteFailed> {
         let taken = if self.is_behind {
