@@ -12,8 +12,8 @@ A case is a folder with these files:
     end       in place of `stdout`, what the standard output ends with
     like      in place of `stdout`, a regular expression for each line that is written there
     script, start, options
-              at status 0 what PREFIX.script or PREFIX.start, and PREFIX.options hold, where `--out PREFIX` is among the
-              words
+              at status 0 what PREFIX.script or PREFIX.start, or both, and PREFIX.options hold, where `--out PREFIX` is
+              among the words
     cut       with the line `after each byte`, where the log is also cut after each byte
 
 All others are the files that the program is run beside. Two names stand for what would be long, or many:
@@ -153,7 +153,8 @@ class Case:
         self.prefix = next((b for a, b in zip(words, words[1:]) if a == "--out"), None)
         logs = [b for a, b in zip(words, words[1:]) if b in files and not a.startswith("--")]
         self.log = logs[0] if len(logs) == 1 and words[0] == "import" else None
-        if self.status == 0 and self.prefix and not self.script and not self.start:
+        self.has_start = self.start is not None
+        if self.status == 0 and self.prefix and self.script is None and not self.has_start:
             raise ValueError(f"{name}: no script is wanted")
 
     def run(self, runner, log=None, size=None, out=None, fails=False, output=None):
@@ -189,9 +190,9 @@ class Case:
             return End(self.status, self.output, err, files)
         if out == STANDARD:
             return End(0, self.script, err if self.prefix == out else self.beside_script(err), files)
-        made = {f"{out}.start": self.start} if self.start else {f"{out}.script": self.script}
-        made[f"{out}.options"] = self.options
-        return End(0, self.output, err, {**files, **made})
+        made = {"start": self.start, "script": self.script, "options": self.options}
+        texts = {f"{out}.{end}": text for end, text in made.items() if text is not None}
+        return End(0, self.output, err, {**files, **texts})
 
     def beside_script(self, err):
         """What is told where the script goes to the standard output: the options too, and no files."""
@@ -227,7 +228,7 @@ class Case:
         fault = self.fault_of_writes(runner)
         if fault:
             return f"where a write fails: {fault}"
-        if not self.prefix or self.start:
+        if not self.prefix or self.has_start:
             return None
         fault = self.run(runner, out=STANDARD).difference(self.wanted(out=STANDARD))
         return f"with --out -: {fault}" if fault else None
@@ -247,7 +248,7 @@ class Case:
 
     def fault_of_writes(self, runner):
         """What is wrong where the standard output takes nothing."""
-        out = STANDARD if self.prefix and not self.start else None
+        out = STANDARD if self.prefix and not self.has_start else None
         if self.status or not (out or self.output or self.end or self.like):
             return None
         with open("/dev/full", "wb") as full:
@@ -261,7 +262,7 @@ class Case:
 
     def fault_on_input(self, runner):
         log = self.files[self.log]
-        for out in filter(None, (self.prefix, STANDARD if self.prefix else None)):
+        for out in filter(None, (self.prefix, STANDARD if self.prefix and not self.has_start else None)):
             for size in (None, *SIZES):
                 fault = self.run(runner, log, size, out).difference(self.wanted(True, out))
                 if fault:

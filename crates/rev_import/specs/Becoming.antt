@@ -128,3 +128,8 @@ pub record PlainImport (A : Type 0) : Type 0 where
 abbrev pub evicted_key : {A : Type 0} → Event A → Option (List ℕ)
 evicted_key (Eviction key fetched ttl last_access class size) = Some key
 evicted_key event = None
+
+-- the second of the event that waits longest
+abbrev pub first_second : {A : Type 0} → List (LogLine A) → Option ℕ
+first_second [] = None
+first_second (line ∷ lines) = Some line.time.seconds

@@ -34,4 +34,5 @@ no_figures = record {
   too_large = 0;
   other_classes = 0;
   lines = 0;
+  unfit = 0;
 }

@@ -40,6 +40,8 @@ pub struct Figures {
     pub other_classes: u64,
     /// Lines that were written. Each makes one step.
     pub lines: u64,
+    /// Items of a log that were stored, and that no page here holds.
+    pub unfit: u64,
 }
 
 impl Figures {
@@ -68,6 +70,7 @@ impl Figures {
             too_large: 0,
             other_classes: 0,
             lines: 0,
+            unfit: 0,
         }
     }
 }

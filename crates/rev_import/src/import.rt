@@ -2,7 +2,7 @@
 ghost use Rattle.std.specs.Prelude.{◌≡◌, ◌++◌, ◌∷◌, ◌-◌, [], length, OnOk, Some, None};
 ghost use Rattle.std.specs.Option.{option_copied};
 ghost use Rattle.std.specs.Slice.{IsItemAt};
-ghost use Rattle.rev_import.specs.Becoming.{Moves, evicted_key};
+ghost use Rattle.rev_import.specs.Becoming.{Moves, evicted_key, first_second};
 ghost use Rattle.rev_import.specs.Figures.{no_figures};
 
 use crate::figures::{EventCounts, Figures, one_more};
@@ -138,6 +138,16 @@ impl<A: Allocator + Copy> Import<A> {
         ensures { IsItemAt self.now.waiting 0 result }
     {
         self.waiting.front()
+    }
+
+    /// The second of the event that waits longest, none where none waits.
+    pub fn first_second(&self) -> Option<u32>
+        ensures { result ≡ first_second self.now.waiting }
+    {
+        match self.waiting.front() {
+            Some(line) => Some(line.time.seconds),
+            None => None,
+        }
     }
 
     /// How many events wait.

@@ -1,8 +1,9 @@
 //! Sampling: all that is asked of some keys, and nothing of the others, in a cache that is as much smaller.
 ghost use Rattle.std.specs.Prelude.{◌≡◌};
-ghost use Rattle.rev_import.specs.Sample.{takes, page_size};
+ghost use Rattle.rev_import.specs.Sample.{takes, takes_event, page_size};
 
 use rev_items::Key;
+use rev_watch::event::Event;
 use std::alloc::Allocator;
 
 /// The least bytes of a page.
@@ -20,6 +21,19 @@ impl Sample {
         ensures { result ≡ takes self.one_of key.now }
     {
         u64::from(key.hash()) * u64::from(self.one_of) < 1 << 32
+    }
+
+    /// Whether an event is taken: one of a key that is taken, or of none.
+    pub fn takes_event<A: Allocator>(self, event: &Event<A>) -> bool
+        ensures { result ≡ takes_event self.one_of event.now }
+    {
+        match event {
+            Event::LookUp { key, .. } => self.takes(key),
+            Event::Store { key, .. } => self.takes(key),
+            Event::Deletion { key, .. } => self.takes(key),
+            Event::Eviction { key, .. } => self.takes(key),
+            _ => true,
+        }
     }
 
     /// The bytes of a page in the place of one of these bytes: so many times fewer, and a multiple of 8. None where they

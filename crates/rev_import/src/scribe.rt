@@ -136,6 +136,19 @@ impl Scribe {
         }
     }
 
+    // Counts an item that no page holds.
+    fn count_unfit<A: Allocator>(
+        &self,
+        key: &Key<A>,
+        flags: u32,
+        size: u32,
+        figures: &mut Figures,
+    ) {
+        if self.class_of(key, flags, size).is_none() {
+            one_more(&mut figures.unfit);
+        }
+    }
+
     pub fn set_clock<B: Allocator>(
         &mut self,
         now: u32,
@@ -531,6 +544,7 @@ impl Scribe {
                 let storing = storing_of(*command, *outcome);
                 let exptime = exptime_of(now, *ttl);
                 let flags = self.flags_of(key, *size, *class);
+                self.count_unfit(key, flags, *size, figures);
                 self.store(storing, key, flags, exptime, *size, out, figures)
             }
             Event::Deletion { key, .. } => self.delete(key, out, figures),

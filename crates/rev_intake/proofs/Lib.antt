@@ -4,3 +4,4 @@ pub mod Stopping
 pub mod Files
 pub mod Order
 pub mod RowsTaken
+pub mod Splitting

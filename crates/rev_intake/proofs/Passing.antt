@@ -99,13 +99,6 @@ pub taken : {A : Type 0} {x was y z : List (LogLine A)} {a had b c : List ℕ} {
     Moves (was ++ line ∷ []) y had b → Sends b c [] h i k l → Passes (x ++ line ∷ []) z a c h i k l
 taken line e f g m s = rw (sym e, sym f, g) (passes_written m s)
 
--- the lines of one that waited were written
-pub written_more : {A : Type 0} {w x was y z : List (LogLine A)} {o a had b c : List ℕ} {h i j : Option (List ℕ)} {k l m : ℕ} → was ≡ x → had ≡ a → z ≡ y →
-    Passes w x o a h i k l → Moves was y had b → Sends b c [] i j l m → Passes w z o c h j k m
-written_more {A} {w} {x} {was} {y} {z} {o} {a} {had} {b} {c} {h} {i} {j} {k} {l} {m} e f g p n s =
-    let before : Passes w was o had h i k l = rw (e, f) p in
-    rw g (passes_on before (passes_written n s))
-
 -- what two facts of a call that went well give
 pub both_ok : {T E P Q R : Type 0} (r : Result T E) → (P → Q → R) → OnOk r P → OnOk r Q → OnOk r R
 both_ok (Ok v) f p q = f p q
@@ -139,3 +132,17 @@ all_sent {A} {x} {y} {a} {b} {c} {h} {i} {j} {q} {k} {l} {m} {n} f g s e = passe
 
 pub sent_whole : {a t : List ℕ} {h q : Option (List ℕ)} {k n : ℕ} → Sends a [] t h q k n → Appends h q (a ++ t)
 sent_whole {a} {t} {h} {q} s = subst (λ z. Appends h q z) (sym (s.same ∙ append-nil s.sent)) s.appends
+
+-- some of what waited was sent first
+pub sent_first : {A : Type 0} {x y : List (LogLine A)} {a b c : List ℕ} {h i j : Option (List ℕ)} {k l m : ℕ} → Sends a b [] h i k l → Passes x y b c i j l m → Passes x y a c h j k m
+sent_first {A} {x} {y} {a} {b} s p = passes_on (record { text = []; moves = moves_none x x [] refl; sends = s }) p
+
+-- and then an event was taken in
+pub taken_behind : {A : Type 0} {v x z : List (LogLine A)} {a b c : List ℕ} {h i j : Option (List ℕ)} {k l m : ℕ} (line : LogLine A) → v ≡ x →
+    Sends a b [] h i k l → Passes (v ++ line ∷ []) z b c i j l m → Passes (x ++ line ∷ []) z a c h j k m
+taken_behind line e s p = sent_first s (passes_from (ap (λ w. w ++ line ∷ []) e) p)
+
+-- the lines of the first one that waited were written
+pub written_first : {A : Type 0} {x was y z : List (LogLine A)} {a had b c : List ℕ} {h i : Option (List ℕ)} {k l : ℕ} → was ≡ x → had ≡ a → z ≡ y →
+    Moves was y had b → Sends b c [] h i k l → Passes x z a c h i k l
+written_first e f g m s = rw (sym e, sym f, g) (passes_written m s)

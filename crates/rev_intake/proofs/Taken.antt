@@ -3,6 +3,7 @@ use Rattle.std.proofs.Common.{◌≡◌, ℕ, ◌<◌, ◌-◌, ◌^◌, true, f
 use Rattle.std.specs.Io.KnownBytes.{Consumes}
 use Rattle.rev_script.proofs.Known.{Consumes-then, Consumes-Keeps}
 use Rattle.rev_script.specs.Source.{Told}
+use Rattle.rev_import.specs.Sample.{takes_event}
 use Rattle.rev_watch.specs.Line.{line_of}
 use Rattle.rev_watch.specs.Reader.{ahead, line_count, IsText, IsNext, Kept}
 use Rattle.rev_watch.specs.Window.{PlainWindow, put_of, popped, pop_of}
@@ -15,7 +16,7 @@ use Rattle.rev_watch.specs.declared.reader.NextLine.TheVariants.{Whole, CutOff}
 use Rattle.rev_intake.specs.Counting.{more, counted, counted_put, counted_line, counted_end}
 use Rattle.rev_intake.specs.Sending.{Passes}
 use Rattle.rev_intake.specs.Events.{AreLogLines, is_asked, event, events, given_of, given_out, window_after, held_in}
-use Rattle.rev_intake.specs.Intake.{PlainIntake, Takes, Reads, Ends}
+use Rattle.rev_intake.specs.Intake.{PlainIntake, Rests, Takes, Reads, Ends}
 use Rattle.rev_intake.specs.Logs.{TakesLog, TakesLogs}
 use Rattle.rev_intake.specs.declared.counts.LineCounts.{LineCounts}
 use Rattle.rev_intake.specs.declared.intake.Range.{Range}
@@ -69,6 +70,9 @@ takes_then {A} {x} {y} {z} {ls} {ms} {h} {i} {j} {k} {l} {m} a b =
           (passes_then x.waiting (given_out x.window first) (given_out (window_after x.window first) (events x.range ms)) a.passes passes);
     }
 
+pub rests_then : {A : Type 0} {x y z : PlainIntake A} → Rests x y → Rests y z → Rests x z
+rests_then a b = record { range = b.range ∙ a.range; window = b.window ∙ a.window; counts = b.counts ∙ a.counts }
+
 -- a line without an event that is asked for
 pub takes_no_event : {A : Type 0} (x y : PlainIntake A) (line : Line A) (held : Option (List ℕ)) (failures : ℕ) →
     event x.range line ≡ [] → y.range ≡ x.range → y.window ≡ x.window → y.waiting ≡ x.waiting → y.waits ≡ x.waits → y.counts ≡ counted_line x.range x.window line x.counts →
@@ -86,16 +90,23 @@ pub takes_left_out : {A : Type 0} (x y : PlainIntake A) (line : LogLine A) (held
     y.counts ≡ record x.counts { lines = more x.counts.lines 1; left_out = more x.counts.left_out 1 } → Takes x y (Log line ∷ []) held held failures failures
 takes_left_out x y line held failures late range window waiting waits counts = takes_no_event x y (Log line) held failures (rw late refl) range window waiting waits (rw late counts)
 
+-- an event of a key that the sample does not take
+pub takes_other_key : {A : Type 0} (x y : PlainIntake A) (line : LogLine A) (held : Option (List ℕ)) (failures : ℕ) →
+    is_asked x.range line.time.seconds ≡ true → takes_event x.range.sample.one_of line.event ≡ false → y.range ≡ x.range → y.window ≡ x.window → y.waiting ≡ x.waiting →
+    y.waits ≡ x.waits → y.counts ≡ record x.counts { lines = more x.counts.lines 1; other_keys = more x.counts.other_keys 1 } → Takes x y (Log line ∷ []) held held failures failures
+takes_other_key x y line held failures asked other range window waiting waits counts =
+    takes_no_event x y (Log line) held failures (rw (asked, other) refl) range window waiting waits (rw (asked, other) counts)
+
 -- a line with one
-pub takes_event : {A : Type 0} (x y : PlainIntake A) (line : LogLine A) (h i : Option (List ℕ)) (k l : ℕ) →
-    is_asked x.range line.time.seconds ≡ true → y.range ≡ x.range → y.window ≡ (put_of x.window line.gid line).0 →
+pub takes_asked : {A : Type 0} (x y : PlainIntake A) (line : LogLine A) (h i : Option (List ℕ)) (k l : ℕ) →
+    is_asked x.range line.time.seconds ≡ true → takes_event x.range.sample.one_of line.event ≡ true → y.range ≡ x.range → y.window ≡ (put_of x.window line.gid line).0 →
     y.counts ≡ counted_put (put_of x.window line.gid line).1 (record x.counts { lines = more x.counts.lines 1; asked = more x.counts.asked 1 }) →
     Passes (x.waiting ++ given_of (put_of x.window line.gid line).1) y.waiting x.waits y.waits h i k l → Takes x y (Log line ∷ []) h i k l
-takes_event x y line h i k l asked range window counts passes = record {
+takes_asked x y line h i k l asked taken range window counts passes = record {
   same = range;
-  window = rw asked window;
-  counts = rw asked counts;
-  passes = rw asked (passes_from (ap (λ g. x.waiting ++ g) (sym (append-nil (given_of (put_of x.window line.gid line).1)))) passes);
+  window = rw (asked, taken) window;
+  counts = rw (asked, taken) counts;
+  passes = rw (asked, taken) (passes_from (ap (λ g. x.waiting ++ g) (sym (append-nil (given_of (put_of x.window line.gid line).1)))) passes);
 }
 
 -- nothing came out of the window

@@ -1,6 +1,8 @@
 -- The events of logs: which are asked for, and in which order they become lines of a script.
--- Rule of this project: the events of a range of seconds, by rising numbers as far as they come near enough.
-use Rattle.std.specs.Prelude.{◌≡◌, ℕ, Bool, ◌&&◌, nat_le, if◌then◌else◌, List, [], ◌∷◌, ◌++◌, map, Ok}
+-- Rule of this project: the events of a range of seconds, of the keys that a sample takes or of none, by rising numbers as far as they
+-- come near enough.
+use Rattle.std.specs.Prelude.{◌≡◌, ℕ, Bool, true, false, ◌&&◌, nat_le, if◌then◌else◌, List, [], ◌∷◌, ◌++◌, map, Ok}
+use Rattle.rev_import.specs.Sample.{takes_event}
 use Rattle.rev_watch.specs.Line.{line_of}
 use Rattle.rev_watch.specs.Reader.{IsText}
 use Rattle.rev_watch.specs.Window.{PlainWindow, put_of}
@@ -21,9 +23,14 @@ AreLogLines (line ∷ rest) bytes =
 abbrev pub is_asked : Range → ℕ → Bool
 is_asked range seconds = nat_le range.first seconds && nat_le seconds range.last
 
+-- an event with its number, where its key is one of the sample
+abbrev pub sampled : {A : Type 0} → Bool → LogLine A → List (ℕ × LogLine A)
+sampled true line = (line.gid, line) ∷ []
+sampled false line = []
+
 -- the event of a line with its number, where it is asked for
 abbrev pub event : {A : Type 0} → Range → Line A → List (ℕ × LogLine A)
-event range (Log line) = if is_asked range line.time.seconds then (line.gid, line) ∷ [] else []
+event range (Log line) = if is_asked range line.time.seconds then sampled (takes_event range.sample.one_of line.event) line else []
 event range (Skipped n) = []
 event range Other = []
 

@@ -7,3 +7,5 @@ pub mod Report
 pub mod Words
 pub mod Rows
 pub mod RowReport
+pub mod Splitting
+pub mod Told

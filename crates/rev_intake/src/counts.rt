@@ -15,12 +15,14 @@ pub struct LineCounts {
     pub skipped: u64,
     /// Events outside the range.
     pub left_out: u64,
-    /// Events in the range.
+    /// Events in the range, of keys that the sample takes or of none.
     pub asked: u64,
     /// Events that came after one of a higher number was given out: they were dropped.
     pub late: u64,
     /// Events whose number another one had: the later one stands for both.
     pub repeated: u64,
+    /// Events in the range, of keys that the sample does not take.
+    pub other_keys: u64,
 }
 
 impl LineCounts {
@@ -37,6 +39,7 @@ impl LineCounts {
             asked: 0,
             late: 0,
             repeated: 0,
+            other_keys: 0,
         }
     }
 }

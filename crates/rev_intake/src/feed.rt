@@ -4,6 +4,7 @@ ghost use Rattle.rev_trace.specs.Trace.{reader_in, IsSteady};
 
 use crate::fault::{IntakeFault, RowsFault};
 use crate::intake::Intake;
+use crate::outlet::Outlet;
 use crate::rows::RowIntake;
 use rev_output::{Sink, ToWrite};
 use rev_script::source::FromRead;
@@ -39,7 +40,7 @@ impl<'a, F: Read + Drop> LogFeed<'a, F> {
     }
 
     // Takes in a line or an event, or begins with a log.
-    fn take<K: Sink>(&mut self, sink: &mut K) -> Result<bool, IntakeFault> {
+    fn take<K: Outlet>(&mut self, sink: &mut K) -> Result<bool, IntakeFault> {
         if let Some(log) = &mut self.log {
             if self.intake.take_next(log, sink)? {
                 return Ok(true);

@@ -1,18 +1,21 @@
 //! Logs taken in line by line, and the script that they become sent out piece by piece.
-ghost use Rattle.std.specs.Prelude.{◌≡◌, ◌++◌, ◌∷◌, [], IfOk, IfErr, OnOk};
+ghost use Rattle.std.specs.Prelude.{◌≡◌, ◌++◌, ◌∷◌, ◌-◌, [], length, IfOk, IfErr, OnOk};
 ghost use Rattle.std.specs.Io.KnownBytes.{Appends};
 ghost use Rattle.rev_watch.specs.Window.{empty_window, put_of};
 ghost use Rattle.rev_intake.specs.Counting.{more, no_counts, counted_put};
 ghost use Rattle.rev_intake.specs.Events.{is_asked, given_of, held_in};
 ghost use Rattle.rev_intake.specs.Sending.{Sends, Passes, Stops};
+ghost use Rattle.rev_intake.specs.Splitting.{start_ended, split_off, lines_of_start};
 
 use crate::counts::{LineCounts, add};
 use crate::fault::IntakeFault;
+use crate::outlet::{Outlet, is_due};
 use rev_import::figures::Figures;
 use rev_import::import::Import;
 use rev_import::policy::Rhythm;
+use rev_import::sample::Sample;
 use rev_import::setup::{Setup, put_setup};
-use rev_output::{Sink, write_all};
+use rev_output::write_all;
 use rev_script::source::Source;
 use rev_watch::event::{Line, LogLine};
 use rev_watch::reader::{LogReader, NextLine};
@@ -23,11 +26,13 @@ use std::marker::Model;
 /// As soon as so many bytes of the script are at hand, they are sent (this project's own figure).
 pub const PIECE: usize = 65536;
 
-/// The seconds, by the Unix clock, of the events that are asked for: from the first one to the last one.
+/// The events that are asked for: from the first second to the last one, by the Unix clock, of the keys that a sample
+/// takes or of none.
 #[derive(Clone, Copy, Debug, PartialEq, Eq)]
 pub struct Range {
     pub first: u32,
     pub last: u32,
+    pub sample: Sample,
 }
 
 impl Range {
@@ -50,6 +55,10 @@ pub struct Intake<A: Allocator> {
     // what is written of the script and not yet sent
     out: Vec<u8, A>,
     counts: LineCounts,
+    // the second in front of which the start ends, where it is to end and has not
+    split: Option<u32>,
+    // the lines of the start, once it has ended
+    start_lines: u64,
 }
 
 impl<A: Allocator> Model for Intake<A> {
@@ -57,14 +66,15 @@ impl<A: Allocator> Model for Intake<A> {
 
     ghost Value = { PlainIntake A };
 
-    ghost view = { λ i. record { range = i.range; window = i.window; waiting = i.import.waiting; waits = i.out.items; counts = i.counts; figures = i.import.figures } };
+    ghost view = { λ i. record { range = i.range; window = i.window; waiting = i.import.waiting; waits = i.out.items; counts = i.counts; figures = i.import.figures; split = i.split; start_lines = i.start_lines } };
 }
 
 impl<A: Allocator + Copy> Intake<A> {
     ghost use Rattle.rev_intake.specs.Intake.{Rests, Takes, Ends, StopsEnding};
     ghost use Rattle.rev_intake.specs.Logs.{TakesLog, Spoils};
 
-    /// No log was taken in. The script begins with the lines that this setup asks for.
+    /// No log was taken in. The script begins with the lines that this setup asks for. With `split` it begins with a start,
+    /// which ends in front of this second, by the Unix clock.
     ///
     /// Err: memory was refused.
     pub fn open(
@@ -72,11 +82,13 @@ impl<A: Allocator + Copy> Intake<A> {
         setup: Setup,
         rhythm: Rhythm,
         range: Range,
+        split: Option<u32>,
     ) -> Result<Intake<A>, AllocError>
         ensures range { IfOk result (λ intake. intake.range ≡ range) }
         ensures window { IfOk result (λ intake. intake.window ≡ empty_window) }
         ensures waiting { IfOk result (λ intake. intake.waiting ≡ []) }
         ensures counts { IfOk result (λ intake. intake.counts ≡ no_counts) }
+        ensures split { IfOk result (λ intake. intake.split ≡ split) }
     {
         let mut out = Vec::new(alloc);
         put_setup(&mut out, &setup)?;
@@ -88,11 +100,13 @@ impl<A: Allocator + Copy> Intake<A> {
             import: Import::new(alloc, classes, rhythm),
             out,
             counts: LineCounts::none(),
+            split,
+            start_lines: 0,
         })
     }
 
     /// Sends what is at hand of the script.
-    pub(crate) fn send<K: Sink>(&mut self, sink: &mut K) -> Result<(), IntakeFault>
+    pub(crate) fn send<K: Outlet>(&mut self, sink: &mut K) -> Result<(), IntakeFault>
         ensures sent { OnOk result (Appends (K.contents sink.old) (K.contents sink.new) self.old.waits) }
         ensures none_failed { OnOk result (K.failures sink.new ≡ K.failures sink.old) }
         ensures rest { OnOk result (self.new ≡ record self.old { waits = [] }) }
@@ -104,7 +118,7 @@ impl<A: Allocator + Copy> Intake<A> {
     }
 
     // Sends what is at hand of the script, where it is enough.
-    fn send_piece<K: Sink>(&mut self, sink: &mut K) -> Result<(), IntakeFault>
+    fn send_piece<K: Outlet>(&mut self, sink: &mut K) -> Result<(), IntakeFault>
         ensures sends { OnOk result (Sends self.old.waits self.new.waits [] (K.contents sink.old) (K.contents sink.new) (K.failures sink.old) (K.failures sink.new)) }
         ensures rest { OnOk result (self.new ≡ record self.old { waits = self.new.waits }) }
         ensures err { IfErr result (λ e. Stops (K.failures sink.old) (K.failures sink.new) e) }
@@ -116,8 +130,36 @@ impl<A: Allocator + Copy> Intake<A> {
         }
     }
 
-    // Takes in an event that the window gave out.
-    fn take<K: Sink>(&mut self, line: LogLine<A>, sink: &mut K) -> Result<(), IntakeFault>
+    // Sends what is at hand, which is the rest of the start, and ends it.
+    fn end_start<K: Outlet>(&mut self, sink: &mut K) -> Result<(), IntakeFault>
+        ensures sends { OnOk result (Sends self.old.waits [] [] (K.contents sink.old) (K.contents sink.new) (K.failures sink.old) (K.failures sink.new)) }
+        ensures ended { OnOk result (self.new ≡ start_ended self.old) }
+        ensures err { IfErr result (λ e. Stops (K.failures sink.old) (K.failures sink.new) e) }
+    {
+        self.send(sink)?;
+        sink.end_start();
+        self.split = None;
+        self.start_lines = self.import.figures().lines;
+        Ok(())
+    }
+
+    // Ends the start where it ends in front of the event that waits longest.
+    fn split_off<K: Outlet>(&mut self, sink: &mut K) -> Result<(), IntakeFault>
+        ensures sends { OnOk result (Sends self.old.waits self.new.waits [] (K.contents sink.old) (K.contents sink.new) (K.failures sink.old) (K.failures sink.new)) }
+        ensures split { OnOk result (self.new ≡ split_off self.old) }
+        ensures waiting { OnOk result (self.new.waiting ≡ self.old.waiting) }
+        ensures rest { OnOk result (Rests self.old self.new) }
+        ensures err { IfErr result (λ e. Stops (K.failures sink.old) (K.failures sink.new) e) }
+    {
+        if is_due(self.split, self.import.first_second()) {
+            self.end_start(sink)
+        } else {
+            Ok(())
+        }
+    }
+
+    // Takes in an event that the window gave out. The start does not end in front of what is written.
+    fn take_behind<K: Outlet>(&mut self, line: LogLine<A>, sink: &mut K) -> Result<(), IntakeFault>
         ensures passes { OnOk result (Passes (self.old.waiting ++ line ∷ []) self.new.waiting self.old.waits self.new.waits (K.contents sink.old) (K.contents sink.new) (K.failures sink.old) (K.failures sink.new)) }
         ensures rest { OnOk result (Rests self.old self.new) }
         ensures err { IfErr result (λ e. Stops (K.failures sink.old) (K.failures sink.new) e) }
@@ -126,8 +168,18 @@ impl<A: Allocator + Copy> Intake<A> {
         self.send_piece(sink)
     }
 
+    // Takes in an event that the window gave out.
+    fn take<K: Outlet>(&mut self, line: LogLine<A>, sink: &mut K) -> Result<(), IntakeFault>
+        ensures passes { OnOk result (Passes (self.old.waiting ++ line ∷ []) self.new.waiting self.old.waits self.new.waits (K.contents sink.old) (K.contents sink.new) (K.failures sink.old) (K.failures sink.new)) }
+        ensures rest { OnOk result (Rests self.old self.new) }
+        ensures err { IfErr result (λ e. Stops (K.failures sink.old) (K.failures sink.new) e) }
+    {
+        self.split_off(sink)?;
+        self.take_behind(line, sink)
+    }
+
     // Takes in an event that is asked for.
-    fn put<K: Sink>(&mut self, line: LogLine<A>, sink: &mut K) -> Result<(), IntakeFault>
+    fn put<K: Outlet>(&mut self, line: LogLine<A>, sink: &mut K) -> Result<(), IntakeFault>
         ensures range { OnOk result (self.new.range ≡ self.old.range) }
         ensures window { OnOk result (self.new.window ≡ (put_of self.old.window line.gid line).0) }
         ensures counts { OnOk result (self.new.counts ≡ counted_put (put_of self.old.window line.gid line).1 (record self.old.counts { asked = more self.old.counts.asked 1 })) }
@@ -150,7 +202,7 @@ impl<A: Allocator + Copy> Intake<A> {
     }
 
     // Takes in a line of a log.
-    fn take_line<K: Sink>(&mut self, line: Line<A>, sink: &mut K) -> Result<(), IntakeFault>
+    fn take_line<K: Outlet>(&mut self, line: Line<A>, sink: &mut K) -> Result<(), IntakeFault>
         ensures takes { OnOk result (Takes self.old self.new (line ∷ []) (K.contents sink.old) (K.contents sink.new) (K.failures sink.old) (K.failures sink.new)) }
         ensures err { IfErr result (λ e. Stops (K.failures sink.old) (K.failures sink.new) e) }
     {
@@ -158,7 +210,13 @@ impl<A: Allocator + Copy> Intake<A> {
         match line {
             Line::Log(line) => {
                 if self.range.has(line.time.seconds) {
-                    self.put(line, sink)
+                    if self.range.sample.takes_event(&line.event) {
+                        self.put(line, sink)
+                    } else {
+                        add(&mut self.counts.other_keys, 1);
+                        drop(line);
+                        Ok(())
+                    }
                 } else {
                     add(&mut self.counts.left_out, 1);
                     drop(line);
@@ -180,7 +238,7 @@ impl<A: Allocator + Copy> Intake<A> {
     ///
     /// Err: memory was refused; a read or a write failed; a line that begins like one of the log is none; or there are
     /// more lines than can be counted. The intake is no longer of use.
-    pub fn take_log<S: Source, K: Sink>(
+    pub fn take_log<S: Source, K: Outlet>(
         &mut self,
         log: &mut LogReader<S>,
         sink: &mut K,
@@ -205,7 +263,7 @@ impl<A: Allocator + Copy> Intake<A> {
     }
 
     // Takes in what the window holds.
-    fn empty_window<K: Sink>(&mut self, sink: &mut K) -> Result<(), IntakeFault>
+    fn empty_window<K: Outlet>(&mut self, sink: &mut K) -> Result<(), IntakeFault>
         ensures passes { OnOk result (Passes (self.old.waiting ++ held_in self.old.window) self.new.waiting self.old.waits self.new.waits (K.contents sink.old) (K.contents sink.new) (K.failures sink.old) (K.failures sink.new)) }
         ensures counts { OnOk result (self.new.counts ≡ self.old.counts) }
         ensures err { IfErr result (λ e. Stops (K.failures sink.old) (K.failures sink.new) e) }
@@ -218,15 +276,26 @@ impl<A: Allocator + Copy> Intake<A> {
         }
     }
 
+    // Writes the lines of the event that waits longest, where any does.
+    fn send_first<K: Outlet>(&mut self, sink: &mut K) -> Result<(), IntakeFault>
+        ensures passes { OnOk result (Passes self.old.waiting self.new.waiting self.old.waits self.new.waits (K.contents sink.old) (K.contents sink.new) (K.failures sink.old) (K.failures sink.new)) }
+        ensures fewer { OnOk result (length self.new.waiting ≡ length self.old.waiting - 1) }
+        ensures counts { OnOk result (self.new.counts ≡ self.old.counts) }
+        ensures err { IfErr result (λ e. Stops (K.failures sink.old) (K.failures sink.new) e) }
+    {
+        self.import.write_first(&mut self.out)?;
+        self.send_piece(sink)
+    }
+
     // Writes the lines of the events that wait.
-    fn empty_import<K: Sink>(&mut self, sink: &mut K) -> Result<(), IntakeFault>
+    fn empty_import<K: Outlet>(&mut self, sink: &mut K) -> Result<(), IntakeFault>
         ensures passes { OnOk result (Passes self.old.waiting [] self.old.waits self.new.waits (K.contents sink.old) (K.contents sink.new) (K.failures sink.old) (K.failures sink.new)) }
         ensures counts { OnOk result (self.new.counts ≡ self.old.counts) }
         ensures err { IfErr result (λ e. Stops (K.failures sink.old) (K.failures sink.new) e) }
     {
         for _ in 0..self.import.waiting() {
-            self.import.write_first(&mut self.out)?;
-            self.send_piece(sink)?;
+            self.split_off(sink)?;
+            self.send_first(sink)?;
         }
         Ok(())
     }
@@ -234,7 +303,7 @@ impl<A: Allocator + Copy> Intake<A> {
     /// Sends the rest of the script, behind the last log.
     ///
     /// Err: no event was asked for, and nothing is sent; memory was refused; or a write failed.
-    pub fn finish<K: Sink>(&mut self, sink: &mut K) -> Result<(), IntakeFault>
+    pub fn finish<K: Outlet>(&mut self, sink: &mut K) -> Result<(), IntakeFault>
         ensures ok { OnOk result (Ends self.old self.new (K.contents sink.old) (K.contents sink.new) (K.failures sink.old) (K.failures sink.new)) }
         ensures err { IfErr result (λ e. StopsEnding self.old (K.contents sink.old) (K.contents sink.new) (K.failures sink.old) (K.failures sink.new) e) }
     {
@@ -247,7 +316,7 @@ impl<A: Allocator + Copy> Intake<A> {
     }
 
     /// Takes in the next line of a log, if there is one, as `take_log` does. The answer is whether there may be more.
-    pub(crate) fn take_next<S: Source, K: Sink>(
+    pub(crate) fn take_next<S: Source, K: Outlet>(
         &mut self,
         log: &mut LogReader<S>,
         sink: &mut K,
@@ -271,7 +340,7 @@ impl<A: Allocator + Copy> Intake<A> {
 
     /// Behind the last log, takes in the next event that is held back, or writes the lines of one that waits, as `finish`
     /// does with all. The answer is whether there may be more.
-    pub(crate) fn take_held<K: Sink>(&mut self, sink: &mut K) -> Result<bool, IntakeFault> {
+    pub(crate) fn take_held<K: Outlet>(&mut self, sink: &mut K) -> Result<bool, IntakeFault> {
         let has_asked = self.counts.asked > 0;
         if !has_asked {
             return Err(IntakeFault::NoEvent);
@@ -280,6 +349,7 @@ impl<A: Allocator + Copy> Intake<A> {
             self.take(first.1, sink)?;
             return Ok(true);
         }
+        self.split_off(sink)?;
         self.import.write_first(&mut self.out)?;
         Ok(self.import.waiting() > 0)
     }
@@ -294,6 +364,16 @@ impl<A: Allocator + Copy> Intake<A> {
         ensures { result ≡ self.now.counts }
     {
         self.counts
+    }
+
+    /// How many lines of events stand in the start so far, all of them where it has not ended. Each makes one step.
+    pub fn start_lines(&self) -> u64
+        ensures { result ≡ lines_of_start self.now }
+    {
+        match self.split {
+            Some(_) => self.import.figures().lines,
+            None => self.start_lines,
+        }
     }
 
     /// What the import counted so far.

@@ -4,7 +4,7 @@ ghost use Rattle.rev_intake.specs.Logs.{LogLines, IsLog, AreLogs, TakesLogs, Spo
 
 use crate::fault::IntakeFault;
 use crate::intake::Intake;
-use rev_output::Sink;
+use crate::outlet::Outlet;
 use rev_script::source::FromRead;
 use rev_watch::reader::LogReader;
 use std::alloc::Allocator;
@@ -12,7 +12,7 @@ use std::collections::VecDeque;
 use std::io::Read;
 
 // Takes in the log that a file holds.
-fn take_file<A: Allocator + Copy, F: Read + Drop, K: Sink>(
+fn take_file<A: Allocator + Copy, F: Read + Drop, K: Outlet>(
     intake: &mut Intake<A>,
     file: F,
     sink: &mut K,
@@ -28,7 +28,7 @@ fn take_file<A: Allocator + Copy, F: Read + Drop, K: Sink>(
 }
 
 // Takes in the logs of the files, in their order. A fault comes with the place of its log, from 0 on.
-fn take_files<A: Allocator + Copy, F: Read + Drop, K: Sink>(
+fn take_files<A: Allocator + Copy, F: Read + Drop, K: Outlet>(
     intake: &mut Intake<A>,
     files: Vec<F, A>,
     sink: &mut K,
@@ -51,12 +51,13 @@ fn take_files<A: Allocator + Copy, F: Read + Drop, K: Sink>(
 }
 
 /// Makes the script of the logs that the files hold, in their order, and sends it whole, behind what waits to be sent.
-/// The intake is no longer of use.
+/// Where it is to begin with a start, this ends in front of the first event of the second of the split or of a later one,
+/// or behind all events. The intake is no longer of use.
 ///
 /// Err: the place of a log, from 0 on, and why it was not taken in: memory was refused, a read or a write failed, a line
 /// that begins like one of the log is none, or there are more lines than can be counted. Or no event was asked for, and
 /// then the place is 0, as it is where it was the end that failed.
-pub fn make_script<A: Allocator + Copy, F: Read + Drop, K: Sink>(
+pub fn make_script<A: Allocator + Copy, F: Read + Drop, K: Outlet>(
     intake: &mut Intake<A>,
     files: Vec<F, A>,
     sink: &mut K,

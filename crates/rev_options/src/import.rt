@@ -2,12 +2,13 @@
 ghost use Rattle.std.specs.Prelude.{◌≡◌, ◌≤◌, length, map, true, false, IfOk};
 ghost use Rattle.rev_options.specs.Request.{IsInRange, IsOfWords, OpensBy, BringsBy, asks_import};
 
-use crate::csv::{csv_command, csv_import};
+use crate::csv::{csv_command, csv_import, sample_of};
 use crate::state::{state_command, state_import};
 use crate::{Request, fault};
 use clap::error::ErrorKind;
 use clap::{Arg, ArgAction, ArgMatches, Command, Error, value_parser};
 use rev_import::policy::Rhythm;
+use rev_import::sample::Sample;
 use rev_import::setup::Factor;
 use std::alloc::{AllocError, Global};
 use std::convert::AsStr;
@@ -37,6 +38,11 @@ pub struct WatchImport {
     pub out: String,
     /// The script is also played, and compared with the logs.
     pub check: bool,
+    /// Which keys are taken, of how many.
+    pub sample: Sample,
+    /// The second in front of which the events make a start, where one is asked for; not where the script goes to the
+    /// standard output.
+    pub split: Option<u32>,
 }
 
 fn logs<'a>(alloc: Global) -> Arg<'a> {
@@ -109,6 +115,20 @@ fn watch_command<'a>(alloc: Global) -> Result<Command<'a>, AllocError> {
             "The first second of the events that are asked for, by the Unix clock",
         ))?
         .arg(second(alloc, "to", "4294967295", "The last second"))?
+        .arg(text(
+            alloc,
+            "sample",
+            "1/N",
+            "Takes one key of N, and makes pages N times smaller",
+        )
+        .default_value("1/1"))?
+        .arg(text(
+            alloc,
+            "split",
+            "SECONDS",
+            "Writes the steps in front of this second, by the Unix clock, to PREFIX.start [without it: one script]",
+        )
+        .value_parser(value_parser!(u32)))?
         .arg(
             Arg::new(alloc, "check")
                 .long("check")
@@ -239,6 +259,26 @@ fn logs_of(alloc: Global, matches: &ArgMatches<'_>) -> Result<Vec<String>, Error
     Ok(logs)
 }
 
+// The second of a split, where one is asked for. A start and a script are two files.
+fn split_of(alloc: Global, matches: &ArgMatches<'_>) -> Result<Option<u32>, Error> {
+    let split = matches.get_one("split");
+    if split.is_some() && matches.get_str("out").unwrap_or("") == STANDARD {
+        return Err(fault(
+            alloc,
+            ErrorKind::ValueValidation,
+            "--split: two files are written, and --out - is none",
+        )?);
+    }
+    if split.is_some() && matches.get_flag("check") {
+        return Err(fault(
+            alloc,
+            ErrorKind::ValueValidation,
+            "--check: the script is played from its first step on, so it does not go with --split",
+        )?);
+    }
+    Ok(split)
+}
+
 fn watch_import(alloc: Global, matches: &ArgMatches<'_>) -> Result<WatchImport, Error>
     ensures { IfOk result (λ asked. 1 ≤ length asked.logs.items) }
 {
@@ -252,6 +292,8 @@ fn watch_import(alloc: Global, matches: &ArgMatches<'_>) -> Result<WatchImport, 
         last: matches.get_one("to").unwrap_or(u32::MAX),
         out: required(alloc, matches, "out")?,
         check: matches.get_flag("check"),
+        sample: sample_of(alloc, matches)?,
+        split: split_of(alloc, matches)?,
     })
 }
 

@@ -14,6 +14,7 @@ use crate::stop::Stop;
 use crate::telling::tell_bytes;
 use crate::traces::{intake_of, sampled};
 use rev_classes::{Config, fault_of};
+use rev_import::sample::Sample;
 use rev_intake::feed::{LogFeed, RowFeed};
 use rev_intake::intake::{Intake, Range};
 use rev_intake::report::{put_part, put_report, put_unfollowed};
@@ -35,6 +36,7 @@ use std::rt::Files;
 const ALL: Range = Range {
     first: 0,
     last: u32::MAX,
+    sample: Sample { one_of: 1 },
 };
 
 // Plays the script of what is fed, each step as a node, and tells where it fills the tree, if it does.
@@ -156,11 +158,12 @@ fn with_logs<R: Files + AllocGlobal>(
         settings,
         factor,
         rhythm,
+        ..
     } = asked;
     let setup = setup_of(rt, settings.as_str(), factor)?;
     put_unfollowed(notes, &setup.unfollowed)?;
     let config = setup.config;
-    let mut intake = Intake::open(rt.alloc(), setup, rhythm, ALL)?;
+    let mut intake = Intake::open(rt.alloc(), setup, rhythm, ALL, None)?;
     match begun(rt, &config, starts) {
         Err(stop) => Err(stop),
         Ok(mut session) => {

@@ -7,12 +7,16 @@ use crate::check::{Check, CheckedLogs};
 use crate::program::ended;
 use crate::stop::Stop;
 use either::Either;
-use rev_classes::Config;
+use rev_classes::{ClassTable, Config};
+use rev_import::sample::{LEAST_PAGE, Sample};
 use rev_import::setup::{Factor, Setup, follow};
 use rev_intake::fault::IntakeFault;
 use rev_intake::intake::{Intake, Range};
 use rev_intake::logs::make_script;
+use rev_intake::outlet::{Outlet, StartAndScript};
 use rev_intake::report::{put_report, put_run, put_unfollowed};
+use rev_intake::row_report::put_thin;
+use rev_intake::told::{put_run_behind, put_sample, put_split};
 use rev_intake::words::put_options;
 use rev_options::{STANDARD, WatchImport};
 use rev_output::{Sink, ToWrite, write_all};
@@ -22,6 +26,13 @@ use std::io::{Read, Write};
 use std::rt::Files;
 use std::{fs, io};
 
+// The name of a start in front of a script, also as it is called until it is whole.
+#[derive(Drop)]
+struct StartNames {
+    start: String,
+    start_part: String,
+}
+
 // The names of the files that are written, each also as it is called until it is whole.
 #[derive(Drop)]
 pub(crate) struct Names {
@@ -29,6 +40,7 @@ pub(crate) struct Names {
     pub(crate) script_part: String,
     pub(crate) options: String,
     pub(crate) options_part: String,
+    start: Option<StartNames>,
 }
 
 // A text and an end.
@@ -45,6 +57,19 @@ impl Names {
             script_part: with_end(alloc, prefix, ".script.part")?,
             options: with_end(alloc, prefix, ".options")?,
             options_part: with_end(alloc, prefix, ".options.part")?,
+            start: None,
+        })
+    }
+
+    // The same with a start in front of the script.
+    fn with_start(alloc: Global, prefix: &str) -> Result<Names, AllocError> {
+        let start = StartNames {
+            start: with_end(alloc, prefix, ".start")?,
+            start_part: with_end(alloc, prefix, ".start.part")?,
+        };
+        Ok(Names {
+            start: Some(start),
+            ..Names::of(alloc, prefix)?
         })
     }
 
@@ -55,6 +80,7 @@ impl Names {
             script_part: with_end(alloc, prefix, ".start.part")?,
             options: with_end(alloc, prefix, ".options")?,
             options_part: with_end(alloc, prefix, ".options.part")?,
+            start: None,
         })
     }
 }
@@ -211,7 +237,7 @@ pub(crate) fn name_in(names: &[String], place: usize) -> &str {
 /// What a script is made of.
 pub(crate) trait Making {
     /// Makes the script, and sends it to the sink.
-    fn make<K: Sink>(self, sink: &mut K) -> Result<(), Stop>;
+    fn make<K: Outlet>(self, sink: &mut K) -> Result<(), Stop>;
 }
 
 // Logs of these names, and what takes them in.
@@ -223,7 +249,7 @@ struct Logs<'a, F> {
 }
 
 impl<'a, F: Read + Drop> Making for Logs<'a, F> {
-    fn make<K: Sink>(self, sink: &mut K) -> Result<(), Stop> {
+    fn make<K: Outlet>(self, sink: &mut K) -> Result<(), Stop> {
         let Logs {
             intake,
             names,
@@ -257,6 +283,47 @@ fn make_file<R: Files, M: Making + Drop>(
     }
 }
 
+// A file of this name, emptied.
+fn created<R: Files>(rt: &R, alloc: Global, target: &str) -> Result<R::File, Stop> {
+    match fs::create(rt, target) {
+        Ok(file) => Ok(file),
+        Err(_) => Err(cannot_write(alloc, target)),
+    }
+}
+
+// Makes the script in two files, of which one has its start.
+fn make_two_files<R: Files, M: Making + Drop>(
+    rt: &R,
+    alloc: Global,
+    start: &str,
+    script: &str,
+    making: M,
+) -> Result<(), Stop> {
+    let first = created(rt, alloc, start)?;
+    let mut sink = StartAndScript::new(first, created(rt, alloc, script)?);
+    match making.make(&mut sink) {
+        Err(Stop::CannotWrite) => {
+            let target = if sink.is_behind() { script } else { start };
+            Err(cannot_write(alloc, target))
+        }
+        made => made,
+    }
+}
+
+// Makes the script in its file, or in two where it has a start.
+fn make_script_files<R: Files, M: Making + Drop>(
+    rt: &R,
+    alloc: Global,
+    files: &Names,
+    making: M,
+) -> Result<(), Stop> {
+    let script = files.script_part.as_str();
+    match &files.start {
+        None => make_file(rt, alloc, script, making),
+        Some(names) => make_two_files(rt, alloc, names.start_part.as_str(), script, making),
+    }
+}
+
 // Gives a file that is whole its name.
 fn rename<R: Files>(rt: &R, alloc: Global, part: &str, name: &str) -> Result<(), Stop> {
     match fs::rename(rt, part, name) {
@@ -282,7 +349,33 @@ pub(crate) fn rename_both<R: Files>(rt: &R, alloc: Global, files: &Names) -> Res
     }
 }
 
-// Writes script and options to files, each under another name until both are whole.
+// Gives all files their names, or those that have theirs are taken away again.
+fn rename_all<R: Files>(rt: &R, alloc: Global, files: &Names) -> Result<(), Stop> {
+    let names = match &files.start {
+        None => return rename_both(rt, alloc, files),
+        Some(names) => names,
+    };
+    rename(rt, alloc, names.start_part.as_str(), names.start.as_str())?;
+    match rename_both(rt, alloc, files) {
+        Ok(()) => Ok(()),
+        Err(stop) => {
+            let _ = fs::remove_file(rt, names.start.as_str());
+            Err(stop)
+        }
+    }
+}
+
+// Takes away what is there of files that are not whole.
+fn remove_parts<R: Files>(rt: &R, files: &Names) {
+    // A file that is not there cannot be removed.
+    if let Some(names) = &files.start {
+        let _ = fs::remove_file(rt, names.start_part.as_str());
+    }
+    let _ = fs::remove_file(rt, files.script_part.as_str());
+    let _ = fs::remove_file(rt, files.options_part.as_str());
+}
+
+// Writes script and options to files, each under another name until all are whole.
 fn try_files<R: Files, M: Making + Drop>(
     rt: &R,
     alloc: Global,
@@ -290,10 +383,10 @@ fn try_files<R: Files, M: Making + Drop>(
     words: &[u8],
     making: M,
 ) -> Result<(), Stop> {
-    make_file(rt, alloc, files.script_part.as_str(), making)?;
+    make_script_files(rt, alloc, files, making)?;
     match fs::write(rt, files.options_part.as_str(), words) {
         Err(_) => Err(cannot_write(alloc, files.options_part.as_str())),
-        Ok(()) => rename_both(rt, alloc, files),
+        Ok(()) => rename_all(rt, alloc, files),
     }
 }
 
@@ -308,9 +401,7 @@ fn to_files<R: Files, M: Making + Drop>(
     match try_files(rt, alloc, files, words, making) {
         Ok(()) => Ok(()),
         Err(stop) => {
-            // A file that is not there cannot be removed.
-            let _ = fs::remove_file(rt, files.script_part.as_str());
-            let _ = fs::remove_file(rt, files.options_part.as_str());
+            remove_parts(rt, files);
             Err(stop)
         }
     }
@@ -334,13 +425,55 @@ pub(crate) fn send<R: Files + AllocGlobal, M: Making + Drop, O: Write>(
     }
 }
 
+// Makes a script with its start in the files of this prefix, with the words for a run of it.
+fn send_with_start<R: Files + AllocGlobal, M: Making + Drop>(
+    rt: &R,
+    prefix: &str,
+    words: &[u8],
+    making: M,
+) -> Result<(), Stop> {
+    match Names::with_start(rt.alloc(), prefix) {
+        Ok(files) => to_files(rt, rt.alloc(), &files, words, making),
+        Err(_) => Err(Stop::Memory),
+    }
+}
+
+// The same store for a sample of the keys, with pages as much smaller, and a note where they would be too small.
+fn sampled(setup: Setup, sample: Sample, notes: &mut Vec<u8>) -> Result<Setup, Stop> {
+    let page_size = match sample.page_size(setup.config.page_size) {
+        Some(bytes) => bytes,
+        None => {
+            put_thin(notes, sample.one_of)?;
+            LEAST_PAGE
+        }
+    };
+    let config = Config {
+        page_size,
+        ..setup.config
+    };
+    match ClassTable::build(&config) {
+        Ok(classes) => Ok(Setup {
+            config,
+            classes,
+            ..setup
+        }),
+        Err(fault) => Err(Stop::from(fault)),
+    }
+}
+
+// How many lines a setup asks for.
+fn setup_lines(setup: &Setup) -> u64 {
+    u64::from(setup.tune.is_some()) + u64::from(setup.temp_ttl.is_some())
+}
+
 // An intake of the events that are asked for.
 fn intake_of(alloc: Global, setup: Setup, asked: &WatchImport) -> Result<Intake<Global>, Stop> {
     let range = Range {
         first: asked.first,
         last: asked.last,
+        sample: asked.sample,
     };
-    match Intake::open(alloc, setup, asked.rhythm, range) {
+    match Intake::open(alloc, setup, asked.rhythm, range, asked.split) {
         Ok(intake) => Ok(intake),
         Err(_) => Err(Stop::Memory),
     }
@@ -376,7 +509,10 @@ fn import_logs<R: Files + AllocGlobal, I: Read + Drop, O: Write>(
                 names,
                 logs,
             };
-            send(rt, asked.out.as_str(), words, making, writer)
+            match asked.split {
+                None => send(rt, asked.out.as_str(), words, making, writer),
+                Some(_) => send_with_start(rt, asked.out.as_str(), words, making),
+            }
         }
         Some(check) => {
             let making = CheckedLogs {
@@ -390,6 +526,34 @@ fn import_logs<R: Files + AllocGlobal, I: Read + Drop, O: Write>(
     }
 }
 
+// Adds what was counted.
+fn add_counts(
+    notes: &mut Vec<u8>,
+    asked: &WatchImport,
+    intake: &Intake<Global>,
+    stats: Option<LogStats>,
+) -> Result<(), AllocError> {
+    let (counts, figures) = (intake.counts(), intake.figures());
+    put_report(notes, &counts, &figures, stats)?;
+    if asked.sample.one_of > 1 {
+        put_sample(notes, &counts, &figures)?;
+    }
+    Ok(())
+}
+
+// Adds how many steps start and script have, of which so many were written of the setup, and how they are run.
+fn add_split(
+    notes: &mut Vec<u8>,
+    asked: &WatchImport,
+    intake: &Intake<Global>,
+    setup_lines: u64,
+) -> Result<(), AllocError> {
+    let start = intake.start_lines();
+    let script = intake.figures().lines.saturating_sub(start);
+    put_split(notes, start.saturating_add(setup_lines), script)?;
+    put_run_behind(notes, asked.out.as_bytes())
+}
+
 // Adds what is told of an import that went well: what was counted and compared, and how its script is run.
 fn add_report(
     notes: &mut Vec<u8>,
@@ -397,20 +561,24 @@ fn add_report(
     words: &[u8],
     intake: &Intake<Global>,
     check: &Option<Check>,
+    setup_lines: u64,
     stats: Option<LogStats>,
 ) -> Result<(), AllocError> {
     let is_standard = asked.out.as_str() == STANDARD;
     if is_standard {
         notes.extend_from_slice(words)?;
     }
-    put_report(notes, &intake.counts(), &intake.figures(), stats)?;
+    add_counts(notes, asked, intake, stats)?;
     if let Some(check) = check {
         check.put(notes)?;
     }
     if is_standard {
         return Ok(());
     }
-    put_run(notes, asked.out.as_bytes())
+    match asked.split {
+        None => put_run(notes, asked.out.as_bytes()),
+        Some(_) => add_split(notes, asked, intake, setup_lines),
+    }
 }
 
 // Makes the script that is asked for, and adds what is told of it to the notes.
@@ -424,6 +592,8 @@ fn import<R: Files + AllocGlobal, I: Read + Drop, O: Write>(
     let stats = stats_if(rt, &asked.stats)?;
     let setup = setup_of(rt, asked.settings.as_str(), asked.factor)?;
     put_unfollowed(notes, &setup.unfollowed)?;
+    let setup = sampled(setup, asked.sample, notes)?;
+    let setup_lines = setup_lines(&setup);
     let mut words = Vec::new(rt.alloc());
     put_options(&mut words, &setup.config)?;
     let mut check = check_of(rt.alloc(), asked.check, &setup.config)?;
@@ -438,7 +608,8 @@ fn import<R: Files + AllocGlobal, I: Read + Drop, O: Write>(
         reader,
         writer,
     )?;
-    match add_report(notes, asked, words, &intake, &check, stats) {
+    let told = add_report(notes, asked, words, &intake, &check, setup_lines, stats);
+    match told {
         Ok(()) => Ok(()),
         Err(_) => Err(Stop::Memory),
     }

@@ -10,6 +10,7 @@ use rev_classes::{ClassTable, Config, fault_of};
 use rev_import::policy::Rhythm;
 use rev_import::sample::{LEAST_PAGE, Sample};
 use rev_intake::fault::RowsFault;
+use rev_intake::outlet::Outlet;
 use rev_intake::report::put_run;
 use rev_intake::row_report::{put_row_report, put_thin};
 use rev_intake::rows::RowIntake;
@@ -46,7 +47,7 @@ struct Traces<'a, F> {
 }
 
 impl<'a, F: Read + Drop> Making for Traces<'a, F> {
-    fn make<K: Sink>(self, sink: &mut K) -> Result<(), Stop> {
+    fn make<K: Outlet>(self, sink: &mut K) -> Result<(), Stop> {
         let Traces {
             intake,
             names,

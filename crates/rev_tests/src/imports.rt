@@ -5,6 +5,7 @@ mod files;
 
 use crate::streams::{Narrow, Stutter};
 use rev_import::policy::Rhythm;
+use rev_import::sample::Sample;
 use rev_import::setup::{Setup, follow};
 use rev_intake::counts::LineCounts;
 use rev_intake::fault::IntakeFault;
@@ -62,12 +63,14 @@ const COUNTS: LineCounts = LineCounts {
     asked: 20,
     late: 0,
     repeated: 1,
+    other_keys: 0,
 };
 
 /// All seconds.
 pub const ALL: Range = Range {
     first: 0,
     last: u32::MAX,
+    sample: Sample { one_of: 1 },
 };
 
 /// What lrudb is opened with in the place of the server.
@@ -82,7 +85,7 @@ pub fn setup(rt: &impl Abort) -> Setup {
 }
 
 fn opened(rt: &impl Abort, alloc: Global) -> Intake<Global> {
-    match Intake::open(alloc, setup(rt), Rhythm::Lean, ALL) {
+    match Intake::open(alloc, setup(rt), Rhythm::Lean, ALL, None) {
         Ok(intake) => intake,
         Err(_) => panic!(rt; "no memory"),
     }

@@ -3,6 +3,7 @@ use crate::imports::disk::{Disk, Room};
 use crate::imports::{LOG, SETTINGS};
 use crate::streams::Stutter;
 use rev_import::policy::Rhythm;
+use rev_import::sample::Sample;
 use rev_options::WatchImport;
 use rev_output::ToWrite;
 use rev_program::import::import_watch;
@@ -15,8 +16,8 @@ fn text(rt: &impl Abort, alloc: Global, text: &str) -> String {
     String::from_str(alloc, text).expect(rt, "no memory")
 }
 
-// What is asked for.
-fn asked(rt: &impl Abort, alloc: Global) -> WatchImport {
+// What is asked for, with a start in front of this second, if any.
+fn asked(rt: &impl Abort, alloc: Global, split: Option<u32>) -> WatchImport {
     let mut logs = Vec::new(alloc);
     logs.push(text(rt, alloc, "log")).expect(rt, "no memory");
     WatchImport {
@@ -29,6 +30,8 @@ fn asked(rt: &impl Abort, alloc: Global) -> WatchImport {
         last: u32::MAX,
         out: text(rt, alloc, "t"),
         check: false,
+        sample: Sample { one_of: 1 },
+        split,
     }
 }
 
@@ -45,6 +48,7 @@ fn room(rt: &impl Abort, alloc: Global, turn: u32) -> Room {
 fn status_in(
     rt: &impl Abort,
     alloc: Global,
+    split: Option<u32>,
     room: &Room,
     output: &mut Vec<u8>,
     errors: &mut Vec<u8>,
@@ -52,24 +56,23 @@ fn status_in(
     let disk = Disk { room };
     import_watch(
         &disk,
-        asked(rt, alloc),
+        asked(rt, alloc, split),
         Stutter::new(b""),
         output,
         &mut ToWrite::new(errors),
     )
 }
 
-// Each call on a file fails in turn: it is told, and nothing is left of the files.
-#[test]
-fn each_call_fails(rt: HostRuntime) {
+// Each call on a file fails in turn: it is told, and nothing is left of the files. Where none fails, so many are there.
+fn fail_in_turn(rt: &impl Abort, alloc: Global, split: Option<u32>, whole: usize) {
     for turn in 1..100 {
-        let room = room(&rt, rt.alloc(), turn);
-        let mut output: Vec<u8> = Vec::new(rt.alloc());
-        let mut errors: Vec<u8> = Vec::new(rt.alloc());
-        let status = status_in(&rt, rt.alloc(), &room, &mut output, &mut errors);
+        let room = room(rt, alloc, turn);
+        let mut output: Vec<u8> = Vec::new(alloc);
+        let mut errors: Vec<u8> = Vec::new(alloc);
+        let status = status_in(rt, alloc, split, &room, &mut output, &mut errors);
         if room.waits() {
             assert!(rt;
-                turn > 10 && status == 0 && room.count_files() == 5,
+                turn > 10 && status == 0 && room.count_files() == whole,
                 "{turn}"
             );
             return;
@@ -82,4 +85,10 @@ fn each_call_fails(rt: HostRuntime) {
         );
     }
     panic!(rt; "there was always one call more")
+}
+
+#[test]
+fn each_call_fails(rt: HostRuntime) {
+    fail_in_turn(&rt, rt.alloc(), None, 5);
+    fail_in_turn(&rt, rt.alloc(), Some(102), 6);
 }

@@ -13,7 +13,7 @@ use std::process::Abort;
 
 // Makes the script of the log, with all that the intake keeps in the heap.
 fn make(rt: &impl Abort, heap: &LocalHeap, script: &mut Vec<u8>) -> Result<(), IntakeFault> {
-    let mut intake = Intake::open(heap, setup(rt), Rhythm::Lean, ALL)?;
+    let mut intake = Intake::open(heap, setup(rt), Rhythm::Lean, ALL, None)?;
     let mut log = LogReader::over(FromRead::new(LOG));
     let mut sink = ToWrite::new(script);
     let mut done = intake.take_log(&mut log, &mut sink);
