@@ -131,7 +131,7 @@ fn line_name<A: Allocator>(line: &Line<A>) -> Option<&'static str> {
     }
 }
 
-fn numbered<A: Allocator>(line: &Line<A>) -> Numbered {
+fn numbered_of<A: Allocator>(line: &Line<A>) -> Numbered {
     match line {
         Line::Debug(DebugLine::Plain(DebugCommand::Tree)) => Numbered::Nodes,
         Line::Debug(DebugLine::Plain(DebugCommand::Gone(_))) => Numbered::Departures,
@@ -149,6 +149,6 @@ fn numbered<A: Allocator>(line: &Line<A>) -> Numbered {
 pub fn command_of<A: Allocator>(line: &Line<A>) -> Command {
     Command {
         name: line_name(line),
-        numbered: numbered(line),
+        numbered: numbered_of(line),
     }
 }

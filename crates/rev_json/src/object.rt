@@ -1,4 +1,6 @@
 //! The object of a line.
+ghost use Rattle.std.specs.Prelude.{IfOk};
+ghost use Rattle.rev_json.specs.JsonLines.{IsJsonLine};
 
 use crate::command::Command;
 use crate::row::Rows;
@@ -24,7 +26,9 @@ pub fn json_line(
     node: u32,
     command: Command,
     answer: &[u8],
-) -> Result<Vec<u8>, AllocError> {
+) -> Result<Vec<u8>, AllocError>
+    ensures { IfOk result (λ line. IsJsonLine line.items) }
+{
     let object = Object {
         line,
         node,

@@ -1,6 +1,7 @@
 //! A script from a reader, what is told of its lines to a writer.
 ghost use Rattle.std.specs.Prelude.{◌≡◌, ℕ, List, IfOk, IfErr};
 ghost use Rattle.rev_script.specs.Lines.{IsFirst};
+ghost use Rattle.rev_output.specs.Sink.{sink_at};
 ghost use Rattle.rev_json.specs.Told.{IsTold, IsStoppedTelling};
 ghost use Rattle.rev_shell.specs.Run.{without_bookmarks};
 ghost use Rattle.rev_shell.specs.Answers.{with_bookmarks};
@@ -27,10 +28,10 @@ fn tell_lines<S: Source, K: Sink>(
 ) -> Result<Summary, RunFault>
     requires { IsFirst lines.old }
     ensures ok { IfOk result (λ sum. IsTold lines.old.input.dialect lines.old.input.bytes.source lines.new.input.bytes.source
-        (K.failures sink.old) (K.failures sink.new)
+        (sink_at (K.contents sink.old) (K.failures sink.old)) (sink_at (K.contents sink.new) (K.failures sink.new))
         (with_bookmarks session.old bookmarks.old) (with_bookmarks session.new bookmarks.new) sum) }
     ensures err { IfErr result (λ e. IsStoppedTelling lines.old.input.dialect lines.old.input.bytes.source lines.new.input.bytes.source
-        (K.failures sink.old) (K.failures sink.new)
+        (sink_at (K.contents sink.old) (K.failures sink.old)) (sink_at (K.contents sink.new) (K.failures sink.new))
         (with_bookmarks session.old bookmarks.old) e) }
     ensures same { lines.new.input.bytes.source.identity ≡ lines.old.input.bytes.source.identity }
 {
@@ -86,9 +87,11 @@ pub fn run_as_json<S: Source, K: Sink>(
     sink: &mut K,
 ) -> Result<Summary, RunFault>
     ensures ok { IfOk result (λ sum. (names : List (List ℕ × ℕ)) × IsTold dialect (S.told reader.old) (S.told reader.new)
-        (K.failures sink.old) (K.failures sink.new) (without_bookmarks session.old) (with_bookmarks session.new names) sum) }
+        (sink_at (K.contents sink.old) (K.failures sink.old)) (sink_at (K.contents sink.new) (K.failures sink.new))
+        (without_bookmarks session.old) (with_bookmarks session.new names) sum) }
     ensures err { IfErr result (λ e. IsStoppedTelling dialect (S.told reader.old) (S.told reader.new)
-        (K.failures sink.old) (K.failures sink.new) (without_bookmarks session.old) e) }
+        (sink_at (K.contents sink.old) (K.failures sink.old)) (sink_at (K.contents sink.new) (K.failures sink.new))
+        (without_bookmarks session.old) e) }
 {
     let mut bookmarks = Bookmarks::new(&alloc);
     let mut lines = Lines::of(alloc, reader, dialect);

@@ -1,11 +1,11 @@
 use Rattle.std.proofs.Common.{rules}
-use Rattle.rev_shell.proofs.Runs.{left_told}
+use Rattle.rev_json.proofs.Telling.{told_of_lent}
 use Rattle.rev_json.proofs.run.run_as_json.Goals as goal
 
 pub returns-clause-ok : goal.returns-clause-ok
 returns-clause-ok g c =
-    let l = rw c.of-lines.ensures at c.in-Ok-ended.ensures.ok in
+    let l = rw c.of-lines.ensures at c.in-Ok.ensures.ok in
     let m = rw (← c.into_source-reader.ensures) at l in
-    let t = left_told (g.S.Source.told c.args.reader.now) (g.S.Source.told c.into_source-reader.result.now) _ _ m in
+    let t = told_of_lent (g.S.Source.told c.args.reader.now) (g.S.Source.told c.into_source-reader.result.now) _ _ m in
     let n = rw c.new-bookmarks.ensures at t in
     search rules
