@@ -1,6 +1,4 @@
 //! Logs and traces that are taken in bit by bit, by who wants the next part of their script.
-ghost use Rattle.std.specs.Prelude.{IfSome};
-ghost use Rattle.rev_trace.specs.Trace.{reader_in, IsSteady};
 
 use crate::fault::{IntakeFault, RowsFault};
 use crate::intake::Intake;
@@ -14,6 +12,7 @@ use rev_watch::reader::LogReader;
 use std::alloc::Global;
 use std::collections::VecDeque;
 use std::io::Read;
+use std::marker::Model;
 
 /// Logs that are taken in bit by bit, in their order. Memory is taken as by the intake alone.
 #[derive(Drop)]
@@ -104,7 +103,18 @@ pub struct RowFeed<'a, F: Read + Drop> {
     rest: VecDeque<F>,
     // how many traces were begun
     begun: usize,
-    ghost steady: { IfSome trace (λ t. IsSteady (reader_in t)) },
+}
+
+impl<'a, F: Read + Drop> Model for RowFeed<'a, F> {
+    ghost use Rattle.std.specs.Prelude.{ℕ, IfSome};
+    ghost use Rattle.rev_trace.specs.Trace.{reader_in, IsSteady};
+
+    // how many traces were begun
+    ghost Value = { ℕ };
+
+    ghost view = { λ f. f.begun };
+
+    ghost invariant = { λ f. IfSome f.trace (λ t. IsSteady (reader_in t)) };
 }
 
 impl<'a, F: Read + Drop> RowFeed<'a, F> {
