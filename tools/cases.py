@@ -153,7 +153,7 @@ class Case:
         self.prefix = next((b for a, b in zip(words, words[1:]) if a == "--out"), None)
         logs = [b for a, b in zip(words, words[1:]) if b in files and not a.startswith("--")]
         self.log = logs[0] if len(logs) == 1 and words[0] == "import" else None
-        self.has_start = self.start is not None
+        self.has_start = self.start is not None or "--split" in words
         if self.status == 0 and self.prefix and self.script is None and not self.has_start:
             raise ValueError(f"{name}: no script is wanted")
 

@@ -1,7 +1,7 @@
 -- Where a start ends, if a script begins with one.
 -- Rule of this project: in front of the first event, in their order, whose second is that of the split or a later one. What stands
 -- behind it is the script, also where an event there has an earlier second.
-use Rattle.std.specs.Prelude.{◌≡◌, ℕ, Bool, false, nat_le, if◌then◌else◌, [], Option, None, Some}
+use Rattle.std.specs.Prelude.{ℕ, Bool, false, nat_le, if◌then◌else◌, [], Option, None, Some}
 use Rattle.rev_import.specs.Becoming.{first_second}
 use Rattle.rev_intake.specs.Intake.{PlainIntake}
 

@@ -5,8 +5,8 @@ use Rattle.rev_intake.specs.Splitting.{is_due}
 use Rattle.rev_intake.proofs.Splitting.{split_due, split_not_due}
 use Rattle.rev_intake.proofs.intake.Intake.split_off.Goals as goal
 
-pub returns-if-is_due-clause-split : goal.returns-if-is_due-clause-split
-returns-if-is_due-clause-split g c =
+pub returns-then-is_due-clause-split : goal.returns-then-is_due-clause-split
+returns-then-is_due-clause-split g c =
     let due =
     ap (λ i. is_due i.split (first_second i.waiting)) (sym c.self.view_is)
     ∙ ap (λ f. is_due c.self.inside.split f) (sym c.first_second.ensures)
@@ -21,4 +21,4 @@ returns-else-is_due-clause-split g c =
     ∙ ap (λ f. is_due c.self.inside.split f) (sym c.first_second.ensures)
     ∙ sym c.is_due.ensures
     ∙ c.if-is_due.false in
-    c.self.view_is ∙ sym (split_not_due _ due)
+    sym (split_not_due _ due)
