@@ -1,12 +1,13 @@
 //! The words of `lrudb open`.
 ghost use Rattle.std.specs.Prelude.{◌≡◌, map, true, false, IfOk};
-ghost use Rattle.rev_options.specs.Request.{IsInRange, IsOfWords, asks_open, OpensBy};
+ghost use Rattle.rev_options.specs.Request.{IsInRange, IsOfWords, asks_open, OpensBy, RunsBy};
 
 use crate::import::STANDARD;
-use crate::{Request, config_of, fault, files_of, start, with_config};
+use crate::{Request, config_of, dialect_of, fault, files_of, line_feed, start, with_config};
 use clap::error::ErrorKind;
 use clap::{Arg, ArgAction, ArgMatches, Command, Error};
 use rev_classes::Config;
+use rev_script::dialect::Dialect;
 use std::alloc::{AllocError, Global};
 use std::convert::AsStr;
 
@@ -14,6 +15,10 @@ use std::convert::AsStr;
 #[derive(Debug, Drop)]
 pub struct Opening {
     pub config: Config,
+    /// In which dialect the files and the traces are read.
+    pub dialect: Dialect,
+    /// Whether a prompt is written before each line of the session is read.
+    pub has_prompt: bool,
     /// The names of files whose steps are played before the traces, and of which only the state is kept.
     pub starts: Vec<String>,
     /// The names of the traces in order, none of them `-`.
@@ -30,12 +35,22 @@ fn traces<'a>(alloc: Global) -> Arg<'a> {
         )
 }
 
+// Where it is given by the launcher, at a terminal.
+fn prompt<'a>(alloc: Global) -> Arg<'a> {
+    Arg::new(alloc, "prompt")
+        .long("prompt")
+        .action(ArgAction::SetTrue)
+        .hide(true)
+}
+
 /// The subcommand `open`.
 pub fn open_command<'a>(alloc: Global) -> Result<Command<'a>, AllocError> {
     let command = Command::new(alloc, "open").about(
         "Plays the steps of traces, and answers the lines of the standard input at any node of theirs",
     );
     with_config(alloc, command)?
+        .arg(line_feed(alloc))?
+        .arg(prompt(alloc))?
         .arg(start(alloc))?
         .arg(traces(alloc))
 }
@@ -59,8 +74,11 @@ pub fn opening_of(alloc: Global, matches: &ArgMatches<'_>) -> Result<Request, Er
     ensures range { IfOk result IsInRange }
     ensures words { IfOk result (IsOfWords false) }
     ensures opens { IfOk result (OpensBy true) }
+    ensures runs { IfOk result (RunsBy false) }
 {
     let config = config_of(matches);
+    let dialect = dialect_of(matches);
+    let has_prompt = matches.get_flag("prompt");
     let starts = files_of(alloc, matches, "start")?;
     let traces = files_of(alloc, matches, "traces")?;
     if has_standard(&traces) {
@@ -72,6 +90,8 @@ pub fn opening_of(alloc: Global, matches: &ArgMatches<'_>) -> Result<Request, Er
     }
     Ok(Request::Open(Opening {
         config,
+        dialect,
+        has_prompt,
         starts,
         traces,
     }))
