@@ -16,8 +16,8 @@ use clap::error::ErrorKind;
 use clap::{Arg, ArgAction, ArgMatches, Command, Error, value_parser};
 pub use csv::CsvImport;
 pub use import::{STANDARD, WatchImport};
-use number::NUMBERS;
 pub use number::Number;
+use number::{NUMBERS, NumberOption};
 pub use opening::Opening;
 use rev_classes::Config;
 use rev_script::dialect::Dialect;
@@ -80,13 +80,13 @@ const ABOUT: &str =
 const AFTER: &str =
     "A script has one command a line: memcached's own (set, get, delete, ..) and questions (:item KEY, :back, ..).\n\nExit status: 0 done, 2 command line or configuration, 3 out of memory, 4 input or output, 5 a file of steps has a line that is not a step, or what is imported is at fault, 6 the log differs.";
 
-fn option<'a>(alloc: Global, of: Number) -> Arg<'a> {
-    Arg::new(alloc, of.name())
-        .long(of.name())
-        .value_name(of.unit())
+fn option<'a>(alloc: Global, of: &'static NumberOption) -> Arg<'a> {
+    Arg::new(alloc, of.name)
+        .long(of.name)
+        .value_name(of.unit)
         .value_parser(value_parser!(u32))
-        .default_value(of.default())
-        .help(of.help())
+        .default_value(of.default)
+        .help(of.help)
 }
 
 fn temp_ttl<'a>(alloc: Global) -> Arg<'a> {
@@ -102,7 +102,7 @@ fn temp_ttl<'a>(alloc: Global) -> Arg<'a> {
 fn with_config<'a>(alloc: Global, command: Command<'a>) -> Result<Command<'a>, AllocError> {
     let mut command = command;
     for of in &NUMBERS {
-        command = command.arg(option(alloc, *of))?;
+        command = command.arg(option(alloc, of))?;
     }
     command.arg(temp_ttl(alloc))
 }

@@ -2,6 +2,60 @@
 ghost use Rattle.std.specs.Prelude.{◌≡◌};
 ghost use Rattle.rev_options.specs.Number.{name_of, help_of};
 
+/// An option, without its two dashes, with what its help says.
+pub struct NumberOption {
+    pub name: &'static str,
+    pub unit: &'static str,
+    pub default: &'static str,
+    pub help: &'static str,
+}
+
+/// All of them, in the order of the help and of `Number`.
+pub static NUMBERS: [NumberOption; 7] = [
+    NumberOption {
+        name: "page-size",
+        unit: "BYTES",
+        default: "1048576",
+        help: "Bytes of a slab page: 256 to 1048576, a multiple of 8",
+    },
+    NumberOption {
+        name: "pages",
+        unit: "COUNT",
+        default: "64",
+        help: "Pages before classes that own one have to evict: 1 to 4096",
+    },
+    NumberOption {
+        name: "num",
+        unit: "NUMBER",
+        default: "5",
+        help: "Growth factor of chunk sizes, numerator: 1 to 1000, the factor 21/20 to 4",
+    },
+    NumberOption {
+        name: "den",
+        unit: "NUMBER",
+        default: "4",
+        help: "Growth factor of chunk sizes, denominator: 1 to 1000",
+    },
+    NumberOption {
+        name: "bump",
+        unit: "COUNT",
+        default: "64",
+        help: "Entries that the bump queue of COLD items holds: 1 to 4096",
+    },
+    NumberOption {
+        name: "hash-power",
+        unit: "POWER",
+        default: "10",
+        help: "The index has 2 to this power buckets: 4 to 20",
+    },
+    NumberOption {
+        name: "now",
+        unit: "SECONDS",
+        default: "1",
+        help: "Where the clock starts: 1 to 4294967295",
+    },
+];
+
 /// A number of the configuration.
 #[derive(Clone, Copy)]
 pub enum Number {
@@ -14,30 +68,19 @@ pub enum Number {
     Now,
 }
 
-/// All of them, in the order of the help.
-pub static NUMBERS: [Number; 7] = [
-    Number::PageSize,
-    Number::Pages,
-    Number::Num,
-    Number::Den,
-    Number::Bump,
-    Number::HashPower,
-    Number::Now,
-];
-
 impl Number {
-    /// The option, without its two dashes.
+    /// The name of its option.
     pub fn name(self) -> &'static str
         ensures { result.now ≡ name_of self }
     {
         match self {
-            Number::PageSize => "page-size",
-            Number::Pages => "pages",
-            Number::Num => "num",
-            Number::Den => "den",
-            Number::Bump => "bump",
-            Number::HashPower => "hash-power",
-            Number::Now => "now",
+            Number::PageSize => NUMBERS[0].name,
+            Number::Pages => NUMBERS[1].name,
+            Number::Num => NUMBERS[2].name,
+            Number::Den => NUMBERS[3].name,
+            Number::Bump => NUMBERS[4].name,
+            Number::HashPower => NUMBERS[5].name,
+            Number::Now => NUMBERS[6].name,
         }
     }
 
@@ -46,39 +89,13 @@ impl Number {
         ensures { result.now ≡ help_of self }
     {
         match self {
-            Number::PageSize => "Bytes of a slab page: 256 to 1048576, a multiple of 8",
-            Number::Pages => "Pages before classes that own one have to evict: 1 to 4096",
-            Number::Num => {
-                "Growth factor of chunk sizes, numerator: 1 to 1000, the factor 21/20 to 4"
-            }
-            Number::Den => "Growth factor of chunk sizes, denominator: 1 to 1000",
-            Number::Bump => "Entries that the bump queue of COLD items holds: 1 to 4096",
-            Number::HashPower => "The index has 2 to this power buckets: 4 to 20",
-            Number::Now => "Where the clock starts: 1 to 4294967295",
-        }
-    }
-
-    /// The unit in which it is given.
-    pub fn unit(self) -> &'static str {
-        match self {
-            Number::PageSize => "BYTES",
-            Number::Pages | Number::Bump => "COUNT",
-            Number::Num | Number::Den => "NUMBER",
-            Number::HashPower => "POWER",
-            Number::Now => "SECONDS",
-        }
-    }
-
-    /// What it is where it is not given.
-    pub fn default(self) -> &'static str {
-        match self {
-            Number::PageSize => "1048576",
-            Number::Pages => "64",
-            Number::Num => "5",
-            Number::Den => "4",
-            Number::Bump => "64",
-            Number::HashPower => "10",
-            Number::Now => "1",
+            Number::PageSize => NUMBERS[0].help,
+            Number::Pages => NUMBERS[1].help,
+            Number::Num => NUMBERS[2].help,
+            Number::Den => NUMBERS[3].help,
+            Number::Bump => NUMBERS[4].help,
+            Number::HashPower => NUMBERS[5].help,
+            Number::Now => NUMBERS[6].help,
         }
     }
 }

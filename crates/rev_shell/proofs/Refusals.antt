@@ -1,5 +1,5 @@
 -- Which texts end with a refusal of the tree.
-use Rattle.std.proofs.Common.{◌≡◌, ◌<◌, ◌≤◌, ◌-◌, ◌+◌, ℕ, Bool, true, false, inl, inr, codes, List, ◌++◌, length, take, get_or, refl, ◌∙◌, ap, arith, length-append, eqb}
+use Rattle.std.proofs.Common.{◌≡◌, ◌≤◌, ◌-◌, ◌+◌, ℕ, false, inl, inr, codes, List, ◌++◌, length, take, get_or, refl, ◌∙◌, ap, arith, length-append, eqb}
 use Rattle.std.proofs.lemmas.Bool.{cases_Bool}
 use Rattle.std.specs.List.{ends_with}
 use Rattle.std.proofs.lemmas.Bool.Decides.{Decides-eqb}
@@ -17,8 +17,8 @@ third front end few =
 no_end : (text end : List ℕ) → 3 ≤ length end → (get_or text (length text - 3) 0 ≡ get_or end (length end - 3) 0 → ⊥) → ends_with eqb text end ≡ false
 no_end text end few differs = elim (cases_Bool (ends_with eqb text end)) [
   | inl e ↦
-    let s = (ends_is Decides-eqb text end _ refl).0 e in
-    absurd (differs (ap (λ t. get_or t (length t - 3) 0) s ∙ third (take (length text - length end) text) end few))
+      let s = (ends_is Decides-eqb text end _ refl).0 e in
+      absurd (differs (ap (λ t. get_or t (length t - 3) 0) s ∙ third (take (length text - length end) text) end few))
   | inr e ↦ e
 ]
 
