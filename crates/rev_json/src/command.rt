@@ -94,6 +94,7 @@ fn debug_name(command: DebugCommand) -> &'static str {
         DebugCommand::Step(_) => ":step",
         DebugCommand::Time(_) => ":time",
         DebugCommand::Classes => ":classes",
+        DebugCommand::Help => ":help",
     }
 }
 
@@ -110,6 +111,7 @@ fn bookmark_name(command: BookmarkCommand) -> &'static str {
     match command {
         BookmarkCommand::Mark => ":mark",
         BookmarkCommand::Goto => ":goto",
+        BookmarkCommand::Help => ":help",
     }
 }
 

@@ -13,7 +13,7 @@ use rev_script::dialect::Dialect;
 use rev_script::lines::Lines;
 use rev_script::source::Source;
 use rev_shell::bookmarks::Bookmarks;
-use rev_shell::run::{RunFault, Summary, answer_line, fault_at};
+use rev_shell::run::{NONE, Prompts, RunFault, Summary, answer_line, fault_at, is_bad, with_mark};
 use rev_undotree::Session;
 use std::alloc::Global;
 
@@ -36,6 +36,8 @@ fn tell_lines<S: Source, K: Sink>(
     ensures same { lines.new.input.bytes.source.identity ≡ lines.old.input.bytes.source.identity }
 {
     let mut count: u64 = 0;
+    let mut bad = NONE;
+    let mut refused = NONE;
     'lines: loop {
         let next = match lines.next() {
             Err(fault) => return Err(fault_at(fault, count + 1)),
@@ -46,15 +48,18 @@ fn tell_lines<S: Source, K: Sink>(
                 return Ok(Summary {
                     lines: count,
                     plays: session.issued() as u64,
+                    bad,
+                    refused,
                 });
             }
             Some(line) => line,
         };
         let command = command_of(&line);
-        match answer_line(session, bookmarks, line, text) {
+        let is_bad = is_bad(&line);
+        let is_refused = match answer_line(Prompts::Hidden, session, bookmarks, line, text) {
             Err(_) => return Err(RunFault::Memory { line: count + 1 }),
-            Ok(()) => {}
-        }
+            Ok(refused) => refused,
+        };
         let told = match json_line(
             alloc,
             count + 1,
@@ -70,6 +75,8 @@ fn tell_lines<S: Source, K: Sink>(
             Ok(()) => {}
         }
         count += 1;
+        bad = with_mark(bad, is_bad, count);
+        refused = with_mark(refused, is_refused, count);
     }
 }
 

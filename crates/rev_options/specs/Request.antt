@@ -1,6 +1,6 @@
 -- What holds of a request that was read.
 -- Rule of this project: the bounds of `--temp-ttl`, `--heap` and the number of files; and which words ask for an import, for
--- traces to be opened, and for what `open` imports.
+-- traces to be opened, for what `open` imports, and for a run.
 use Rattle.std.specs.Prelude.{ℕ, ℤ, pos, negsuc, Bool, true, false, nat_eq, ◌||◌, ◌≡◌, ◌≤◌, List, [], ◌∷◌, take, length, IfSome, Option, None, codes}
 use Rattle.std.specs.Str.{bytes_eq}
 use Rattle.rev_options.specs.declared.Request.{Request}
@@ -17,8 +17,8 @@ IsHeap bytes = (4096 ≤ bytes) × (bytes ≤ 1073741824)
 
 -- a time to live that there is; for a run a heap that may be asked for, where one is, and none where JSON is; for a recording one to eight files; for an import a log, or a trace
 abbrev pub IsInRange : Request → Type 0
-IsInRange (Run config heap starts json) = (is_temp_ttl config.temp_ttl ≡ true) × IfSome heap IsHeap × (json ≡ true → heap ≡ None)
-IsInRange (Record config starts files) = (is_temp_ttl config.temp_ttl ≡ true) × (1 ≤ length files.items) × (length files.items ≤ 8)
+IsInRange (Run config heap dialect starts json) = (is_temp_ttl config.temp_ttl ≡ true) × IfSome heap IsHeap × (json ≡ true → heap ≡ None)
+IsInRange (Record config dialect starts files) = (is_temp_ttl config.temp_ttl ≡ true) × (1 ≤ length files.items) × (length files.items ≤ 8)
 IsInRange (ImportWatch asked) = 1 ≤ length asked.logs.items
 IsInRange (ImportCsv asked) = (is_temp_ttl asked.config.temp_ttl ≡ true) × (1 ≤ length asked.traces.items)
 IsInRange (ImportState asked) = Unit {0}
@@ -64,3 +64,13 @@ abbrev pub BringsBy : Bool → Request → Type 0
 BringsBy brings (OpenWatch asked) = brings ≡ true
 BringsBy brings (OpenCsv asked) = brings ≡ true
 BringsBy brings other = Unit {0}
+
+-- the first word says `run`
+abbrev pub asks_run : List (List ℕ) → Bool
+asks_run [] = false
+asks_run (word ∷ words) = bytes_eq word (codes "run")
+
+-- a run is asked for by that word, and nothing else is
+abbrev pub RunsBy : Bool → Request → Type 0
+RunsBy asks (Run config heap dialect starts json) = asks ≡ true
+RunsBy asks other = asks ≡ false

@@ -1,6 +1,6 @@
 //! The words of `lrudb import`.
 ghost use Rattle.std.specs.Prelude.{◌≡◌, ◌≤◌, length, map, true, false, IfOk};
-ghost use Rattle.rev_options.specs.Request.{IsInRange, IsOfWords, OpensBy, BringsBy, asks_import};
+ghost use Rattle.rev_options.specs.Request.{IsInRange, IsOfWords, OpensBy, BringsBy, RunsBy, asks_import};
 
 use crate::csv::{csv_command, csv_import, sample_of};
 use crate::state::{state_command, state_import};
@@ -303,6 +303,7 @@ pub fn import(alloc: Global, matches: &ArgMatches<'_>) -> Result<Request, Error>
     ensures words { IfOk result (IsOfWords true) }
     ensures opens { IfOk result (OpensBy false) }
     ensures brings { IfOk result (BringsBy false) }
+    ensures runs { IfOk result (RunsBy false) }
 {
     if let Some(inner) = matches.subcommand_matches("watch") {
         return Ok(Request::ImportWatch(watch_import(alloc, inner)?));

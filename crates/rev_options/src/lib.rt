@@ -3,11 +3,12 @@
 
 mod csv;
 mod import;
+mod number;
 mod opening;
 mod state;
 
 ghost use Rattle.std.specs.Prelude.{◌≡◌, ◌≤◌, length, map, IfOk, IfSome, true, false};
-ghost use Rattle.rev_options.specs.Request.{IsInRange, IsHeap, IsOfWords, OpensBy, BringsBy, asks_import, asks_open, brings, is_temp_ttl};
+ghost use Rattle.rev_options.specs.Request.{IsInRange, IsHeap, IsOfWords, OpensBy, BringsBy, RunsBy, asks_import, asks_open, asks_run, brings, is_temp_ttl};
 
 use crate::import::{asks_import, import, import_command};
 use crate::opening::{asks_open, brings, open_command, opening_of};
@@ -15,8 +16,11 @@ use clap::error::ErrorKind;
 use clap::{Arg, ArgAction, ArgMatches, Command, Error, value_parser};
 pub use csv::CsvImport;
 pub use import::{STANDARD, WatchImport};
-pub use opening::{CsvOpening, Opening, WatchOpening};
+pub use number::Number;
+use number::{NUMBERS, NumberOption};
+pub use opening::{CsvOpening, Manner, Opening, WatchOpening};
 use rev_classes::Config;
+use rev_script::dialect::Dialect;
 pub use state::StateImport;
 use std::alloc::{AllocError, Global};
 use std::convert::AsStr;
@@ -37,16 +41,20 @@ pub const MAX_HEAP: usize = 1073741824;
 #[derive(Debug, Drop)]
 pub enum Request {
     /// Run the script of the standard input, from the state that the steps of the files `starts` leave. With `heap`, all
-    /// that the run keeps lies in one heap of so many bytes. With `json`, and no heap then, answers are told as JSON.
+    /// that the run keeps lies in one heap of so many bytes. The script and the files are read in the dialect. With `json`, and
+    /// no heap then, answers are told as JSON.
     Run {
         config: Config,
         heap: Option<usize>,
+        dialect: Dialect,
         starts: Vec<String>,
         json: bool,
     },
     /// Play the scripts of one to eight files at once, each as an actor, from the state that the steps of `starts` leave.
+    /// All files are read in the dialect.
     Record {
         config: Config,
+        dialect: Dialect,
         starts: Vec<String>,
         files: Vec<String>,
     },
@@ -72,66 +80,13 @@ pub enum Refused {
     Memory,
 }
 
-/// An option whose value is a number from 0 to 4294967295.
-struct Number {
-    name: &'static str,
-    unit: &'static str,
-    default: &'static str,
-    help: &'static str,
-}
-
-static NUMBERS: [Number; 7] = [
-    Number {
-        name: "page-size",
-        unit: "BYTES",
-        default: "1048576",
-        help: "Bytes of a slab page: 256 to 1048576, a multiple of 8",
-    },
-    Number {
-        name: "pages",
-        unit: "COUNT",
-        default: "64",
-        help: "Pages before classes that own one have to evict: 1 to 4096",
-    },
-    Number {
-        name: "num",
-        unit: "NUMBER",
-        default: "5",
-        help: "Growth factor of chunk sizes, numerator: 1 to 1000, the factor 21/20 to 4",
-    },
-    Number {
-        name: "den",
-        unit: "NUMBER",
-        default: "4",
-        help: "Growth factor of chunk sizes, denominator: 1 to 1000",
-    },
-    Number {
-        name: "bump",
-        unit: "COUNT",
-        default: "64",
-        help: "Entries that the bump queue of COLD items holds: 1 to 4096",
-    },
-    Number {
-        name: "hash-power",
-        unit: "POWER",
-        default: "10",
-        help: "The index has 2 to this power buckets: 4 to 20",
-    },
-    Number {
-        name: "now",
-        unit: "SECONDS",
-        default: "1",
-        help: "Where the clock starts: 1 to 4294967295",
-    },
-];
-
 const ABOUT: &str =
     "Replays memcached's storage commands and the steps of its segmented LRU, forwards and backwards";
 
 const AFTER: &str =
     "A script has one command a line: memcached's own (set, get, delete, ..) and questions (:item KEY, :back, ..).\n\nExit status: 0 done, 2 command line or configuration, 3 out of memory, 4 input or output, 5 a file of steps has a line that is not a step, or what is imported is at fault, 6 the log differs.";
 
-fn option<'a>(alloc: Global, of: &'static Number) -> Arg<'a> {
+fn option<'a>(alloc: Global, of: &'static NumberOption) -> Arg<'a> {
     Arg::new(alloc, of.name)
         .long(of.name)
         .value_name(of.unit)
@@ -186,12 +141,20 @@ fn json<'a>(alloc: Global) -> Arg<'a> {
         .help("Tells of each line in a line of JSON, in the place of its answer")
 }
 
+fn line_feed<'a>(alloc: Global) -> Arg<'a> {
+    Arg::new(alloc, "lf")
+        .long("lf")
+        .action(ArgAction::SetTrue)
+        .help("LF ends a data block of a file or script as CR LF does")
+}
+
 fn run_command<'a>(alloc: Global) -> Result<Command<'a>, AllocError> {
     let run = Command::new(alloc, "run").about(
         "Runs a script from the standard input, and answers each line",
     );
     with_config(alloc, run)?
         .arg(heap(alloc))?
+        .arg(line_feed(alloc))?
         .arg(start(alloc))?
         .arg(json(alloc))
 }
@@ -210,6 +173,7 @@ fn record_command<'a>(alloc: Global) -> Result<Command<'a>, AllocError> {
         "Plays the scripts of files at once, each by an actor on a thread, and tells in which order their steps came",
     );
     with_config(alloc, record)?
+        .arg(line_feed(alloc))?
         .arg(start(alloc))?
         .arg(files(alloc))
 }
@@ -229,8 +193,8 @@ fn whole_command<'a>(alloc: Global) -> Result<Command<'a>, AllocError> {
 }
 
 // Each number has a default and passed its parser, so none is absent.
-fn number_of(matches: &ArgMatches<'_>, name: &str) -> u32 {
-    matches.get_one(name).unwrap_or(0)
+fn number_of(matches: &ArgMatches<'_>, of: Number) -> u32 {
+    matches.get_one(of.name()).unwrap_or(0)
 }
 
 fn temp_ttl_of(matches: &ArgMatches<'_>) -> i32
@@ -246,14 +210,23 @@ fn config_of(matches: &ArgMatches<'_>) -> Config
     ensures { is_temp_ttl result.temp_ttl ≡ true }
 {
     Config {
-        page_size: number_of(matches, "page-size"),
-        pages: number_of(matches, "pages"),
-        num: number_of(matches, "num"),
-        den: number_of(matches, "den"),
-        bump: number_of(matches, "bump"),
-        hash_power: number_of(matches, "hash-power"),
+        page_size: number_of(matches, Number::PageSize),
+        pages: number_of(matches, Number::Pages),
+        num: number_of(matches, Number::Num),
+        den: number_of(matches, Number::Den),
+        bump: number_of(matches, Number::Bump),
+        hash_power: number_of(matches, Number::HashPower),
         temp_ttl: temp_ttl_of(matches),
-        now: number_of(matches, "now"),
+        now: number_of(matches, Number::Now),
+    }
+}
+
+// In which dialect scripts and files are read.
+fn dialect_of(matches: &ArgMatches<'_>) -> Dialect {
+    if matches.get_flag("lf") {
+        Dialect::AnyFeed
+    } else {
+        Dialect::CrLf
     }
 }
 
@@ -275,9 +248,11 @@ fn run(alloc: Global, matches: &ArgMatches<'_>) -> Result<Request, Error>
     ensures words { IfOk result (IsOfWords false) }
     ensures opens { IfOk result (OpensBy false) }
     ensures brings { IfOk result (BringsBy false) }
+    ensures runs { IfOk result (RunsBy true) }
 {
     let config = config_of(matches);
     let heap = heap_of(alloc, matches)?;
+    let dialect = dialect_of(matches);
     let starts = files_of(alloc, matches, "start")?;
     let json = matches.get_flag("json");
     if json && heap.is_some() {
@@ -290,6 +265,7 @@ fn run(alloc: Global, matches: &ArgMatches<'_>) -> Result<Request, Error>
     Ok(Request::Run {
         config,
         heap,
+        dialect,
         starts,
         json,
     })
@@ -317,8 +293,10 @@ fn recording(alloc: Global, matches: &ArgMatches<'_>) -> Result<Request, Error>
     ensures words { IfOk result (IsOfWords false) }
     ensures opens { IfOk result (OpensBy false) }
     ensures brings { IfOk result (BringsBy false) }
+    ensures runs { IfOk result (RunsBy false) }
 {
     let config = config_of(matches);
+    let dialect = dialect_of(matches);
     let starts = files_of(alloc, matches, "start")?;
     let files = files_of(alloc, matches, "files")?;
     // The parser has counted them, and its contracts do not say so.
@@ -330,14 +308,16 @@ fn recording(alloc: Global, matches: &ArgMatches<'_>) -> Result<Request, Error>
     }
     Ok(Request::Record {
         config,
+        dialect,
         starts,
         files,
     })
 }
 
-// What the words ask for by the parser's reading of them, or the parser's error. Whether the first word says `import` or
-// `open`, and whether one names what `open` is to import, is told apart, since the parser's contracts do not say so.
-fn request_of(
+// What the words ask for other than a run, by the parser's reading of them, or the parser's error. Whether the first word
+// says `import` or `open`, and whether one names what `open` is to import, is told apart, since the parser's contracts do
+// not say so.
+fn other_request(
     alloc: Global,
     matches: &ArgMatches<'_>,
     asks_import: bool,
@@ -348,10 +328,8 @@ fn request_of(
     ensures words { IfOk result (IsOfWords asks_import) }
     ensures opens { IfOk result (OpensBy asks_open) }
     ensures brings { IfOk result (BringsBy brings) }
+    ensures runs { IfOk result (RunsBy false) }
 {
-    if let Some(inner) = matches.subcommand_matches("run") {
-        return run(alloc, inner);
-    }
     if let Some(inner) = matches.subcommand_matches("record") {
         return recording(alloc, inner);
     }
@@ -368,12 +346,59 @@ fn request_of(
     Err(fault(alloc, ErrorKind::MissingSubcommand, "run")?)
 }
 
+// The run that the words ask for by the parser's reading of them, or the parser's error.
+fn run_request(alloc: Global, matches: &ArgMatches<'_>) -> Result<Request, Error>
+    ensures range { IfOk result IsInRange }
+    ensures words { IfOk result (IsOfWords false) }
+    ensures opens { IfOk result (OpensBy false) }
+    ensures brings { IfOk result (BringsBy false) }
+    ensures runs { IfOk result (RunsBy true) }
+{
+    match matches.subcommand_matches("run") {
+        Some(inner) => run(alloc, inner),
+        None => Err(fault(alloc, ErrorKind::MissingSubcommand, "run")?),
+    }
+}
+
+// What the words ask for by the parser's reading of them, or the parser's error. What the first word says is told apart.
+fn request_of(
+    alloc: Global,
+    matches: &ArgMatches<'_>,
+    asks_import: bool,
+    asks_open: bool,
+    brings: bool,
+    asks_run: bool,
+) -> Result<Request, Error>
+    ensures range { IfOk result IsInRange }
+    ensures words { IfOk result (IsOfWords asks_import) }
+    ensures opens { IfOk result (OpensBy asks_open) }
+    ensures brings { IfOk result (BringsBy brings) }
+    ensures runs { IfOk result (RunsBy asks_run) }
+{
+    if asks_run {
+        run_request(alloc, matches)
+    } else {
+        other_request(alloc, matches, asks_import, asks_open, brings)
+    }
+}
+
+// Whether the first word says `run`.
+fn asks_run<S: AsStr>(words: &[S]) -> bool
+    ensures { result ≡ asks_run (map S.text words.now) }
+{
+    match words.first() {
+        Some(word) => word.as_str() == "run",
+        None => false,
+    }
+}
+
 // What the words ask for, or the parser's error.
 fn parsed<S: AsStr>(alloc: Global, words: &[S]) -> Result<Request, Error>
     ensures range { IfOk result IsInRange }
     ensures words { IfOk result (IsOfWords (asks_import (map S.text words.now))) }
     ensures opens { IfOk result (OpensBy (asks_open (map S.text words.now))) }
     ensures brings { IfOk result (BringsBy (brings (map S.text words.now))) }
+    ensures runs { IfOk result (RunsBy (asks_run (map S.text words.now))) }
 {
     let matches = whole_command(alloc)?.try_get_matches_from(words)?;
     request_of(
@@ -382,6 +407,7 @@ fn parsed<S: AsStr>(alloc: Global, words: &[S]) -> Result<Request, Error>
         asks_import(words),
         asks_open(words),
         brings(words),
+        asks_run(words),
     )
 }
 
@@ -398,13 +424,15 @@ fn told(alloc: Global, error: Error) -> Refused {
 /// What the words behind the program's name ask for.
 ///
 /// Words that ask for nothing that there is are refused with the parser's text, and so is a wish for help; a want of
-/// memory is told apart. An import is asked for by the first word `import` alone, and an opening by `open`; it imports only where a word
-/// begins with `--watch` or `--csv`. Whether a store can be opened with the numbers is `rev_classes::fault_of`'s to say.
+/// memory is told apart. An import is asked for by the first word `import` alone, an opening by `open`, and a run by `run`.
+/// An opening imports only where a word begins with `--watch` or `--csv`. Whether a store can be opened with the numbers is
+/// `rev_classes::fault_of`'s to say.
 pub fn parse_words<S: AsStr>(alloc: Global, words: &[S]) -> Result<Request, Refused>
     ensures range { IfOk result IsInRange }
     ensures words { IfOk result (IsOfWords (asks_import (map S.text words.now))) }
     ensures opens { IfOk result (OpensBy (asks_open (map S.text words.now))) }
     ensures brings { IfOk result (BringsBy (brings (map S.text words.now))) }
+    ensures runs { IfOk result (RunsBy (asks_run (map S.text words.now))) }
 {
     match parsed(alloc, words) {
         Ok(asked) => Ok(asked),

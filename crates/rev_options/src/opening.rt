@@ -1,16 +1,17 @@
 //! The words of `lrudb open`.
 ghost use Rattle.std.specs.Prelude.{◌≡◌, map, true, false, IfOk, IfSome};
-ghost use Rattle.rev_options.specs.Request.{IsInRange, IsOfWords, asks_open, OpensBy, BringsBy, begins_with, brings, is_temp_ttl};
+ghost use Rattle.rev_options.specs.Request.{IsInRange, IsOfWords, asks_open, OpensBy, BringsBy, RunsBy, begins_with, brings, is_temp_ttl};
 
 use crate::csv::sample_of;
 use crate::import::{STANDARD, factor_of, required, rhythm_of, text};
-use crate::{Request, config_of, fault, files_of, json, start, with_config};
+use crate::{Request, config_of, dialect_of, fault, files_of, json, line_feed, start, with_config};
 use clap::error::ErrorKind;
 use clap::{Arg, ArgAction, ArgMatches, Command, Error};
 use rev_classes::Config;
 use rev_import::policy::Rhythm;
 use rev_import::sample::Sample;
 use rev_import::setup::Factor;
+use rev_script::dialect::Dialect;
 use std::alloc::{AllocError, Global};
 use std::convert::AsStr;
 
@@ -26,21 +27,32 @@ const OF_THE_CACHE: [&str; 8] = [
     "temp-ttl",
 ];
 
+/// How files are read, and how a session is answered.
+#[derive(Clone, Copy, Debug, PartialEq, Eq)]
+pub struct Manner {
+    /// In which dialect the files of starts and the traces are read.
+    pub dialect: Dialect,
+    /// Whether a prompt is written before each line of the session is read.
+    pub has_prompt: bool,
+    /// Whether answers are told as JSON.
+    pub json: bool,
+}
+
 /// Traces to look around in: their steps are played, each as a node, and a session is read from the standard input then.
 #[derive(Debug, Drop)]
 pub struct Opening {
     pub config: Config,
+    pub manner: Manner,
     /// The names of files whose steps are played before the traces, and of which only the state is kept.
     pub starts: Vec<String>,
     /// The names of the traces in order, none of them `-`.
     pub traces: Vec<String>,
-    /// Whether answers are told as JSON.
-    pub json: bool,
 }
 
 /// Logs of a server's `watch` to look around in: what they become is played as they are read.
 #[derive(Debug, Drop)]
 pub struct WatchOpening {
+    pub manner: Manner,
     /// The names of files whose steps are played before the logs, and of which only the state is kept.
     pub starts: Vec<String>,
     /// The logs' names in order, none of them `-`.
@@ -50,8 +62,6 @@ pub struct WatchOpening {
     /// The growth factor of chunk sizes, where it is given exactly.
     pub factor: Option<Factor>,
     pub rhythm: Rhythm,
-    /// Whether answers are told as JSON.
-    pub json: bool,
 }
 
 /// Published traces to look around in: what they become is played as they are read.
@@ -59,6 +69,7 @@ pub struct WatchOpening {
 pub struct CsvOpening {
     /// The cache that is asked.
     pub config: Config,
+    pub manner: Manner,
     /// The names of files whose steps are played before the traces, and of which only the state is kept.
     pub starts: Vec<String>,
     /// The traces' names in order, none of them `-`.
@@ -66,8 +77,6 @@ pub struct CsvOpening {
     pub rhythm: Rhythm,
     /// Which keys are taken, of how many.
     pub sample: Sample,
-    /// Whether answers are told as JSON.
-    pub json: bool,
 }
 
 fn traces<'a>(alloc: Global) -> Arg<'a> {
@@ -141,12 +150,22 @@ fn with_imports<'a>(alloc: Global, command: Command<'a>) -> Result<Command<'a>, 
         .conflicts_with("traces")?)
 }
 
+// Where it is given by the launcher, at a terminal.
+fn prompt<'a>(alloc: Global) -> Arg<'a> {
+    Arg::new(alloc, "prompt")
+        .long("prompt")
+        .action(ArgAction::SetTrue)
+        .hide(true)
+}
+
 /// The subcommand `open`.
 pub fn open_command<'a>(alloc: Global) -> Result<Command<'a>, AllocError> {
     let command = Command::new(alloc, "open").about(
         "Plays the steps of traces, and answers the lines of the standard input at any node of theirs",
     );
     let command = with_config(alloc, command)?
+        .arg(line_feed(alloc))?
+        .arg(prompt(alloc))?
         .arg(start(alloc))?
         .arg(traces(alloc))?
         .arg(json(alloc))?;
@@ -198,18 +217,27 @@ fn named(alloc: Global, matches: &ArgMatches<'_>, of: &str) -> Result<Vec<String
     Ok(traces)
 }
 
+// How the words want files read and the session answered.
+fn manner_of(matches: &ArgMatches<'_>) -> Manner {
+    Manner {
+        dialect: dialect_of(matches),
+        has_prompt: matches.get_flag("prompt"),
+        json: matches.get_flag("json"),
+    }
+}
+
 fn watch_opening(
     alloc: Global,
     matches: &ArgMatches<'_>,
     logs: Vec<String>,
 ) -> Result<WatchOpening, Error> {
     Ok(WatchOpening {
+        manner: manner_of(matches),
         starts: files_of(alloc, matches, "start")?,
         logs,
         settings: required(alloc, matches, "settings")?,
         factor: factor_of(alloc, matches)?,
         rhythm: rhythm_of(alloc, matches)?,
-        json: matches.get_flag("json"),
     })
 }
 
@@ -222,11 +250,11 @@ fn csv_opening(
 {
     Ok(CsvOpening {
         config: config_of(matches),
+        manner: manner_of(matches),
         starts: files_of(alloc, matches, "start")?,
         traces,
         rhythm: rhythm_of(alloc, matches)?,
         sample: sample_of(alloc, matches)?,
-        json: matches.get_flag("json"),
     })
 }
 
@@ -236,6 +264,7 @@ fn brought(alloc: Global, matches: &ArgMatches<'_>) -> Result<Option<Request>, E
     ensures words { IfOk result (λ asked. IfSome asked (IsOfWords false)) }
     ensures opens { IfOk result (λ asked. IfSome asked (OpensBy true)) }
     ensures brings { IfOk result (λ asked. IfSome asked (BringsBy true)) }
+    ensures runs { IfOk result (λ asked. IfSome asked (RunsBy false)) }
 {
     let logs = named(alloc, matches, "watch")?;
     if !logs.is_empty() {
@@ -255,6 +284,7 @@ pub fn opening_of(alloc: Global, matches: &ArgMatches<'_>, brings: bool) -> Resu
     ensures words { IfOk result (IsOfWords false) }
     ensures opens { IfOk result (OpensBy true) }
     ensures brings { IfOk result (BringsBy brings) }
+    ensures runs { IfOk result (RunsBy false) }
 {
     if brings {
         if let Some(asked) = brought(alloc, matches)? {
@@ -263,8 +293,8 @@ pub fn opening_of(alloc: Global, matches: &ArgMatches<'_>, brings: bool) -> Resu
     }
     Ok(Request::Open(Opening {
         config: config_of(matches),
+        manner: manner_of(matches),
         starts: files_of(alloc, matches, "start")?,
         traces: named(alloc, matches, "traces")?,
-        json: matches.get_flag("json"),
     }))
 }

@@ -5,6 +5,7 @@ use Rattle.std.specs.Io.KnownBytes.{Keeps, Appends}
 use Rattle.rev_program.specs.Fault as fault
 use Rattle.rev_program.specs.Opening.{IsNoted, full_text}
 use Rattle.rev_program.specs.Program.{StopsBy, FailsBy, EndsEarly, EndsBehind, EndsNoted, EndsUnwritten}
+use Rattle.rev_script.specs.declared.dialect.Dialect.{Dialect}
 use Rattle.rev_program.specs.Recordings.{EndedBy, HasNoRows}
 use Rattle.rev_program.specs.Stop as stop
 use Rattle.rev_program.specs.Telling.{Told}
@@ -19,11 +20,11 @@ rows_of (Ok t) n X done some e = done
 rows_of (Err f) n X done some e = absurd (some refl e)
 
 module _ (told tells : Option (List ℕ)) (before after : ℕ) where
-  pub no_rows_of : {F : Type 0} (remaining : F → Option (List ℕ)) (files : List (String Global × F)) (old new : Option (List ℕ)) (r : Result (Unit {0}) RecordingFault) (n : ℕ) →
-      MatchResult r (λ _. n ≡ 0) (λ f. n ≡ fault.status f) → IfErr r (λ e. EndedBy remaining files e) → IfErr r (λ e. e ≢ CannotWrite → Keeps old new) → IfErr r (λ e. Told told tells before after (fault.text e)) →
-      n ≢ 0 → (e : RecordingFault) × HasNoRows remaining files old new told tells before after n e
-  no_rows_of remaining files old new (Ok t) n is why kept text some = absurd (some is)
-  no_rows_of remaining files old new (Err f) n is why kept text some = (f, record { why = why; status_is = is; text_is = text; unwritten = kept })
+  pub no_rows_of : (d : Dialect) {F : Type 0} (remaining : F → Option (List ℕ)) (files : List (String Global × F)) (old new : Option (List ℕ)) (r : Result (Unit {0}) RecordingFault) (n : ℕ) →
+      MatchResult r (λ _. n ≡ 0) (λ f. n ≡ fault.status f) → IfErr r (λ e. EndedBy d remaining files e) → IfErr r (λ e. e ≢ CannotWrite → Keeps old new) → IfErr r (λ e. Told told tells before after (fault.text e)) →
+      n ≢ 0 → (e : RecordingFault) × HasNoRows d remaining files old new told tells before after n e
+  no_rows_of d remaining files old new (Ok t) n is why kept text some = absurd (some is)
+  no_rows_of d remaining files old new (Err f) n is why kept text some = (f, record { why = why; status_is = is; text_is = text; unwritten = kept })
 
   pub stopped_of : (r : Result (Unit {0}) Stop) (n : ℕ) →
       MatchResult r (λ _. n ≡ 0) (λ s. n ≡ stop.status s) → IfErr r (λ s. Told told tells before after (stop.text s)) → n ≢ 0 → (s : Stop) × StopsBy told tells before after n s
@@ -31,9 +32,9 @@ module _ (told tells : Option (List ℕ)) (before after : ℕ) where
   stopped_of (Err s) n is text some = (s, record { status_is = is; text_is = text })
 
   -- a recording of files, seen by the one who opened them
-  pub files_end : {F : Type 0} (remaining : F → Option (List ℕ)) (files : List (String Global × F)) (old new : Option (List ℕ)) (n : ℕ) →
-      ((e : RecordingFault) × HasNoRows remaining files old new told tells before after n e) → EndsUnwritten told tells before after n old new
-  files_end remaining files old new n h = inr (h.0, record { status_is = h.1.status_is; text_is = h.1.text_is }, h.1.unwritten)
+  pub files_end : (d : Dialect) {F : Type 0} (remaining : F → Option (List ℕ)) (files : List (String Global × F)) (old new : Option (List ℕ)) (n : ℕ) →
+      ((e : RecordingFault) × HasNoRows d remaining files old new told tells before after n e) → EndsUnwritten told tells before after n old new
+  files_end d remaining files old new n h = inr (h.0, record { status_is = h.1.status_is; text_is = h.1.text_is }, h.1.unwritten)
 
   -- what was written left aside
   pub early_of : (old new : Option (List ℕ)) (n : ℕ) → EndsUnwritten told tells before after n old new → EndsEarly told tells before after n

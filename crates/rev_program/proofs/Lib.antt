@@ -5,3 +5,4 @@ mod Ends
 mod Traced
 mod Parts
 mod Stops
+mod Tallies

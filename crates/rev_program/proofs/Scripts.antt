@@ -4,14 +4,15 @@ use Rattle.std.specs.Global.{Vec}
 use Rattle.std.specs.declared.alloc.Global.{Global}
 use Rattle.rev_requests.specs.declared.steps.Step.{Step}
 use Rattle.rev_requests.specs.Plain.{plain_step}
+use Rattle.rev_script.specs.declared.dialect.Dialect.{Dialect}
 use Rattle.rev_program.specs.Recordings.{IsScript, AreAllScripts, Spoils, IsSpoilt, EndedBy, IsOfPlay, IsOfPrint}
 use Rattle.rev_program.specs.declared.fault.RecordingFault.{RecordingFault}
 use Rattle.rev_program.specs.declared.fault.RecordingFault.TheVariants.{NotAStep, CannotRead, TooLong, Memory, CannotWrite, LogDiffers}
 
 -- the first file is the one
-pub spoilt_here : {F : Type 0} (remaining : F → Option (List ℕ)) (file : String Global × F) (behind : List (String Global × F)) (e : RecordingFault) →
-    Spoils (remaining file.1) file.0 e → IsSpoilt remaining (file ∷ behind) e
-spoilt_here remaining file behind e s = record {
+pub spoilt_here : (d : Dialect) {F : Type 0} (remaining : F → Option (List ℕ)) (file : String Global × F) (behind : List (String Global × F)) (e : RecordingFault) →
+    Spoils d (remaining file.1) file.0 e → IsSpoilt d remaining (file ∷ behind) e
+spoilt_here d remaining file behind e s = record {
   before = [];
   scripts = [];
   scripts_are = tt;
@@ -22,9 +23,9 @@ spoilt_here remaining file behind e s = record {
 }
 
 -- it stands behind one that is steps
-pub spoilt_behind : {F : Type 0} (remaining : F → Option (List ℕ)) (file : String Global × F) (steps : Vec (Step Global)) (files : List (String Global × F)) (e : RecordingFault) →
-    IsScript (remaining file.1) (map plain_step steps.items) → IsSpoilt remaining files e → IsSpoilt remaining (file ∷ files) e
-spoilt_behind remaining file steps files e is s = record {
+pub spoilt_behind : (d : Dialect) {F : Type 0} (remaining : F → Option (List ℕ)) (file : String Global × F) (steps : Vec (Step Global)) (files : List (String Global × F)) (e : RecordingFault) →
+    IsScript d (remaining file.1) (map plain_step steps.items) → IsSpoilt d remaining files e → IsSpoilt d remaining (file ∷ files) e
+spoilt_behind d remaining file steps files e is s = record {
   before = file ∷ s.before;
   scripts = steps ∷ s.scripts;
   scripts_are = (is, s.scripts_are);
@@ -34,22 +35,22 @@ spoilt_behind remaining file steps files e is s = record {
   spoils = s.spoils;
 }
 
-pub ended_reading : {F : Type 0} (remaining : F → Option (List ℕ)) (files : List (String Global × F)) (e : RecordingFault) → IsSpoilt remaining files e → EndedBy remaining files e
-ended_reading remaining files (NotAStep file line) s = s
-ended_reading remaining files (CannotRead file) s = s
-ended_reading remaining files TooLong s = s
-ended_reading remaining files Memory s = tt
-ended_reading remaining files CannotWrite s = absurd s.spoils
-ended_reading remaining files LogDiffers s = absurd s.spoils
+pub ended_reading : (d : Dialect) {F : Type 0} (remaining : F → Option (List ℕ)) (files : List (String Global × F)) (e : RecordingFault) → IsSpoilt d remaining files e → EndedBy d remaining files e
+ended_reading d remaining files (NotAStep file line) s = s
+ended_reading d remaining files (CannotRead file) s = s
+ended_reading d remaining files TooLong s = s
+ended_reading d remaining files Memory s = tt
+ended_reading d remaining files CannotWrite s = absurd s.spoils
+ended_reading d remaining files LogDiffers s = absurd s.spoils
 
-pub ended_playing : {F : Type 0} (remaining : F → Option (List ℕ)) (files : List (String Global × F)) (e : RecordingFault) → AreAllScripts remaining files → IsOfPlay e → EndedBy remaining files e
-ended_playing remaining files e all p = elim p [
-  | inl m ↦ subst (EndedBy remaining files) (sym m) tt
-  | inr d ↦ subst (EndedBy remaining files) (sym d) all
+pub ended_playing : (d : Dialect) {F : Type 0} (remaining : F → Option (List ℕ)) (files : List (String Global × F)) (e : RecordingFault) → AreAllScripts d remaining files → IsOfPlay e → EndedBy d remaining files e
+ended_playing d remaining files e all p = elim p [
+  | inl m ↦ subst (EndedBy d remaining files) (sym m) tt
+  | inr d ↦ subst (EndedBy d remaining files) (sym d) all
 ]
 
-pub ended_printing : {F : Type 0} (remaining : F → Option (List ℕ)) (files : List (String Global × F)) (e : RecordingFault) → AreAllScripts remaining files → IsOfPrint e → EndedBy remaining files e
-ended_printing remaining files e all p = elim p [
-  | inl m ↦ subst (EndedBy remaining files) (sym m) tt
-  | inr w ↦ subst (EndedBy remaining files) (sym w) all
+pub ended_printing : (d : Dialect) {F : Type 0} (remaining : F → Option (List ℕ)) (files : List (String Global × F)) (e : RecordingFault) → AreAllScripts d remaining files → IsOfPrint e → EndedBy d remaining files e
+ended_printing d remaining files e all p = elim p [
+  | inl m ↦ subst (EndedBy d remaining files) (sym m) tt
+  | inr w ↦ subst (EndedBy d remaining files) (sym w) all
 ]

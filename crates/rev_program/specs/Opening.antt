@@ -9,41 +9,41 @@ use Rattle.rev_classes.specs.declared.Config.{Config}
 use Rattle.rev_undotree.specs.Positions.{SessionState}
 use Rattle.rev_script.specs.Script.{lines}
 use Rattle.rev_script.specs.Steps.{all_steps}
-use Rattle.rev_script.specs.declared.dialect.Dialect.TheVariants.{CrLf}
+use Rattle.rev_script.specs.declared.dialect.Dialect.{Dialect}
 use Rattle.rev_shell.specs.Kept.{Plays, IsFull}
 use Rattle.rev_shell.specs.Run.{opened}
 use Rattle.rev_program.specs.Starts.{AreStarts}
 use Rattle.rev_program.specs.Telling.{Told}
 use Rattle.rev_program.specs.declared.opening.Full.{Full}
 
--- the bytes are lines that make steps, and all of these are played
-abbrev pub LeadsOn : List ℕ → SessionState → SessionState → Type 0
-LeadsOn bytes m t = (steps : List Step) × (all_steps (lines CrLf bytes) ≡ Some steps) × Plays m steps t
+-- the bytes are lines, in a dialect, that make steps, and all of these are played
+abbrev pub LeadsOn : Dialect → List ℕ → SessionState → SessionState → Type 0
+LeadsOn d bytes m t = (steps : List Step) × (all_steps (lines d bytes) ≡ Some steps) × Plays m steps t
 
 -- of a front of the bytes, the line of this number has a step that the tree has no room for
-pub record FillsUp (number : ℕ) (bytes : List ℕ) (m t : SessionState) : Type 0 where
+pub record FillsUp (d : Dialect) (number : ℕ) (bytes : List ℕ) (m t : SessionState) : Type 0 where
   pub read : List ℕ
   pub rest : List ℕ
   pub bytes_are : bytes ≡ read ++ rest
-  pub full : IsFull number (lines CrLf read) m t
+  pub full : IsFull number (lines d read) m t
 
 -- of a trace with this name: it was played, or filled the tree; where its bytes are known it is said from which session to which
-abbrev pub IsTrace : Option (List ℕ) → String Global → SessionState → SessionState → Option Full → Type 0
-IsTrace None name m t None = Unit {0}
-IsTrace None name m t (Some full) = full.file ≡ name
-IsTrace (Some bytes) name m t None = LeadsOn bytes m t
-IsTrace (Some bytes) name m t (Some full) = (full.file ≡ name) × FillsUp full.line bytes m t
+abbrev pub IsTrace : Dialect → Option (List ℕ) → String Global → SessionState → SessionState → Option Full → Type 0
+IsTrace d None name m t None = Unit {0}
+IsTrace d None name m t (Some full) = full.file ≡ name
+IsTrace d (Some bytes) name m t None = LeadsOn d bytes m t
+IsTrace d (Some bytes) name m t (Some full) = (full.file ≡ name) × FillsUp d full.line bytes m t
 
 -- the same of traces, one after another, up to one that fills the tree
-abbrev pub AreTraces : {F : Type 0} → (F → Option (List ℕ)) → List (String Global × F) → SessionState → SessionState → Option Full → Type 0
-AreTraces remaining [] m t full = (t ≡ m) × (full ≡ None)
-AreTraces remaining (file ∷ files) m t full =
-    ((u : SessionState) × IsTrace (remaining file.1) file.0 m u None × AreTraces remaining files u t full)
-    ⊎ ((here : Full) × (full ≡ Some here) × IsTrace (remaining file.1) file.0 m t (Some here))
+abbrev pub AreTraces : Dialect → {F : Type 0} → (F → Option (List ℕ)) → List (String Global × F) → SessionState → SessionState → Option Full → Type 0
+AreTraces d remaining [] m t full = (t ≡ m) × (full ≡ None)
+AreTraces d remaining (file ∷ files) m t full =
+    ((u : SessionState) × IsTrace d (remaining file.1) file.0 m u None × AreTraces d remaining files u t full)
+    ⊎ ((here : Full) × (full ≡ Some here) × IsTrace d (remaining file.1) file.0 m t (Some here))
 
 -- the session behind the starts and the traces, on an empty store
-abbrev pub IsOpened : {F : Type 0} → (F → Option (List ℕ)) → Config → List (String Global × F) → List (String Global × F) → SessionState → Option Full → Type 0
-IsOpened remaining config starts traces t full = (m : SessionState) × AreStarts remaining starts (opened config) m × AreTraces remaining traces m t full
+abbrev pub IsOpened : Dialect → {F : Type 0} → (F → Option (List ℕ)) → Config → List (String Global × F) → List (String Global × F) → SessionState → Option Full → Type 0
+IsOpened d remaining config starts traces t full = (m : SessionState) × AreStarts d remaining starts (opened config) m × AreTraces d remaining traces m t full
 
 -- what is told of traces that fill the tree
 abbrev pub full_text : Full → List ℕ

@@ -1,11 +1,13 @@
 -- How the program may end.
 -- Rule of this project: its exit statuses.
-use Rattle.std.specs.Prelude.{◌≡◌, ◌≢◌, ◌≤◌, ◌⊎◌, ℕ, List, Option}
+use Rattle.std.specs.Prelude.{◌≡◌, ◌≢◌, ◌≤◌, ◌⊎◌, ℕ, List, [], ◌∷◌, Option, cond, nat_eq, codes, decimal}
 use Rattle.std.specs.Io.KnownBytes.{Keeps}
 use Rattle.rev_program.specs.Fault as fault
 use Rattle.rev_program.specs.Opening.{IsNoted}
 use Rattle.rev_program.specs.Stop as stop
-use Rattle.rev_program.specs.Telling.{Told}
+use Rattle.rev_program.specs.Telling.{Told, joined}
+use Rattle.rev_shell.specs.declared.run.Summary.{Summary}
+use Rattle.rev_shell.specs.declared.run.Tally.{Tally}
 use Rattle.rev_program.specs.declared.fault.RecordingFault.{RecordingFault}
 use Rattle.rev_program.specs.declared.fault.RecordingFault.TheVariants.{CannotWrite}
 use Rattle.rev_program.specs.declared.opening.Full.{Full}
@@ -54,3 +56,23 @@ abbrev pub EndsUnwritten : Option (List ℕ) → Option (List ℕ) → ℕ → �
 EndsUnwritten told tells before after result old new =
     ((s : Stop) × StopsBy told tells before after result s × Keeps old new)
     ⊎ ((e : RecordingFault) × FailsBy told tells before after result e × (e ≢ CannotWrite → Keeps old new))
+
+-- what is told of commands that were so: nothing where there was none, else how many there were and the number of the first
+abbrev pub tally_text : Tally → List ℕ → List ℕ
+tally_text t so =
+    cond (nat_eq t.count 0) []
+    (cond (nat_eq t.count 1) (joined (codes "lrudb: 1 command was " ∷ so ∷ codes ", it is command " ∷ decimal t.first ∷ codes "\n" ∷ []))
+    (joined (codes "lrudb: " ∷ decimal t.count ∷ codes " commands were " ∷ so ∷ codes ", the first is command " ∷ decimal t.first ∷ codes "\n" ∷ [])))
+
+-- a run was told of: which commands were malformed, and then which the tree refused
+pub record IsCounted (told tells : Option (List ℕ)) (before after : ℕ) (sum : Summary) : Type 0 where
+  pub between : Option (List ℕ)
+  pub failures : ℕ
+  pub bad : Told told between before failures (tally_text sum.bad (codes "malformed"))
+  pub refused : Told between tells failures after (tally_text sum.refused (codes "refused by the tree"))
+
+-- a run ended: at status 0 its user was told of what it did, else why it ended early
+pub record EndsRun (told tells : Option (List ℕ)) (before after : ℕ) (result : ℕ) : Type 0 where
+  pub status_is : IsStatus result
+  pub done : result ≡ 0 → (sum : Summary) × IsCounted told tells before after sum
+  pub early : result ≢ 0 → EndsEarly told tells before after result

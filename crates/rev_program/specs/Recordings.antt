@@ -17,57 +17,57 @@ use Rattle.rev_recorder.specs.Running.{AllRan}
 use Rattle.rev_recorder.specs.Settling.{AreNew, IsLegalLog}
 use Rattle.rev_shell.specs.Texts.{output}
 use Rattle.rev_script.specs.Steps.{all_steps, IsFirstOther}
-use Rattle.rev_script.specs.declared.dialect.Dialect.TheVariants.{CrLf}
+use Rattle.rev_script.specs.declared.dialect.Dialect.{Dialect}
 use Rattle.rev_program.specs.Fault.{status, text}
 use Rattle.rev_program.specs.Telling.{Told}
 use Rattle.rev_program.specs.Rows.{rows_text, ends_text, IsEnd}
 use Rattle.rev_program.specs.declared.fault.RecordingFault.{RecordingFault}
 use Rattle.rev_program.specs.declared.fault.RecordingFault.TheVariants.{NotAStep, CannotRead, TooLong, Memory, CannotWrite, LogDiffers}
 
--- the steps are those of all lines of the file, where its bytes are known
-abbrev pub IsScript : Option (List ℕ) → List model.Step → Type 0
-IsScript None steps = Unit {0}
-IsScript (Some bytes) steps = all_steps (lines CrLf bytes) ≡ Some steps
+-- the steps are those of all lines of the file, in a dialect, where its bytes are known
+abbrev pub IsScript : Dialect → Option (List ℕ) → List model.Step → Type 0
+IsScript d None steps = Unit {0}
+IsScript d (Some bytes) steps = all_steps (lines d bytes) ≡ Some steps
 
 -- the files, one by one, hold these steps
-abbrev pub AreScripts : {F A : Type 0} → (F → Option (List ℕ)) → List (String Global × F) → List (Vec (Step A)) → Type 0
-AreScripts remaining [] [] = Unit {0}
-AreScripts remaining [] (steps ∷ scripts) = ⊥
-AreScripts remaining (file ∷ files) [] = ⊥
-AreScripts remaining (file ∷ files) (steps ∷ scripts) = IsScript (remaining file.1) (map plain_step steps.items) × AreScripts remaining files scripts
+abbrev pub AreScripts : Dialect → {F A : Type 0} → (F → Option (List ℕ)) → List (String Global × F) → List (Vec (Step A)) → Type 0
+AreScripts d remaining [] [] = Unit {0}
+AreScripts d remaining [] (steps ∷ scripts) = ⊥
+AreScripts d remaining (file ∷ files) [] = ⊥
+AreScripts d remaining (file ∷ files) (steps ∷ scripts) = IsScript d (remaining file.1) (map plain_step steps.items) × AreScripts d remaining files scripts
 
 -- why a file of this name did not become steps: of a line that makes no step, it is the first such line of the bytes read
-abbrev pub Spoils : Option (List ℕ) → String Global → RecordingFault → Type 0
-Spoils reader name (NotAStep file line) = (file ≡ name) × ((read : List ℕ) × (rest : Option (List ℕ)) × Consumes reader rest read × IsFirstOther line (lines CrLf read))
-Spoils reader name (CannotRead file) = file ≡ name
-Spoils reader name TooLong = Unit {0}
-Spoils reader name Memory = Unit {0}
-Spoils reader name CannotWrite = ⊥
-Spoils reader name LogDiffers = ⊥
+abbrev pub Spoils : Dialect → Option (List ℕ) → String Global → RecordingFault → Type 0
+Spoils d reader name (NotAStep file line) = (file ≡ name) × ((read : List ℕ) × (rest : Option (List ℕ)) × Consumes reader rest read × IsFirstOther line (lines d read))
+Spoils d reader name (CannotRead file) = file ≡ name
+Spoils d reader name TooLong = Unit {0}
+Spoils d reader name Memory = Unit {0}
+Spoils d reader name CannotWrite = ⊥
+Spoils d reader name LogDiffers = ⊥
 
 -- one of the files did not become steps, for this reason, and each before it did
-pub record IsSpoilt {F : Type 0} (remaining : F → Option (List ℕ)) (files : List (String Global × F)) (e : RecordingFault) : Type 0 where
+pub record IsSpoilt (d : Dialect) {F : Type 0} (remaining : F → Option (List ℕ)) (files : List (String Global × F)) (e : RecordingFault) : Type 0 where
   pub before : List (String Global × F)
   pub scripts : List (Vec (Step Global))
-  pub scripts_are : AreScripts remaining before scripts
+  pub scripts_are : AreScripts d remaining before scripts
   pub file : String Global × F
   pub behind : List (String Global × F)
   pub files_are : files ≡ before ++ file ∷ behind
-  pub spoils : Spoils (remaining file.1) file.0 e
+  pub spoils : Spoils d (remaining file.1) file.0 e
 
 -- all files are steps, from their first lines to their last
-abbrev pub AreAllScripts : {F : Type 0} → (F → Option (List ℕ)) → List (String Global × F) → Type 0
-AreAllScripts remaining files = (scripts : List (Vec (Step Global))) × AreScripts remaining files scripts
+abbrev pub AreAllScripts : Dialect → {F : Type 0} → (F → Option (List ℕ)) → List (String Global × F) → Type 0
+AreAllScripts d remaining files = (scripts : List (Vec (Step Global))) × AreScripts d remaining files scripts
 
 -- why a recording ended without its rows: the first file that is not steps; or, where all are, what came when they were played or
 -- printed. Memory may be wanted at any time.
-abbrev pub EndedBy : {F : Type 0} → (F → Option (List ℕ)) → List (String Global × F) → RecordingFault → Type 0
-EndedBy remaining files (NotAStep file line) = IsSpoilt remaining files (NotAStep file line)
-EndedBy remaining files (CannotRead file) = IsSpoilt remaining files (CannotRead file)
-EndedBy remaining files TooLong = IsSpoilt remaining files TooLong
-EndedBy remaining files Memory = Unit {0}
-EndedBy remaining files CannotWrite = AreAllScripts remaining files
-EndedBy remaining files LogDiffers = AreAllScripts remaining files
+abbrev pub EndedBy : Dialect → {F : Type 0} → (F → Option (List ℕ)) → List (String Global × F) → RecordingFault → Type 0
+EndedBy d remaining files (NotAStep file line) = IsSpoilt d remaining files (NotAStep file line)
+EndedBy d remaining files (CannotRead file) = IsSpoilt d remaining files (CannotRead file)
+EndedBy d remaining files TooLong = IsSpoilt d remaining files TooLong
+EndedBy d remaining files Memory = Unit {0}
+EndedBy d remaining files CannotWrite = AreAllScripts d remaining files
+EndedBy d remaining files LogDiffers = AreAllScripts d remaining files
 
 -- a fault that may come once all files are steps: when they are played
 abbrev pub IsOfPlay : RecordingFault → Type 0
@@ -99,9 +99,9 @@ abbrev pub recording_text : List LogRow → SessionState → List ℕ → List �
 recording_text log session stopped = rows_text session 0 log ++ (stopped ++ output (codes "END"))
 
 -- the files' steps were played, and what was written tells how
-pub record IsRecorded {F : Type 0} (remaining : F → Option (List ℕ)) (files : List (String Global × F)) (old new : Option (List ℕ)) : Type 0 where
+pub record IsRecorded (d : Dialect) {F : Type 0} (remaining : F → Option (List ℕ)) (files : List (String Global × F)) (old new : Option (List ℕ)) : Type 0 where
   pub scripts : List (Vec (Step Global))
-  pub scripts_are : AreScripts remaining files scripts
+  pub scripts_are : AreScripts d remaining files scripts
   pub log : List LogRow
   pub session : SessionState
   pub stopped : List ℕ
@@ -110,8 +110,8 @@ pub record IsRecorded {F : Type 0} (remaining : F → Option (List ℕ)) (files 
 
 -- the recording ended without its rows: the status and what the user was told are those of the reason, and nothing was written but where a
 -- write failed
-pub record HasNoRows {F : Type 0} (remaining : F → Option (List ℕ)) (files : List (String Global × F)) (old new told tells : Option (List ℕ)) (before after : ℕ) (result : ℕ) (e : RecordingFault) : Type 0 where
-  pub why : EndedBy remaining files e
+pub record HasNoRows (d : Dialect) {F : Type 0} (remaining : F → Option (List ℕ)) (files : List (String Global × F)) (old new told tells : Option (List ℕ)) (before after : ℕ) (result : ℕ) (e : RecordingFault) : Type 0 where
+  pub why : EndedBy d remaining files e
   pub status_is : result ≡ status e
   pub text_is : Told told tells before after (text e)
   pub unwritten : e ≢ CannotWrite → Keeps old new

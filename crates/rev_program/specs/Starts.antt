@@ -6,20 +6,20 @@ use Rattle.rev_model.specs.Actor.{Step}
 use Rattle.rev_undotree.specs.Positions.{SessionState}
 use Rattle.rev_script.specs.Script.{lines}
 use Rattle.rev_script.specs.Steps.{all_steps}
-use Rattle.rev_script.specs.declared.dialect.Dialect.TheVariants.{CrLf}
+use Rattle.rev_script.specs.declared.dialect.Dialect.{Dialect}
 use Rattle.rev_shell.specs.Answers.{state_of}
 use Rattle.rev_shell.specs.Start.{from_state, run_forward}
 
--- the steps of the bytes' lines lead from the state in which a session stands to the root of one without other nodes
-abbrev pub StartsWith : List ℕ → SessionState → SessionState → Type 0
-StartsWith bytes m t = (steps : List Step) × (all_steps (lines CrLf bytes) ≡ Some steps) × (t ≡ from_state (run_forward (state_of m) steps))
+-- the steps of the bytes' lines, in a dialect, lead from the state in which a session stands to the root of one without other nodes
+abbrev pub StartsWith : Dialect → List ℕ → SessionState → SessionState → Type 0
+StartsWith d bytes m t = (steps : List Step) × (all_steps (lines d bytes) ≡ Some steps) × (t ≡ from_state (run_forward (state_of m) steps))
 
 -- the same of a file, where its bytes are known
-abbrev pub IsStart : Option (List ℕ) → SessionState → SessionState → Type 0
-IsStart None m t = Unit {0}
-IsStart (Some bytes) m t = StartsWith bytes m t
+abbrev pub IsStart : Dialect → Option (List ℕ) → SessionState → SessionState → Type 0
+IsStart d None m t = Unit {0}
+IsStart d (Some bytes) m t = StartsWith d bytes m t
 
 -- the same of files, one after another
-abbrev pub AreStarts : {F : Type 0} → (F → Option (List ℕ)) → List (String Global × F) → SessionState → SessionState → Type 0
-AreStarts remaining [] m t = t ≡ m
-AreStarts remaining (file ∷ files) m t = (u : SessionState) × IsStart (remaining file.1) m u × AreStarts remaining files u t
+abbrev pub AreStarts : Dialect → {F : Type 0} → (F → Option (List ℕ)) → List (String Global × F) → SessionState → SessionState → Type 0
+AreStarts d remaining [] m t = t ≡ m
+AreStarts d remaining (file ∷ files) m t = (u : SessionState) × IsStart d (remaining file.1) m u × AreStarts d remaining files u t

@@ -4,7 +4,10 @@ use Rattle.std.specs.Prelude.{ℕ, List, [], ◌∷◌, ◌++◌, codes, decimal
 use Rattle.std.specs.declared.alloc.Global.{Global}
 use Rattle.rev_classes.specs.declared.ConfigFault.{ConfigFault}
 use Rattle.rev_classes.specs.declared.ConfigFault.TheVariants as fault
+use Rattle.rev_options.specs.Number.{name_of, help_of}
 use Rattle.rev_options.specs.declared.Refused.{Refused}
+use Rattle.rev_options.specs.declared.number.Number.{Number}
+use Rattle.rev_options.specs.declared.number.Number.TheVariants.{PageSize, Pages, Num, Den, Bump, HashPower, Now}
 use Rattle.rev_options.specs.declared.Refused.TheVariants as words
 use Rattle.rev_shell.specs.declared.quiet.TraceFault.{TraceFault}
 use Rattle.rev_shell.specs.declared.quiet.TraceFault.TheVariants as trace_fault
@@ -12,7 +15,7 @@ use Rattle.rev_shell.specs.declared.run.RunFault.{RunFault}
 use Rattle.rev_shell.specs.declared.run.RunFault.TheVariants as run_fault
 use Rattle.rev_trace.specs.declared.fault.RowFault.{RowFault}
 use Rattle.rev_trace.specs.declared.fault.RowFault.TheVariants as row
-use Rattle.rev_watch.specs.Field.{name_of}
+use Rattle.rev_watch.specs.Field as field
 use Rattle.rev_watch.specs.Settings.{stat_name}
 use Rattle.rev_watch.specs.declared.fault.LineFault.{LineFault}
 use Rattle.rev_watch.specs.declared.fault.LineFault.TheVariants as line
@@ -47,9 +50,9 @@ status (BadImport told) = 5
 -- why a line of a log is none, in three parts
 abbrev pub line_parts : LineFault → List (List ℕ)
 line_parts line.Memory = codes "out of memory" ∷ [] ∷ [] ∷ []
-line_parts (line.Missing field) = codes "no field `" ∷ name_of field ∷ codes "`" ∷ []
-line_parts (line.Twice field) = codes "field `" ∷ name_of field ∷ codes "` stands twice" ∷ []
-line_parts (line.BadValue field) = codes "field `" ∷ name_of field ∷ codes "` has a value that it cannot have" ∷ []
+line_parts (line.Missing of) = codes "no field `" ∷ field.name_of of ∷ codes "`" ∷ []
+line_parts (line.Twice of) = codes "field `" ∷ field.name_of of ∷ codes "` stands twice" ∷ []
+line_parts (line.BadValue of) = codes "field `" ∷ field.name_of of ∷ codes "` has a value that it cannot have" ∷ []
 line_parts line.BadEscape = codes "a `%` without two hexadecimal digits in the key" ∷ [] ∷ [] ∷ []
 line_parts line.BadKey = codes "the key, decoded, is no key" ∷ [] ∷ [] ∷ []
 line_parts line.TooManyFields = codes "more than 32 fields" ∷ [] ∷ [] ∷ []
@@ -84,13 +87,22 @@ row_part row.BadKey = codes "the key is no key"
 abbrev pub row_told : List ℕ → List ℕ → List ℕ → List ℕ
 row_told trace n fault = joined (codes "lrudb: " ∷ trace ∷ codes ": line " ∷ n ∷ codes ": " ∷ fault ∷ codes "\n" ∷ [])
 
+-- a line for each of these options, with its range in words
+abbrev pub ranges_told : List Number → List (List ℕ)
+ranges_told [] = []
+ranges_told (n ∷ ns) = codes "--" ∷ name_of n ∷ codes ": " ∷ help_of n ∷ codes "\n" ∷ ranges_told ns
+
+-- what is told of a configuration at fault, and of the options of which one or more break their range
+abbrev pub config_told : List ℕ → List Number → List ℕ
+config_told fault ns = joined ((codes "lrudb: bad configuration: " ++ fault ++ codes "\n") ∷ ranges_told ns)
+
 -- the text on the standard error; of a command line, what its parser says
 abbrev pub text : Stop → List ℕ
 text (Usage told) = string_bytes told
-text BadPage = codes "lrudb: bad configuration: page\n"
-text BadFactor = codes "lrudb: bad configuration: factor\n"
-text TooManyClasses = codes "lrudb: bad configuration: classes\n"
-text BadLimit = codes "lrudb: bad configuration: limit\n"
+text BadPage = config_told (codes "page") (PageSize ∷ [])
+text BadFactor = config_told (codes "factor") (Num ∷ Den ∷ [])
+text TooManyClasses = config_told (codes "classes") (PageSize ∷ Num ∷ Den ∷ [])
+text BadLimit = config_told (codes "limit") (Pages ∷ Bump ∷ HashPower ∷ Now ∷ [])
 text Memory = codes "lrudb: out of memory\n"
 text CannotRead = codes "lrudb: cannot read\n"
 text (CannotOpen name) = codes "lrudb: " ++ string_bytes name ++ codes ": cannot read\n"

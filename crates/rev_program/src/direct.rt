@@ -20,7 +20,7 @@ use rev_intake::intake::{Intake, Range};
 use rev_intake::report::{put_part, put_report, put_unfollowed};
 use rev_intake::row_report::put_row_report;
 use rev_intake::rows::RowIntake;
-use rev_options::{CsvOpening, WatchOpening};
+use rev_options::{CsvOpening, Manner, WatchOpening};
 use rev_output::Sink;
 use rev_script::dialect::Dialect;
 use rev_script::source::FromRead;
@@ -124,6 +124,7 @@ fn play_rows<R: Files + AllocGlobal>(
 fn begun<R: Files + AllocGlobal>(
     rt: &R,
     config: &Config,
+    dialect: Dialect,
     starts: Vec<String>,
 ) -> Result<Session<Global>, Stop> {
     if let Some(fault) = fault_of(config) {
@@ -131,7 +132,7 @@ fn begun<R: Files + AllocGlobal>(
     }
     let alloc = rt.alloc();
     let files = all_opened(rt, alloc, starts)?;
-    started(&alloc, config, files)
+    started(&alloc, config, dialect, files)
 }
 
 // The session, where all went well.
@@ -153,18 +154,18 @@ fn with_logs<R: Files + AllocGlobal>(
     notes: &mut Vec<u8>,
 ) -> Result<Session<Global>, Stop> {
     let WatchOpening {
+        manner,
         starts,
         logs,
         settings,
         factor,
         rhythm,
-        ..
     } = asked;
     let setup = setup_of(rt, settings.as_str(), factor)?;
     put_unfollowed(notes, &setup.unfollowed)?;
     let config = setup.config;
     let mut intake = Intake::open(rt.alloc(), setup, rhythm, ALL, None)?;
-    match begun(rt, &config, starts) {
+    match begun(rt, &config, manner.dialect, starts) {
         Err(stop) => Err(stop),
         Ok(mut session) => {
             let played = play_logs(rt, logs.as_slice(), &mut session, &mut intake, notes);
@@ -181,15 +182,15 @@ fn with_rows<R: Files + AllocGlobal>(
 ) -> Result<Session<Global>, Stop> {
     let CsvOpening {
         config,
+        manner,
         starts,
         traces,
         rhythm,
         sample,
-        ..
     } = asked;
     let config = sampled(&config, sample, notes)?;
     let mut intake = intake_of(rt.alloc(), &config, rhythm, sample)?;
-    match begun(rt, &config, starts) {
+    match begun(rt, &config, manner.dialect, starts) {
         Err(stop) => Err(stop),
         Ok(mut session) => {
             let played = play_rows(rt, traces.as_slice(), &mut session, &mut intake, notes);
@@ -198,12 +199,12 @@ fn with_rows<R: Files + AllocGlobal>(
     }
 }
 
-// Tells the notes, and answers the session that the reader gives, where there is one; with `json` as JSON.
+// Tells the notes, and answers the session that the reader gives, where there is one, in the manner that is asked for.
 fn answered<I: Read + Drop, O: Write + Drop, E: Sink>(
     alloc: Global,
     opened: Result<Session<Global>, Stop>,
     notes: &[u8],
-    json: bool,
+    manner: Manner,
     reader: I,
     writer: O,
     errors: &mut E,
@@ -215,7 +216,7 @@ fn answered<I: Read + Drop, O: Write + Drop, E: Sink>(
         Err(stop) => ended(Err(stop), errors),
         Ok(session) => {
             tell_bytes(errors, notes);
-            ended(answer(alloc, session, json, reader, writer), errors)
+            ended(answer(alloc, session, manner, reader, writer), errors)
         }
     }
 }
@@ -233,14 +234,14 @@ pub fn open_watch<R: Files + AllocGlobal, I: Read + Drop, O: Write + Drop, E: Si
     ensures status { IsStatus result }
     ensures ends { EndsNoted (E.contents errors.old) (E.contents errors.new) (E.failures errors.old) (E.failures errors.new) result }
 {
-    let json = asked.json;
+    let manner = asked.manner;
     let mut notes = Vec::new(rt.alloc());
     let opened = with_logs(rt, asked, &mut notes);
     answered(
         rt.alloc(),
         opened,
         notes.as_slice(),
-        json,
+        manner,
         reader,
         writer,
         errors,
@@ -263,14 +264,14 @@ pub fn open_csv<R: Files + AllocGlobal, I: Read + Drop, O: Write + Drop, E: Sink
     if let Some(fault) = fault_of(&asked.config) {
         return ended(Err(Stop::from(fault)), errors);
     }
-    let json = asked.json;
+    let manner = asked.manner;
     let mut notes = Vec::new(rt.alloc());
     let opened = with_rows(rt, asked, &mut notes);
     answered(
         rt.alloc(),
         opened,
         notes.as_slice(),
-        json,
+        manner,
         reader,
         writer,
         errors,

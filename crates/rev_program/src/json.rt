@@ -12,6 +12,7 @@ use rev_output::ToWrite;
 use rev_output::exchange::{Exchange, Incoming, Outgoing};
 use rev_script::dialect::Dialect;
 use rev_script::source::FromRead;
+use rev_shell::run::Summary;
 use rev_undotree::Session;
 use std::alloc::Global;
 use std::io::{Read, Write};
@@ -25,7 +26,7 @@ pub(crate) fn run_as_json_on<I: Read + Drop, O: Write + Drop>(
     dialect: Dialect,
     reader: I,
     exchange: &Exchange<O>,
-) -> Result<(), Stop> {
+) -> Result<Summary, Stop> {
     let mut source = FromRead::new(reader);
     let mut sink = ToWrite::new(Outgoing::new(exchange));
     let mut session = session;
@@ -39,10 +40,11 @@ pub(crate) fn run_as_json_on<I: Read + Drop, O: Write + Drop>(
 fn run_as_json_in<F: Read + Drop, I: Read + Drop, O: Write + Drop>(
     alloc: Global,
     config: &Config,
+    dialect: Dialect,
     starts: Vec<(String, F)>,
     reader: I,
     writer: O,
-) -> Result<(), Stop>
+) -> Result<Summary, Stop>
     requires { IsWithinLimits config.now }
 {
     let Ok(exchange) = Exchange::new(alloc, writer) else {
@@ -51,20 +53,21 @@ fn run_as_json_in<F: Read + Drop, I: Read + Drop, O: Write + Drop>(
     let Ok(incoming) = Incoming::new(alloc, reader, &exchange) else {
         return Err(Stop::Memory);
     };
-    match started(&alloc, config, starts) {
+    match started(&alloc, config, dialect, starts) {
         Err(stop) => Err(stop),
-        Ok(session) => run_as_json_on(alloc, session, Dialect::CrLf, incoming, &exchange),
+        Ok(session) => run_as_json_on(alloc, session, dialect, incoming, &exchange),
     }
 }
 
-/// Runs the script of the reader as `run_script` does without a heap, and tells of its lines as JSON.
+/// Runs the script of the reader as `run_told` does without a heap, and tells of its lines as JSON.
 pub(crate) fn run_script_as_json<R: Files + AllocGlobal, I: Read + Drop, O: Write + Drop>(
     rt: &R,
     config: Config,
+    dialect: Dialect,
     starts: Vec<String>,
     reader: I,
     writer: O,
-) -> Result<(), Stop>
+) -> Result<Summary, Stop>
     ensures { IfSome (fault_of config) (λ fault. result ≡ Err (stop_of_config fault)) }
 {
     if let Some(fault) = fault_of(&config) {
@@ -72,6 +75,6 @@ pub(crate) fn run_script_as_json<R: Files + AllocGlobal, I: Read + Drop, O: Writ
     }
     match all_opened(rt, rt.alloc(), starts) {
         Err(stop) => Err(stop),
-        Ok(starts) => run_as_json_in(rt.alloc(), &config, starts, reader, writer),
+        Ok(starts) => run_as_json_in(rt.alloc(), &config, dialect, starts, reader, writer),
     }
 }

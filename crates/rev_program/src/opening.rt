@@ -12,11 +12,12 @@ use crate::stop::Stop;
 use crate::telling::tell_parts;
 use itoa::Buffer;
 use rev_classes::{Config, fault_of};
-use rev_options::Opening;
+use rev_options::{Manner, Opening};
 use rev_output::Sink;
 use rev_output::exchange::{Exchange, Incoming};
 use rev_script::dialect::Dialect;
 use rev_script::source::FromRead;
+use rev_shell::run::Prompts;
 use rev_shell::trace::{TraceEnd, play_trace};
 use rev_undotree::Session;
 use std::alloc::{Allocator, Global};
@@ -36,13 +37,14 @@ pub struct Full {
 fn play_file<A: Allocator + Clone, F: Read + Drop>(
     alloc: &A,
     session: &mut Session<A>,
+    dialect: Dialect,
     name: String,
     reader: F,
 ) -> Result<Option<Full>, Stop>
-    ensures { IfOk result (λ full. IsTrace (F.remaining reader) name session.old session.new full) }
+    ensures { IfOk result (λ full. IsTrace dialect (F.remaining reader) name session.old session.new full) }
 {
     let mut source = FromRead::new(reader);
-    match play_trace(alloc, session, Dialect::CrLf, &mut source) {
+    match play_trace(alloc, session, dialect, &mut source) {
         Ok(TraceEnd::Whole) => Ok(None),
         Ok(TraceEnd::Full { line }) => Ok(Some(Full { file: name, line })),
         Err(fault) => Err(Stop::of(fault, name)),
@@ -53,13 +55,14 @@ fn play_file<A: Allocator + Clone, F: Read + Drop>(
 fn play_files<A: Allocator + Clone, F: Read + Drop>(
     alloc: &A,
     session: &mut Session<A>,
+    dialect: Dialect,
     files: Vec<(String, F)>,
 ) -> Result<Option<Full>, Stop>
-    ensures { IfOk result (λ full. AreTraces F.remaining files.items session.old session.new full) }
+    ensures { IfOk result (λ full. AreTraces dialect F.remaining files.items session.old session.new full) }
 {
     let mut rest = VecDeque::from_vec(files);
     while let Some((name, reader)) = rest.pop_front() {
-        match play_file(alloc, session, name, reader) {
+        match play_file(alloc, session, dialect, name, reader) {
             Err(stop) => return Err(stop),
             Ok(Some(full)) => return Ok(Some(full)),
             Ok(None) => {}
@@ -72,17 +75,18 @@ fn play_files<A: Allocator + Clone, F: Read + Drop>(
 fn with_traces<A: Allocator + Clone, F: Read + Drop>(
     alloc: &A,
     config: &Config,
+    dialect: Dialect,
     starts: Vec<(String, F)>,
     traces: Vec<(String, F)>,
 ) -> Result<(Session<A>, Option<Full>), Stop>
     requires { IsWithinLimits config.now }
-    ensures { IfOk result (λ opened. IsOpened F.remaining config.entry.now starts.items traces.items opened.0 opened.1) }
+    ensures { IfOk result (λ opened. IsOpened dialect F.remaining config.entry.now starts.items traces.items opened.0 opened.1) }
 {
-    let mut session = match started(alloc, config, starts) {
+    let mut session = match started(alloc, config, dialect, starts) {
         Err(stop) => return Err(stop),
         Ok(session) => session,
     };
-    match play_files(alloc, &mut session, traces) {
+    match play_files(alloc, &mut session, dialect, traces) {
         Ok(full) => Ok((session, full)),
         Err(stop) => {
             // The program ends here, and all memory goes back at once.
@@ -115,6 +119,7 @@ fn note<E: Sink>(full: &Option<Full>, errors: &mut E)
 fn opened_with_traces<R: Files + AllocGlobal>(
     rt: &R,
     config: &Config,
+    dialect: Dialect,
     starts: Vec<String>,
     traces: Vec<String>,
 ) -> Result<(Session<Global>, Option<Full>), Stop>
@@ -122,14 +127,22 @@ fn opened_with_traces<R: Files + AllocGlobal>(
 {
     let starts = all_opened(rt, rt.alloc(), starts)?;
     let traces = all_opened(rt, rt.alloc(), traces)?;
-    with_traces(&rt.alloc(), config, starts, traces)
+    with_traces(&rt.alloc(), config, dialect, starts, traces)
 }
 
-/// Answers the session that the reader gives, of which LF ends data as CR LF does; with `json` as JSON.
+fn prompts_of(has_prompt: bool) -> Prompts {
+    if has_prompt {
+        Prompts::Shown
+    } else {
+        Prompts::Hidden
+    }
+}
+
+/// Answers the session that the reader gives, of which LF ends data as CR LF does, in the manner that is asked for.
 pub(crate) fn answer<I: Read + Drop, O: Write + Drop>(
     alloc: Global,
     session: Session<Global>,
-    json: bool,
+    manner: Manner,
     reader: I,
     writer: O,
 ) -> Result<(), Stop> {
@@ -142,10 +155,21 @@ pub(crate) fn answer<I: Read + Drop, O: Write + Drop>(
         let _session = ManuallyDrop::new(session);
         return Err(Stop::Memory);
     };
-    if json {
+    let done = if manner.json {
         run_as_json_on(alloc, session, Dialect::AnyFeed, incoming, &exchange)
     } else {
-        run_on(&alloc, session, Dialect::AnyFeed, incoming, &exchange)
+        run_on(
+            &alloc,
+            session,
+            Dialect::AnyFeed,
+            prompts_of(manner.has_prompt),
+            incoming,
+            &exchange,
+        )
+    };
+    match done {
+        Err(stop) => Err(stop),
+        Ok(_) => Ok(()),
     }
 }
 
@@ -165,18 +189,18 @@ pub fn open_traces<R: Files + AllocGlobal, I: Read + Drop, O: Write + Drop, E: S
 {
     let Opening {
         config,
+        manner,
         starts,
         traces,
-        json,
     } = asked;
     if let Some(fault) = fault_of(&config) {
         return ended(Err(Stop::from(fault)), errors);
     }
-    match opened_with_traces(rt, &config, starts, traces) {
+    match opened_with_traces(rt, &config, manner.dialect, starts, traces) {
         Err(stop) => ended(Err(stop), errors),
         Ok((session, full)) => {
             note(&full, errors);
-            ended(answer(rt.alloc(), session, json, reader, writer), errors)
+            ended(answer(rt.alloc(), session, manner, reader, writer), errors)
         }
     }
 }

@@ -49,14 +49,15 @@ struct Played {
 // The steps of one file.
 fn read_file<F: Read + Drop>(
     alloc: Global,
+    dialect: Dialect,
     name: String,
     reader: F,
 ) -> Result<Vec<Step<Global>>, RecordingFault>
-    ensures ok { IfOk result (λ steps. IsScript (F.remaining reader) (map plain_step steps.items)) }
-    ensures err { IfErr result (λ e. Spoils (F.remaining reader) name e) }
+    ensures ok { IfOk result (λ steps. IsScript dialect (F.remaining reader) (map plain_step steps.items)) }
+    ensures err { IfErr result (λ e. Spoils dialect (F.remaining reader) name e) }
 {
     let mut source = FromRead::new(reader);
-    match read_steps(alloc, Dialect::CrLf, &mut source) {
+    match read_steps(alloc, dialect, &mut source) {
         Ok(steps) => Ok(steps),
         Err(fault) => Err(RecordingFault::of(fault, name)),
     }
@@ -65,16 +66,17 @@ fn read_file<F: Read + Drop>(
 // The steps of each file, in the order of the files. The first fault ends it.
 fn read_files<F: Read + Drop>(
     alloc: Global,
+    dialect: Dialect,
     files: Vec<(String, F)>,
 ) -> Result<Vec<Vec<Step<Global>>>, RecordingFault>
     ensures count { IfOk result (λ scripts. length scripts.items ≡ length files.items) }
-    ensures steps { IfOk result (λ scripts. AreScripts F.remaining files.items scripts.items) }
-    ensures err { IfErr result (λ e. IsSpoilt F.remaining files.items e) }
+    ensures steps { IfOk result (λ scripts. AreScripts dialect F.remaining files.items scripts.items) }
+    ensures err { IfErr result (λ e. IsSpoilt dialect F.remaining files.items e) }
 {
     let mut scripts = Vec::new(alloc);
     let mut rest = VecDeque::from_vec(files);
     while let Some((name, reader)) = rest.pop_front() {
-        let steps = read_file(alloc, name, reader)?;
+        let steps = read_file(alloc, dialect, name, reader)?;
         if scripts.push(steps).is_err() {
             return Err(RecordingFault::Memory);
         }
@@ -225,15 +227,16 @@ fn print<W: Write>(played: Played, writer: &mut W) -> Result<(), RecordingFault>
 fn record<R: Threads + Wait + Sync + AllocGlobal, F: Read + Drop, W: Write>(
     rt: &R,
     session: Session<Global>,
+    dialect: Dialect,
     files: Vec<(String, F)>,
     writer: &mut W,
 ) -> Result<(), RecordingFault>
     requires { (1 ≤ length files.items) × (length files.items ≤ 8) }
-    ensures ok { OnOk result (IsRecorded F.remaining files.items (W.contents writer.old) (W.contents writer.new)) }
+    ensures ok { OnOk result (IsRecorded dialect F.remaining files.items (W.contents writer.old) (W.contents writer.new)) }
     ensures err { IfErr result (λ e. e ≢ RecordingFault.CannotWrite → Keeps (W.contents writer.old) (W.contents writer.new)) }
-    ensures why { IfErr result (λ e. EndedBy F.remaining files.items e) }
+    ensures why { IfErr result (λ e. EndedBy dialect F.remaining files.items e) }
 {
-    let scripts = match read_files(rt.alloc(), files) {
+    let scripts = match read_files(rt.alloc(), dialect, files) {
         Ok(scripts) => scripts,
         Err(fault) => {
             // The program ends here, and all memory goes back at once.
@@ -248,7 +251,7 @@ fn record<R: Threads + Wait + Sync + AllocGlobal, F: Read + Drop, W: Write>(
     }
 }
 
-/// `lrudb record` once its files are open, each a name and a reader: reads them in order and line by line, plays them at
+/// `lrudb record` once its files are open, each a name and a reader: reads them in order, in the dialect, plays them at
 /// once on the session, the i-th file from 0 as player i, and writes the rows to `writer`. A file that is not steps from
 /// its first line to its last ends it before anything of it is played. Answers the exit status, 0, 3, 4, 5 or 6. At status 0 nothing goes to
 /// `errors`; at any other the text of the reason does, whole where no write to `errors` has failed, and nothing is written
@@ -256,16 +259,17 @@ fn record<R: Threads + Wait + Sync + AllocGlobal, F: Read + Drop, W: Write>(
 pub fn play_files<R: Threads + Wait + Sync + AllocGlobal, F: Read + Drop, W: Write, E: Sink>(
     rt: &R,
     session: Session<Global>,
+    dialect: Dialect,
     files: Vec<(String, F)>,
     writer: &mut W,
     errors: &mut E,
 ) -> u8
     requires { (1 ≤ length files.items) × (length files.items ≤ 8) }
     ensures status { IsStatus result }
-    ensures rows { result ≡ 0 → IsRecorded F.remaining files.items (W.contents writer.old) (W.contents writer.new) }
-    ensures fault { result ≢ 0 → (e : RecordingFault) × HasNoRows F.remaining files.items (W.contents writer.old) (W.contents writer.new)
+    ensures rows { result ≡ 0 → IsRecorded dialect F.remaining files.items (W.contents writer.old) (W.contents writer.new) }
+    ensures fault { result ≢ 0 → (e : RecordingFault) × HasNoRows dialect F.remaining files.items (W.contents writer.old) (W.contents writer.new)
         (E.contents errors.old) (E.contents errors.new) (E.failures errors.old) (E.failures errors.new) result e }
     ensures quiet { result ≡ 0 → Keeps (E.contents errors.old) (E.contents errors.new) }
 {
-    ended(record(rt, session, files, writer), errors)
+    ended(record(rt, session, dialect, files, writer), errors)
 }

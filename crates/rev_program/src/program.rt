@@ -2,8 +2,8 @@
 ghost use Rattle.std.specs.Prelude.{◌≡◌, ◌≢◌, ◌≤◌, length, map, false, Err, IfOk, IfErr, IfSome, MatchResult};
 ghost use Rattle.std.specs.Io.KnownBytes.{Keeps};
 ghost use Rattle.rev_classes.specs.Limits.{IsWithinLimits, fault_of};
-ghost use Rattle.rev_options.specs.Request.{asks_import, asks_open, brings};
-ghost use Rattle.rev_program.specs.Program.{IsStatus, StopsBy, EndsEarly, EndsBehind, EndsNoted, EndsUnwritten};
+ghost use Rattle.rev_options.specs.Request.{asks_import, asks_open, asks_run, brings};
+ghost use Rattle.rev_program.specs.Program.{IsStatus, StopsBy, EndsEarly, EndsBehind, EndsNoted, EndsUnwritten, EndsRun, IsCounted, tally_text};
 ghost use Rattle.rev_program.specs.Stop.{status, text, stop_of_config};
 ghost use Rattle.rev_program.specs.Telling.{Told};
 
@@ -15,15 +15,17 @@ use crate::play::play_files;
 use crate::starts::started;
 use crate::state::import_state;
 use crate::stop::Stop;
+use crate::telling::tell_parts;
 use crate::traces::import_csv;
+use itoa::Buffer;
 use linked_list_allocator::LocalHeap;
 use rev_classes::{Config, fault_of};
 use rev_options::{Request, parse_words};
 use rev_output::exchange::{Exchange, Incoming, Outgoing};
-use rev_output::{Sink, ToWrite};
+use rev_output::{Sink, ToWrite, WriteFailed};
 use rev_script::dialect::Dialect;
 use rev_script::source::FromRead;
-use rev_shell::run::{RunFault, Summary, run_at_last};
+use rev_shell::run::{Prompts, RunFault, Summary, Tally, run_at_last};
 use rev_undotree::Session;
 use std::alloc::{Allocator, Global};
 use std::convert::AsStr;
@@ -54,14 +56,14 @@ pub(crate) fn ended<E: Sink>(done: Result<(), Stop>, errors: &mut E) -> u8
 pub(crate) fn sent_behind<O: Write + Drop>(
     done: Result<Summary, RunFault>,
     exchange: &Exchange<O>,
-) -> Result<(), Stop> {
+) -> Result<Summary, Stop> {
     let sent = exchange.send();
     match done {
         // A read sends first, and what failed then was a write.
         Err(RunFault::Read) if exchange.has_failed() => Err(Stop::CannotWrite),
         Err(fault) => Err(Stop::from(fault)),
         Ok(_) if sent.is_err() => Err(Stop::CannotWrite),
-        Ok(_) => Ok(()),
+        Ok(summary) => Ok(summary),
     }
 }
 
@@ -70,12 +72,13 @@ pub(crate) fn run_on<A: Allocator + Clone, I: Read + Drop, O: Write + Drop>(
     alloc: &A,
     session: Session<A>,
     dialect: Dialect,
+    prompts: Prompts,
     reader: I,
     exchange: &Exchange<O>,
-) -> Result<(), Stop> {
+) -> Result<Summary, Stop> {
     let mut source = FromRead::new(reader);
     let mut sink = ToWrite::new(Outgoing::new(exchange));
-    let done = run_at_last(alloc, session, dialect, &mut source, &mut sink);
+    let done = run_at_last(alloc, session, dialect, prompts, &mut source, &mut sink);
     sent_behind(done, exchange)
 }
 
@@ -83,17 +86,18 @@ pub(crate) fn run_on<A: Allocator + Clone, I: Read + Drop, O: Write + Drop>(
 fn run_in<A: Allocator + Clone, F: Read + Drop, I: Read, O: Write + Drop>(
     alloc: &A,
     config: &Config,
+    dialect: Dialect,
     starts: Vec<(String, F)>,
     reader: I,
     exchange: &Exchange<O>,
-) -> Result<(), Stop>
+) -> Result<Summary, Stop>
 where
     I: Drop,
     requires { IsWithinLimits config.now }
 {
-    match started(alloc, config, starts) {
+    match started(alloc, config, dialect, starts) {
         Err(stop) => Err(stop),
-        Ok(session) => run_on(alloc, session, Dialect::CrLf, reader, exchange),
+        Ok(session) => run_on(alloc, session, dialect, Prompts::Hidden, reader, exchange),
     }
 }
 
@@ -102,16 +106,17 @@ fn run_in_heap<F: Read + Drop, I: Read + Drop, O: Write + Drop>(
     alloc: Global,
     bytes: usize,
     config: &Config,
+    dialect: Dialect,
     starts: Vec<(String, F)>,
     reader: I,
     exchange: &Exchange<O>,
-) -> Result<(), Stop>
+) -> Result<Summary, Stop>
     requires { IsWithinLimits config.now }
 {
     let Ok(heap) = LocalHeap::new(alloc, bytes) else {
         return Err(Stop::Memory);
     };
-    run_in(&&heap, config, starts, reader, exchange)
+    run_in(&&heap, config, dialect, starts, reader, exchange)
 }
 
 // Runs the script of the reader behind the steps of the starts, with a heap or none.
@@ -119,10 +124,11 @@ fn run_sound<F: Read + Drop, I: Read + Drop, O: Write + Drop>(
     alloc: Global,
     config: &Config,
     heap: Option<usize>,
+    dialect: Dialect,
     starts: Vec<(String, F)>,
     reader: I,
     writer: O,
-) -> Result<(), Stop>
+) -> Result<Summary, Stop>
     requires { IsWithinLimits config.now }
 {
     let Ok(exchange) = Exchange::new(alloc, writer) else {
@@ -132,8 +138,8 @@ fn run_sound<F: Read + Drop, I: Read + Drop, O: Write + Drop>(
         return Err(Stop::Memory);
     };
     match heap {
-        None => run_in(&alloc, config, starts, incoming, &exchange),
-        Some(bytes) => run_in_heap(alloc, bytes, config, starts, incoming, &exchange),
+        None => run_in(&alloc, config, dialect, starts, incoming, &exchange),
+        Some(bytes) => run_in_heap(alloc, bytes, config, dialect, starts, incoming, &exchange),
     }
 }
 
@@ -164,10 +170,31 @@ pub(crate) fn all_opened<R: Files>(
     Ok(files)
 }
 
+// What `run_script` says, in a dialect; and what the run did.
+fn run_told<R: Files + AllocGlobal, I: Read + Drop, O: Write + Drop>(
+    rt: &R,
+    config: Config,
+    heap: Option<usize>,
+    dialect: Dialect,
+    starts: Vec<String>,
+    reader: I,
+    writer: O,
+) -> Result<Summary, Stop>
+    ensures { IfSome (fault_of config) (λ fault. result ≡ Err (stop_of_config fault)) }
+{
+    if let Some(fault) = fault_of(&config) {
+        return Err(Stop::from(fault));
+    }
+    match all_opened(rt, rt.alloc(), starts) {
+        Err(stop) => Err(stop),
+        Ok(starts) => run_sound(rt.alloc(), &config, heap, dialect, starts, reader, writer),
+    }
+}
+
 /// Runs the script of the reader, from the state that the steps of the files `starts` leave one after another, and writes
 /// its answers. With `heap`, all that the run keeps lies in one heap of so many bytes, but for the buffers of the streams.
 /// A configuration at fault is told before a file is opened, and a file that cannot be opened before anything is read and
-/// before the heap is made.
+/// before the heap is made. CR LF ends data.
 pub fn run_script<R: Files + AllocGlobal, I: Read + Drop, O: Write + Drop>(
     rt: &R,
     config: Config,
@@ -178,31 +205,82 @@ pub fn run_script<R: Files + AllocGlobal, I: Read + Drop, O: Write + Drop>(
 ) -> Result<(), Stop>
     ensures { IfSome (fault_of config) (λ fault. result ≡ Err (stop_of_config fault)) }
 {
-    if let Some(fault) = fault_of(&config) {
-        return Err(Stop::from(fault));
-    }
-    match all_opened(rt, rt.alloc(), starts) {
+    match run_told(rt, config, heap, Dialect::CrLf, starts, reader, writer) {
         Err(stop) => Err(stop),
-        Ok(starts) => run_sound(rt.alloc(), &config, heap, starts, reader, writer),
+        Ok(_) => Ok(()),
     }
 }
 
-// Runs the script of the reader as `run_script` does; with `json`, and no heap then, it tells of its lines as JSON.
+// Tells how many commands were so, and which was the first, if there is one.
+fn tell_tally<E: Sink>(errors: &mut E, tally: Tally, so: &str) -> Result<(), WriteFailed>
+    ensures { Told (E.contents errors.old) (E.contents errors.new) (E.failures errors.old) (E.failures errors.new) (tally_text tally so.now) }
+{
+    if tally.count == 0 {
+        return Ok(());
+    }
+    let mut number = Buffer::new();
+    let first = number.format(tally.first);
+    if tally.count == 1 {
+        return tell_parts(
+            errors,
+            &["lrudb: 1 command was ", so, ", it is command ", first, "\n"],
+        );
+    }
+    let mut number = Buffer::new();
+    let count = number.format(tally.count);
+    tell_parts(
+        errors,
+        &[
+            "lrudb: ",
+            count,
+            " commands were ",
+            so,
+            ", the first is command ",
+            first,
+            "\n",
+        ],
+    )
+}
+
+// Tells which commands of a run were malformed or refused.
+fn count<E: Sink>(summary: &Summary, errors: &mut E)
+    ensures { IsCounted (E.contents errors.old) (E.contents errors.new) (E.failures errors.old) (E.failures errors.new) summary.now }
+{
+    // There is nobody left to tell that this cannot be written.
+    let _ = tell_tally(errors, summary.bad, "malformed");
+    let _ = tell_tally(errors, summary.refused, "refused by the tree");
+}
+
+// The status of a run that ended so. Its user is told why it was stopped, or which commands were malformed or refused.
+fn ended_run<E: Sink>(done: Result<Summary, Stop>, errors: &mut E) -> u8
+    ensures { EndsRun (E.contents errors.old) (E.contents errors.new) (E.failures errors.old) (E.failures errors.new) result }
+{
+    match done {
+        Err(stop) => ended(Err(stop), errors),
+        Ok(summary) => {
+            count(&summary, errors);
+            0
+        }
+    }
+}
+
+// What `run_told` says; with `json`, and no heap then, lines are told as JSON.
 fn run_asked<R: Files + AllocGlobal, I: Read + Drop, O: Write + Drop>(
     rt: &R,
     config: Config,
     heap: Option<usize>,
+    dialect: Dialect,
     starts: Vec<String>,
     json: bool,
     reader: I,
     writer: O,
-) -> Result<(), Stop>
+) -> Result<Summary, Stop>
     ensures { IfSome (fault_of config) (λ fault. result ≡ Err (stop_of_config fault)) }
 {
     if json {
-        run_script_as_json(rt, config, starts, reader, writer)
+        run_script_as_json(rt, config, dialect, starts, reader, writer)
     } else {
-        run_script(rt, config, heap, starts, reader, writer)
+        run_told(rt, config, heap, dialect, starts, reader, writer)
     }
 }
 
@@ -210,6 +288,7 @@ fn run_asked<R: Files + AllocGlobal, I: Read + Drop, O: Write + Drop>(
 fn opened_for_recording<R: Files + AllocGlobal>(
     rt: &R,
     config: &Config,
+    dialect: Dialect,
     starts: Vec<String>,
     names: Vec<String>,
 ) -> Result<(Session<Global>, Vec<(String, R::File)>), Stop>
@@ -218,7 +297,7 @@ fn opened_for_recording<R: Files + AllocGlobal>(
 {
     let starts = all_opened(rt, rt.alloc(), starts)?;
     let files = all_opened(rt, rt.alloc(), names)?;
-    let session = started(&rt.alloc(), config, starts)?;
+    let session = started(&rt.alloc(), config, dialect, starts)?;
     Ok((session, files))
 }
 
@@ -228,6 +307,7 @@ fn opened_for_recording<R: Files + AllocGlobal>(
 fn record_files<R: Files + Threads + Wait + Sync + AllocGlobal, O: Write, E: Sink>(
     rt: &R,
     config: Config,
+    dialect: Dialect,
     starts: Vec<String>,
     names: Vec<String>,
     writer: &mut O,
@@ -243,17 +323,17 @@ fn record_files<R: Files + Threads + Wait + Sync + AllocGlobal, O: Write, E: Sin
     if let Some(fault) = fault_of(&config) {
         return ended(Err(Stop::from(fault)), errors);
     }
-    match opened_for_recording(rt, &config, starts, names) {
+    match opened_for_recording(rt, &config, dialect, starts, names) {
         Err(stop) => ended(Err(stop), errors),
-        Ok((session, files)) => play_files(rt, session, files, writer, errors),
+        Ok((session, files)) => play_files(rt, session, dialect, files, writer, errors),
     }
 }
 
 /// The whole program: does what the words behind its name ask for, and answers its exit status, 0 or 2 to 6.
 ///
-/// Answers go to `writer`. At status 0 nothing goes to `errors`, but what an import tells of itself, that of `open` too, and
-/// what is told of traces that fill the tree; at any other the text of the reason does, whole where no write to `errors` has failed. The
-/// players of a recording wait for one another.
+/// Answers go to `writer`. At status 0 nothing goes to `errors`, but what an import tells of itself, that of `open` too, what is
+/// told of traces that fill the tree, and which commands of a run were malformed or refused; at any other the text of the
+/// reason does, whole where no write to `errors` has failed. The players of a recording wait for one another.
 pub fn program<
     R: Files + Threads + Wait + Sync + AllocGlobal,
     S: AsStr,
@@ -263,9 +343,10 @@ pub fn program<
 >(rt: &R, words: &[S], reader: I, mut writer: O, errors: &mut E) -> u8
     ensures status { IsStatus result }
     ensures early { result ≢ 0 → asks_open (map S.text words.now) ≡ false → EndsEarly (E.contents errors.old) (E.contents errors.new) (E.failures errors.old) (E.failures errors.new) result }
-    ensures quiet { result ≡ 0 → asks_import (map S.text words.now) ≡ false → asks_open (map S.text words.now) ≡ false → Keeps (E.contents errors.old) (E.contents errors.new) }
-    ensures noted { asks_import (map S.text words.now) ≡ false → EndsNoted (E.contents errors.old) (E.contents errors.new) (E.failures errors.old) (E.failures errors.new) result }
-    ensures behind { asks_import (map S.text words.now) ≡ false → brings (map S.text words.now) ≡ false → EndsBehind (E.contents errors.old) (E.contents errors.new) (E.failures errors.old) (E.failures errors.new) result }
+    ensures quiet { result ≡ 0 → asks_import (map S.text words.now) ≡ false → asks_open (map S.text words.now) ≡ false → asks_run (map S.text words.now) ≡ false → Keeps (E.contents errors.old) (E.contents errors.new) }
+    ensures run { asks_run (map S.text words.now) ≡ true → EndsRun (E.contents errors.old) (E.contents errors.new) (E.failures errors.old) (E.failures errors.new) result }
+    ensures noted { asks_import (map S.text words.now) ≡ false → asks_run (map S.text words.now) ≡ false → EndsNoted (E.contents errors.old) (E.contents errors.new) (E.failures errors.old) (E.failures errors.new) result }
+    ensures behind { asks_import (map S.text words.now) ≡ false → asks_run (map S.text words.now) ≡ false → brings (map S.text words.now) ≡ false → EndsBehind (E.contents errors.old) (E.contents errors.new) (E.failures errors.old) (E.failures errors.new) result }
 {
     match parse_words(rt.alloc(), words) {
         Err(refused) => ended(Err(Stop::from(refused)), errors),
@@ -273,22 +354,22 @@ pub fn program<
             Request::Run {
                 config,
                 heap,
+                dialect,
                 starts,
                 json,
             },
         ) => {
-            ended(
-                run_asked(rt, config, heap, starts, json, reader, writer),
-                errors,
-            )
+            let done = run_asked(rt, config, heap, dialect, starts, json, reader, writer);
+            ended_run(done, errors)
         }
         Ok(
             Request::Record {
                 config,
+                dialect,
                 starts,
                 files,
             },
-        ) => record_files(rt, config, starts, files, &mut writer, errors),
+        ) => record_files(rt, config, dialect, starts, files, &mut writer, errors),
         Ok(Request::ImportWatch(asked)) => import_watch(rt, asked, reader, &mut writer, errors),
         Ok(Request::ImportCsv(asked)) => import_csv(rt, asked, reader, &mut writer, errors),
         Ok(Request::ImportState(asked)) => import_state(rt, asked, errors),

@@ -20,13 +20,14 @@ use std::mem::ManuallyDrop;
 fn play_file<A: Allocator + Clone, F: Read + Drop>(
     alloc: &A,
     session: &mut Session<A>,
+    dialect: Dialect,
     name: String,
     reader: F,
 ) -> Result<(), Stop>
-    ensures { OnOk result (IsStart (F.remaining reader) session.old session.new) }
+    ensures { OnOk result (IsStart dialect (F.remaining reader) session.old session.new) }
 {
     let mut source = FromRead::new(reader);
-    match play_start(alloc, session, Dialect::CrLf, &mut source) {
+    match play_start(alloc, session, dialect, &mut source) {
         Ok(()) => Ok(()),
         Err(fault) => Err(Stop::of(fault, name)),
     }
@@ -36,13 +37,14 @@ fn play_file<A: Allocator + Clone, F: Read + Drop>(
 fn play_files<A: Allocator + Clone, F: Read + Drop>(
     alloc: &A,
     session: &mut Session<A>,
+    dialect: Dialect,
     files: Vec<(String, F)>,
 ) -> Result<(), Stop>
-    ensures { OnOk result (AreStarts F.remaining files.items session.old session.new) }
+    ensures { OnOk result (AreStarts dialect F.remaining files.items session.old session.new) }
 {
     let mut rest = VecDeque::from_vec(files);
     while let Some((name, reader)) = rest.pop_front() {
-        match play_file(alloc, session, name, reader) {
+        match play_file(alloc, session, dialect, name, reader) {
             Ok(()) => {}
             Err(stop) => return Err(stop),
         }
@@ -50,20 +52,21 @@ fn play_files<A: Allocator + Clone, F: Read + Drop>(
     Ok(())
 }
 
-/// The session that a program begins with: the steps of the files, each a name and a reader, were played in order on an
-/// empty store, and no node stands but the root.
+/// The session that a program begins with: the steps of the files, each a name and a reader, were read in the dialect and
+/// played in order on an empty store, and no node stands but the root.
 pub fn started<A: Allocator + Clone, F: Read + Drop>(
     alloc: &A,
     config: &Config,
+    dialect: Dialect,
     files: Vec<(String, F)>,
 ) -> Result<Session<A>, Stop>
     requires { IsWithinLimits config.now }
-    ensures { IfOk result (λ session. AreStarts F.remaining files.items (opened config.entry.now) session) }
+    ensures { IfOk result (λ session. AreStarts dialect F.remaining files.items (opened config.entry.now) session) }
 {
     let Some(mut session) = open_session(alloc, config) else {
         return Err(Stop::Memory);
     };
-    match play_files(alloc, &mut session, files) {
+    match play_files(alloc, &mut session, dialect, files) {
         Ok(()) => Ok(session),
         Err(stop) => {
             // The program ends here, and all memory goes back at once.

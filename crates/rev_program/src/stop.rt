@@ -1,14 +1,14 @@
 //! Why the program ends before all is done, in the words and statuses that its user sees.
-ghost use Rattle.std.specs.Prelude.{◌≡◌, ◌≢◌, [], ◌∷◌, decimal, OnOk, OnErr};
+ghost use Rattle.std.specs.Prelude.{◌≡◌, ◌≢◌, [], ◌∷◌, codes, decimal, OnOk, OnErr};
 ghost use Rattle.std.specs.Io.KnownBytes.{Appends};
-ghost use Rattle.rev_program.specs.Stop.{status, text, line_parts, line_told, row_part, row_told, stat_parts, stats_told, stop_of_config, stop_of_run, stop_of_trace};
+ghost use Rattle.rev_program.specs.Stop.{status, text, config_told, line_parts, line_told, row_part, row_told, stat_parts, stats_told, stop_of_config, stop_of_run, stop_of_trace};
 ghost use Rattle.rev_output.specs.Sink.{one_more};
 ghost use Rattle.rev_program.specs.Telling.{Told};
 
 use crate::telling::tell_parts;
 use itoa::Buffer;
 use rev_classes::ConfigFault;
-use rev_options::Refused;
+use rev_options::{Number, Refused};
 use rev_output::{Sink, WriteFailed};
 use rev_shell::quiet::TraceFault;
 use rev_shell::run::RunFault;
@@ -207,6 +207,112 @@ fn tell_row<E: Sink>(
     tell_row_by(errors, trace, number.format(line), why)
 }
 
+// Tells that the page size is at fault.
+fn tell_page<E: Sink>(errors: &mut E) -> Result<(), WriteFailed>
+    ensures told { Told (E.contents errors.old) (E.contents errors.new) (E.failures errors.old) (E.failures errors.new) (config_told (codes "page") (Number.PageSize ∷ [])) }
+    ensures ok { OnOk result (Appends (E.contents errors.old) (E.contents errors.new) (config_told (codes "page") (Number.PageSize ∷ []))) }
+    ensures err { OnErr result (E.failures errors.new ≡ one_more (E.failures errors.old)) }
+{
+    tell_parts(
+        errors,
+        &[
+            "lrudb: bad configuration: page\n",
+            "--",
+            Number::PageSize.name(),
+            ": ",
+            Number::PageSize.help(),
+            "\n",
+        ],
+    )
+}
+
+// Tells that the growth factor is at fault.
+fn tell_factor<E: Sink>(errors: &mut E) -> Result<(), WriteFailed>
+    ensures told { Told (E.contents errors.old) (E.contents errors.new) (E.failures errors.old) (E.failures errors.new) (config_told (codes "factor") (Number.Num ∷ Number.Den ∷ [])) }
+    ensures ok { OnOk result (Appends (E.contents errors.old) (E.contents errors.new) (config_told (codes "factor") (Number.Num ∷ Number.Den ∷ []))) }
+    ensures err { OnErr result (E.failures errors.new ≡ one_more (E.failures errors.old)) }
+{
+    tell_parts(
+        errors,
+        &[
+            "lrudb: bad configuration: factor\n",
+            "--",
+            Number::Num.name(),
+            ": ",
+            Number::Num.help(),
+            "\n",
+            "--",
+            Number::Den.name(),
+            ": ",
+            Number::Den.help(),
+            "\n",
+        ],
+    )
+}
+
+// Tells that page size and growth factor make too many classes.
+fn tell_classes<E: Sink>(errors: &mut E) -> Result<(), WriteFailed>
+    ensures told { Told (E.contents errors.old) (E.contents errors.new) (E.failures errors.old) (E.failures errors.new) (config_told (codes "classes") (Number.PageSize ∷ Number.Num ∷ Number.Den ∷ [])) }
+    ensures ok { OnOk result (Appends (E.contents errors.old) (E.contents errors.new) (config_told (codes "classes") (Number.PageSize ∷ Number.Num ∷ Number.Den ∷ []))) }
+    ensures err { OnErr result (E.failures errors.new ≡ one_more (E.failures errors.old)) }
+{
+    tell_parts(
+        errors,
+        &[
+            "lrudb: bad configuration: classes\n",
+            "--",
+            Number::PageSize.name(),
+            ": ",
+            Number::PageSize.help(),
+            "\n",
+            "--",
+            Number::Num.name(),
+            ": ",
+            Number::Num.help(),
+            "\n",
+            "--",
+            Number::Den.name(),
+            ": ",
+            Number::Den.help(),
+            "\n",
+        ],
+    )
+}
+
+// Tells that another number is at fault.
+fn tell_limits<E: Sink>(errors: &mut E) -> Result<(), WriteFailed>
+    ensures told { Told (E.contents errors.old) (E.contents errors.new) (E.failures errors.old) (E.failures errors.new) (config_told (codes "limit") (Number.Pages ∷ Number.Bump ∷ Number.HashPower ∷ Number.Now ∷ [])) }
+    ensures ok { OnOk result (Appends (E.contents errors.old) (E.contents errors.new) (config_told (codes "limit") (Number.Pages ∷ Number.Bump ∷ Number.HashPower ∷ Number.Now ∷ []))) }
+    ensures err { OnErr result (E.failures errors.new ≡ one_more (E.failures errors.old)) }
+{
+    tell_parts(
+        errors,
+        &[
+            "lrudb: bad configuration: limit\n",
+            "--",
+            Number::Pages.name(),
+            ": ",
+            Number::Pages.help(),
+            "\n",
+            "--",
+            Number::Bump.name(),
+            ": ",
+            Number::Bump.help(),
+            "\n",
+            "--",
+            Number::HashPower.name(),
+            ": ",
+            Number::HashPower.help(),
+            "\n",
+            "--",
+            Number::Now.name(),
+            ": ",
+            Number::Now.help(),
+            "\n",
+        ],
+    )
+}
+
 impl Stop {
     /// The status that the program ends with: 2 for the command line or the configuration, 3 for memory, 4 for input
     /// or output, 5 for a line that is not a step, or for what is imported (this project's own numbers).
@@ -234,10 +340,10 @@ impl Stop {
     {
         match self {
             Stop::Usage(text) => tell_parts(errors, &[text.as_str()]),
-            Stop::BadPage => tell_parts(errors, &["lrudb: bad configuration: page\n"]),
-            Stop::BadFactor => tell_parts(errors, &["lrudb: bad configuration: factor\n"]),
-            Stop::TooManyClasses => tell_parts(errors, &["lrudb: bad configuration: classes\n"]),
-            Stop::BadLimit => tell_parts(errors, &["lrudb: bad configuration: limit\n"]),
+            Stop::BadPage => tell_page(errors),
+            Stop::BadFactor => tell_factor(errors),
+            Stop::TooManyClasses => tell_classes(errors),
+            Stop::BadLimit => tell_limits(errors),
             Stop::Memory => tell_parts(errors, &["lrudb: out of memory\n"]),
             Stop::CannotRead => tell_parts(errors, &["lrudb: cannot read\n"]),
             Stop::CannotOpen(name) => {

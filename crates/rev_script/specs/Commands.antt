@@ -242,7 +242,8 @@ bare_debug w =
     else (if bytes_eq w (codes ":marks") then Some debugs.Marks
     else (if bytes_eq w (codes ":gone") then Some (debugs.Gone None)
     else (if bytes_eq w (codes ":classes") then Some debugs.Classes
-    else None))))))))
+    else (if bytes_eq w (codes ":help") then Some debugs.Help
+    else None)))))))))
 
 -- those that take a key
 unfoldable pub query_of : List ℕ → Option KeyQuery
@@ -253,12 +254,13 @@ query_of w =
     else (if bytes_eq w (codes ":story") then Some queries.Story
     else None)))
 
--- those that take a bookmark's name
+-- those that take a name: of a bookmark, or for `:help` a command's word
 unfoldable pub bookmark_of : List ℕ → Option BookmarkCommand
 bookmark_of w =
     if bytes_eq w (codes ":mark") then Some bookmarks.Mark
     else (if bytes_eq w (codes ":goto") then Some bookmarks.Goto
-    else None)
+    else (if bytes_eq w (codes ":help") then Some bookmarks.Help
+    else None))
 
 -- those that take a number
 unfoldable pub number_debug : List ℕ → ℕ → Option DebugCommand

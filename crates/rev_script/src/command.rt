@@ -37,7 +37,7 @@ pub enum StorageCommand {
     Join(JoinSide),
 }
 
-/// A debug command that names no key and no bookmark. Like each debug command it makes no step.
+/// A debug command that has no key and no name behind it. Like each debug command it makes no step.
 #[derive(Clone, Copy)]
 pub enum DebugCommand {
     At,
@@ -66,6 +66,7 @@ pub enum DebugCommand {
     /// With the time, in seconds.
     Time(u32),
     Classes,
+    Help,
 }
 
 /// A debug command about one key.
@@ -77,11 +78,12 @@ pub enum KeyQuery {
     Story,
 }
 
-/// A debug command about one bookmark.
+/// A debug command about one name: that of a bookmark, or for `Help` a command's own word.
 #[derive(Clone, Copy)]
 pub enum BookmarkCommand {
     Mark,
     Goto,
+    Help,
 }
 
 /// What a line asks for, but for its keys or its bookmark's name, which stand behind its first word.
@@ -114,7 +116,7 @@ pub enum Command {
     Debug(DebugCommand),
     /// The second word is the key.
     Query(KeyQuery),
-    /// The second word is the bookmark's name.
+    /// The second word is the name.
     Bookmark(BookmarkCommand),
     Bad(BadAnswer),
 }

@@ -32,6 +32,8 @@ fn bare_debug(w: &[u8]) -> Option<DebugCommand>
         Some(DebugCommand::Gone(None))
     } else if is_word(w, b":classes") {
         Some(DebugCommand::Classes)
+    } else if is_word(w, b":help") {
+        Some(DebugCommand::Help)
     } else {
         None
     }
@@ -55,7 +57,7 @@ fn query_of(w: &[u8]) -> Option<KeyQuery>
     }
 }
 
-// A bookmark command of this name.
+// A command about a name.
 #[tactic(auto, unfolding(crate::specs::Commands::bookmark_of))]
 fn bookmark_of(w: &[u8]) -> Option<BookmarkCommand>
     ensures { result ≡ bookmark_of w.now }
@@ -64,6 +66,8 @@ fn bookmark_of(w: &[u8]) -> Option<BookmarkCommand>
         Some(BookmarkCommand::Mark)
     } else if is_word(w, b":goto") {
         Some(BookmarkCommand::Goto)
+    } else if is_word(w, b":help") {
+        Some(BookmarkCommand::Help)
     } else {
         None
     }

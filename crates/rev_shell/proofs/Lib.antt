@@ -8,3 +8,5 @@ pub mod Writing
 pub mod Counting
 pub mod Starting
 pub mod Tracing
+mod Topics
+mod Refusals

@@ -1,5 +1,6 @@
 -- One line more of a run.
-use Rattle.std.proofs.Common.{◌≡◌, ℕ, ◌+◌, ◌-◌, ◌⊎◌, inl, inr, Bool, true, List, [], ◌∷◌, ◌++◌, length, take, map, cond, count_by, Option, None, Some, refl, sym, ◌∙◌, ap, subst, arith, length-append, append_assoc, append-nil}
+use Rattle.std.proofs.Common.{◌≡◌, ℕ, ◌+◌, ◌⊎◌, inl, inr, Bool, true, false, nat_eq, suc, ◌<◌, ◌≤◌, List, [], ◌∷◌, ◌++◌, length, take, map, cond, count_by, Option, None, Some, refl, sym, ◌∙◌, ap, subst, arith, length-append, append_assoc, append-nil}
+use Rattle.std.proofs.Math.Dec.{eqb-suc-zero}
 use Rattle.std.proofs.Math.Seq.{take-append_seam}
 use Rattle.std.proofs.lemmas.List.Sums.{sum_by-append}
 use Rattle.std.specs.Io.KnownBytes.{Consumes, Appends, IsAtEnd, prepend_known}
@@ -16,7 +17,9 @@ use Rattle.rev_script.proofs.Scripts.{lines-last, lines-whole}
 use Rattle.rev_output.specs.Sink.{WroteFront, one_more, PlainSink}
 use Rattle.rev_shell.specs.Answers.{BookmarkedSession, after, answer}
 use Rattle.rev_output.proofs.Written.{Appends-then, Appends-none}
-use Rattle.rev_shell.specs.Run.{answers, session_after, out, text, Because, IsDone, IsLeft, IsStopped, run_fault}
+use Rattle.rev_shell.specs.Run.{prompt_text, end_text, answers, session_after, out, text, text_before, is_bad, is_refusal, bad_marks, refused_marks, marked, first_mark, tally_of, with_mark, Because, IsDone, IsLeft, IsStopped, run_fault}
+use Rattle.rev_shell.specs.declared.run.Prompts.{Prompts}
+use Rattle.rev_shell.specs.declared.run.Tally.{Tally}
 use Rattle.rev_shell.specs.declared.run.Summary.{Summary}
 use Rattle.rev_shell.specs.declared.run.RunFault.{RunFault}
 use Rattle.rev_shell.specs.declared.run.RunFault.TheVariants as run_faults
@@ -32,7 +35,7 @@ pub record AreWhole (d : Dialect) (passes : Bool) (read : List ℕ) (done : List
   pub cuts_are : (more : List ℕ) → cuts d (read ++ more) ≡ wholes done ++ cuts d (onwards passes more)
 
 -- so far: the lines of what was taken are done; they lie whole in it, or the input is at its end
-pub record IsSoFar (d : Dialect) (start now : PlainInput) (old new : PlainSink) (m0 m : BookmarkedSession) (count : ℕ) : Type 0 where
+pub record IsSoFar (d : Dialect) (p : Prompts) (start now : PlainInput) (old new : PlainSink) (m0 m : BookmarkedSession) (count : ℕ) (bad refused : Tally) : Type 0 where
   pub done : List ScriptLine
   pub read : List ℕ
   pub took : Took start.bytes now.bytes read
@@ -40,19 +43,94 @@ pub record IsSoFar (d : Dialect) (start now : PlainInput) (old new : PlainSink) 
   pub lines_are : AreWhole d now.passes read done ⊎ ((lines d read ≡ done) × AtEnd now.bytes)
   pub count_is : length done ≡ count
   pub session_is : m ≡ session_after m0 done
-  pub wrote : Appends old.contents new.contents (answers m0 done)
+  pub wrote : Appends old.contents new.contents (answers p m0 done)
   pub writes : new.failures ≡ old.failures
+  pub bad_is : bad ≡ tally_of (bad_marks done)
+  pub refused_is : refused ≡ tally_of (refused_marks m0 done)
 
-answers-append : (s : BookmarkedSession) (xs ys : List ScriptLine) → answers s (xs ++ ys) ≡ answers s xs ++ answers (session_after s xs) ys
-answers-append s [] ys = refl
-answers-append s (x ∷ xs) ys = ap (λ t. answer s x ++ t) (answers-append (after s x) xs ys) ∙ sym (append_assoc (answer s x) (answers (after s x) xs) (answers (session_after (after s x) xs) ys))
+-- what is written with a line in the middle
+answers-then : (p : Prompts) (s : BookmarkedSession) (xs : List ScriptLine) (y : ScriptLine) (ys : List ScriptLine) →
+    answers p s (xs ++ y ∷ ys) ≡ answers p s xs ++ (answer (session_after s xs) y ++ answers p (after (session_after s xs) y) ys)
+answers-then p s [] y ys = refl
+answers-then p s (x ∷ xs) y ys =
+    let front = prompt_text p s.session.current in
+    let done = answers p (after s x) xs in
+    let t = session_after (after s x) xs in
+    let rest = answer t y ++ answers p (after t y) ys in
+    ap (λ l. front ++ (answer s x ++ l)) (answers-then p (after s x) xs y ys)
+    ∙ ap (λ l. front ++ l) (sym (append_assoc (answer s x) done rest))
+    ∙ sym (append_assoc front (answer s x ++ done) rest)
 
 session_after-append : (s : BookmarkedSession) (xs : List ScriptLine) (y : ScriptLine) → session_after s (xs ++ y ∷ []) ≡ after (session_after s xs) y
 session_after-append s [] y = refl
 session_after-append s (x ∷ xs) y = session_after-append (after s x) xs y
 
-answers-one : (s : BookmarkedSession) (xs : List ScriptLine) (y : ScriptLine) → answers s (xs ++ y ∷ []) ≡ answers s xs ++ answer (session_after s xs) y
-answers-one s xs y = answers-append s xs (y ∷ []) ∙ ap (λ t. answers s xs ++ t) (append-nil (answer (session_after s xs) y))
+-- what is written begins with a prompt
+answers-begin : (p : Prompts) (s : BookmarkedSession) (ls : List ScriptLine) → (rest : List ℕ) × (answers p s ls ≡ prompt_text p s.session.current ++ rest)
+answers-begin p s [] = ([], sym (append-nil (prompt_text p s.session.current)))
+answers-begin p s (l ∷ ls) = (answer s l ++ answers p (after s l) ls, refl)
+
+-- ---- lines that are counted
+
+marked-true : (xs : List Bool) → marked (xs ++ true ∷ []) ≡ suc (marked xs)
+marked-true [] = refl
+marked-true (true ∷ xs) = ap suc (marked-true xs)
+marked-true (false ∷ xs) = marked-true xs
+
+marked-false : (xs : List Bool) → marked (xs ++ false ∷ []) ≡ marked xs
+marked-false [] = refl
+marked-false (true ∷ xs) = ap suc (marked-false xs)
+marked-false (false ∷ xs) = marked-false xs
+
+-- no more are marked than there are
+marked-most : (xs : List Bool) → marked xs ≤ length xs
+marked-most [] = omega arith
+marked-most (true ∷ xs) = omega (arith, marked-most xs)
+marked-most (false ∷ xs) = omega (arith, marked-most xs)
+
+some-marks : (n : ℕ) → nat_eq (suc n) 0 ≡ false
+some-marks n = eqb-suc-zero n
+
+first-true : (n : ℕ) (xs : List Bool) → first_mark n (xs ++ true ∷ []) ≡ cond (nat_eq (marked xs) 0) (n + length xs) (first_mark n xs)
+first-true n [] = omega arith
+first-true n (true ∷ xs) = let e : nat_eq (suc (marked xs)) 0 ≡ false = some-marks (marked xs) in rw e refl
+first-true n (false ∷ xs) = first-true (suc n) xs ∙ ap (λ k. cond (nat_eq (marked xs) 0) k (first_mark (suc n) xs)) (omega arith)
+
+first-false : (n : ℕ) (xs : List Bool) → first_mark n (xs ++ false ∷ []) ≡ first_mark n xs
+first-false n [] = refl
+first-false n (x ∷ xs) = ap (cond x n) (first-false (suc n) xs)
+
+-- a tally of these
+abbrev tally : ℕ → ℕ → Tally
+tally count first = record { count = count; first = first }
+
+tally-same : (a b x y : ℕ) → a ≡ b → x ≡ y → tally a x ≡ tally b y
+tally-same a b x y e f = ap (λ n. tally n x) e ∙ ap (λ n. tally b n) f
+
+-- with the next mark
+tally-next : (marks : List Bool) (b : Bool) (t : Tally) (n : ℕ) → t ≡ tally_of marks → n ≡ length marks + 1 → with_mark t b n ≡ tally_of (marks ++ b ∷ [])
+tally-next marks false t n is at = is ∙ tally-same _ _ _ _ (sym (marked-false marks)) (sym (first-false 1 marks))
+tally-next marks true t n is at =
+    let k : 1 + length marks ≡ n = omega (arith, at) in
+    ap (λ x. with_mark x true n) is
+    ∙ tally-same (marked marks + 1) (marked (marks ++ true ∷ [])) (cond (nat_eq (marked marks) 0) n (first_mark 1 marks)) (first_mark 1 (marks ++ true ∷ []))
+    (omega (arith, marked-true marks)) (sym (first-true 1 marks ∙ ap (λ j. cond (nat_eq (marked marks) 0) j (first_mark 1 marks)) k))
+
+length-bad : (ls : List ScriptLine) → length (bad_marks ls) ≡ length ls
+length-bad [] = refl
+length-bad (l ∷ ls) = ap suc (length-bad ls)
+
+bad-append : (ls : List ScriptLine) (l : ScriptLine) → bad_marks (ls ++ l ∷ []) ≡ bad_marks ls ++ is_bad l ∷ []
+bad-append [] l = refl
+bad-append (x ∷ xs) l = ap (λ t. is_bad x ∷ t) (bad-append xs l)
+
+length-refused : (m : BookmarkedSession) (ls : List ScriptLine) → length (refused_marks m ls) ≡ length ls
+length-refused m [] = refl
+length-refused m (l ∷ ls) = ap suc (length-refused (after m l) ls)
+
+refused-append : (m : BookmarkedSession) (ls : List ScriptLine) (l : ScriptLine) → refused_marks m (ls ++ l ∷ []) ≡ refused_marks m ls ++ is_refusal (answer (session_after m ls) l) ∷ []
+refused-append m [] l = refl
+refused-append m (x ∷ xs) l = ap (λ t. is_refusal (answer m x) ∷ t) (refused-append (after m x) xs l)
 
 -- ---- lines that lie whole in front
 
@@ -90,10 +168,11 @@ pub last_then : (d : Dialect) (before : Bool) (read taken : List ℕ) (done : Li
 last_then d before read taken done line w n = lines-more d before read taken done w ∙ ap (λ t. done ++ t) (lines-last d before taken line n)
 
 -- the first lines of what was read are those that are done
-text-more : (d : Dialect) (passes : Bool) (s0 : BookmarkedSession) (read more : List ℕ) (done : List ScriptLine) → AreWhole d passes read done → text d s0 (read ++ more) (length done) ≡ answers s0 done
+text-more : (d : Dialect) (p : Prompts) (passes : Bool) (s0 : BookmarkedSession) (read more : List ℕ) (done : List ScriptLine) → AreWhole d passes read done →
+    text d p s0 (read ++ more) (length done) ≡ answers p s0 done
 unfolding text
-text-more d passes s0 read more done w =
-    ap (λ l. answers s0 (take (length done) l)) (lines-more d passes read more done w) ∙ ap (λ l. answers s0 l) (take-append_seam done (lines d (onwards passes more)))
+text-more d p passes s0 read more done w =
+    ap (λ l. answers p s0 (take (length done) l)) (lines-more d passes read more done w) ∙ ap (λ l. answers p s0 l) (take-append_seam done (lines d (onwards passes more)))
 
 -- ---- what was read is what was taken, and the piece
 
@@ -162,37 +241,62 @@ then_line {b} {c} d read done line same w n = elim (in_dialect d same n) [
 ]
 
 -- a line that was given tells that the input was not at its end before
-pub still_whole : {d : Dialect} {start b : PlainInput} {old mid : PlainSink} {s0 s : BookmarkedSession} {count : ℕ} (f : IsSoFar d start b old mid s0 s count) →
+pub still_whole : {d : Dialect} {p : Prompts} {start b : PlainInput} {old mid : PlainSink} {s0 s : BookmarkedSession} {count : ℕ} {bad refused : Tally} (f : IsSoFar d p start b old mid s0 s count bad refused) →
     (AtEnd b.bytes → ⊥) → AreWhole d b.passes f.read f.done
 still_whole f never = elim f.lines_are [
   | inl w ↦ w
-  | inr p ↦ absurd (never p.1)
+  | inr x ↦ absurd (never x.1)
 ]
 
-module _ (d : Dialect) (start b c : PlainInput) (old mid new : PlainSink) (s0 s : BookmarkedSession) (count : ℕ) (fresh : start.bytes.unused ≡ []) (none_given : start.bytes.given ≡ 0) (f : IsSoFar d start b old mid s0 s count) where
-  pub progress : (line : ScriptLine) (t : BookmarkedSession) → AreWhole d b.passes f.read f.done → IsNext b c (Some line) → t ≡ after s line →
-      Appends mid.contents new.contents (answer s line) → new.failures ≡ mid.failures → IsSoFar d start c old new s0 t (count + 1)
-  progress line t w n is a same =
+-- fewer are counted than the next line's number
+pub few_bad : {d : Dialect} {p : Prompts} {start b : PlainInput} {old mid : PlainSink} {s0 s : BookmarkedSession} {count : ℕ} {bad refused : Tally} (f : IsSoFar d p start b old mid s0 s count bad refused) →
+    bad.count < count + 1
+few_bad f = omega (arith, ap (λ t. t.count) f.bad_is, marked-most (bad_marks f.done), length-bad f.done, f.count_is)
+
+pub few_refused : {d : Dialect} {p : Prompts} {start b : PlainInput} {old mid : PlainSink} {s0 s : BookmarkedSession} {count : ℕ} {bad refused : Tally} (f : IsSoFar d p start b old mid s0 s count bad refused) →
+    refused.count < count + 1
+few_refused {s0 = s0} f = omega (arith, ap (λ t. t.count) f.refused_is, marked-most (refused_marks s0 f.done), length-refused s0 f.done, f.count_is)
+
+-- a text whose front was written, within all that is to be written
+fits : (front a b answered prompt rest end all : List ℕ) → a ++ b ≡ answered ++ prompt → all ≡ front ++ (answered ++ (prompt ++ rest)) → (front ++ a) ++ (b ++ (rest ++ end)) ≡ all ++ end
+fits front a b answered prompt rest end all e is =
+    append_assoc front a (b ++ (rest ++ end))
+    ∙ ap (λ l. front ++ l) (sym (append_assoc a b (rest ++ end)) ∙ ap (λ l. l ++ (rest ++ end)) e ∙ append_assoc answered prompt (rest ++ end))
+    ∙ sym (ap (λ l. l ++ end) is ∙ append_assoc front (answered ++ (prompt ++ rest)) end
+    ∙ ap (λ l. front ++ l) (append_assoc answered (prompt ++ rest) end ∙ ap (λ l. answered ++ l) (append_assoc prompt rest end)))
+
+module _ (d : Dialect) (p : Prompts) (start b c : PlainInput) (old mid new : PlainSink) (s0 s : BookmarkedSession) (count : ℕ) (bad refused : Tally) (fresh : start.bytes.unused ≡ []) (none_given : start.bytes.given ≡ 0)
+    (f : IsSoFar d p start b old mid s0 s count bad refused) where
+  pub progress : (line : ScriptLine) (t : BookmarkedSession) (more_bad more_refused : Tally) → AreWhole d b.passes f.read f.done → IsNext b c (Some line) → t ≡ after s line →
+      Appends mid.contents new.contents (answer s line ++ prompt_text p t.session.current) → new.failures ≡ mid.failures →
+      more_bad ≡ with_mark bad (is_bad line) (count + 1) → more_refused ≡ with_mark refused (is_refusal (answer s line)) (count + 1) → IsSoFar d p start c old new s0 t (count + 1) more_bad more_refused
+  progress line t more_bad more_refused w n is a same is_bad_now is_refused_now =
       record {
         done = f.done ++ line ∷ [];
         read = f.read ++ n.0;
         took = Took-then f.took n.1;
         dialect_is = n.2 ∙ f.dialect_is;
         lines_are = elim (in_dialect d f.dialect_is n) [
-          | inl p ↦ inl (whole_then d b.passes c.passes f.read n.0 f.done line w p)
-          | inr p ↦ inr (last_then d b.passes f.read n.0 f.done line w p.0, p.1)
+          | inl x ↦ inl (whole_then d b.passes c.passes f.read n.0 f.done line w x)
+          | inr x ↦ inr (last_then d b.passes f.read n.0 f.done line w x.0, x.1)
         ];
         count_is = omega (arith, length-append f.done (line ∷ []), f.count_is);
         session_is = is ∙ ap (λ x. after x line) f.session_is ∙ sym (session_after-append s0 f.done line);
-        wrote = subst (λ l. Appends old.contents new.contents l) (ap (λ x. answers s0 f.done ++ answer x line) f.session_is ∙ sym (answers-one s0 f.done line))
-            (Appends-then old.contents mid.contents new.contents (answers s0 f.done) (answer s line) f.wrote a);
+        wrote = subst (λ l. Appends old.contents new.contents l)
+            (ap (λ x. answers p s0 f.done ++ (answer s line ++ prompt_text p x.session.current)) is
+            ∙ ap (λ x. answers p s0 f.done ++ (answer x line ++ prompt_text p (after x line).session.current)) f.session_is ∙ sym (answers-then p s0 f.done line []))
+            (Appends-then old.contents mid.contents new.contents (answers p s0 f.done) (answer s line ++ prompt_text p t.session.current) f.wrote a);
         writes = same ∙ f.writes;
+        bad_is = is_bad_now ∙ tally-next (bad_marks f.done) (is_bad line) bad (count + 1) f.bad_is (omega (arith, length-bad f.done, f.count_is)) ∙ ap tally_of (sym (bad-append f.done line));
+        refused_is = is_refused_now ∙ tally-next (refused_marks s0 f.done) (is_refusal (answer s line)) refused (count + 1) f.refused_is (omega (arith, length-refused s0 f.done, f.count_is))
+            ∙ ap tally_of (ap (λ x. refused_marks s0 f.done ++ is_refusal (answer x line) ∷ []) f.session_is ∙ sym (refused-append s0 f.done line));
       }
 
   pub finished : (plays : ℕ) → plays ≡ length s.session.rows → (IsEnded b.bytes → Took b.bytes c.bytes []) → IsNext b c None →
-      IsLeft d start.bytes.source c.bytes.source old mid s0 s (record { lines = count; plays = plays })
+      Appends mid.contents new.contents (end_text p) → new.failures ≡ mid.failures →
+      IsLeft d p start.bytes.source c.bytes.source old new s0 s (record { lines = count; plays = plays; bad = bad; refused = refused })
   unfolding out
-  finished plays p stays n =
+  finished plays q stays n a same =
       let o = over_now c d f.read f.done f.dialect_is f.lines_are stays n in
       let took = Took-then f.took o.took in
       record {
@@ -201,20 +305,48 @@ module _ (d : Dialect) (start b c : PlainInput) (old mid new : PlainSink) (s0 s 
           took = read_all start.bytes c.bytes (f.read ++ o.taken) fresh o.at_end.ended.1 took.passed;
           none_left = subst (λ a. IsAtEnd a) (plain_ahead c.bytes.unused c.bytes.source.remaining o.at_end.ended.1) o.at_end.none_left;
           ended = o.at_end.ended.0;
-          wrote = subst (λ l. Appends old.contents mid.contents (answers s0 l)) (sym o.lines_are) f.wrote;
+          wrote = subst (λ l. Appends old.contents new.contents (answers p s0 l ++ end_text p)) (sym o.lines_are)
+              (Appends-then old.contents mid.contents new.contents (answers p s0 f.done) (end_text p) f.wrote a);
           reads = took.steady;
-          writes = f.writes;
+          writes = same ∙ f.writes;
           lines_are = sym f.count_is ∙ ap (λ l. length l) (sym o.lines_are);
-          plays_are = p ∙ ap (λ m. length m.session.rows) (f.session_is ∙ ap (λ l. session_after s0 l) (sym o.lines_are));
+          plays_are = q ∙ ap (λ m. length m.session.rows) (f.session_is ∙ ap (λ l. session_after s0 l) (sym o.lines_are));
+          bad_are = f.bad_is ∙ ap (λ l. tally_of (bad_marks l)) (sym o.lines_are);
+          refused_are = f.refused_is ∙ ap (λ l. tally_of (refused_marks s0 l)) (sym o.lines_are);
         };
         left_is = f.session_is ∙ ap (λ l. session_after s0 l) (sym o.lines_are);
       }
 
+  -- the line of the last prompt was not ended
+  pub unfinished : (IsEnded b.bytes → Took b.bytes c.bytes []) → IsNext b c None → WroteFront mid.contents new.contents (end_text p) → new.failures ≡ one_more mid.failures →
+      IsStopped d p start.bytes.source c.bytes.source old new s0 run_faults.Write
+  unfolding out
+  unfinished stays n a t =
+      let o = over_now c d f.read f.done f.dialect_is f.lines_are stays n in
+      let took = Took-then f.took o.took in
+      record {
+        read = f.read ++ o.taken;
+        took = read_all start.bytes c.bytes (f.read ++ o.taken) fresh o.at_end.ended.1 took.passed;
+        because = t ∙ ap one_more f.writes;
+        wrote = (
+          answers p s0 f.done ++ a.0,
+          a.1,
+          Appends-then old.contents mid.contents new.contents (answers p s0 f.done) a.0 f.wrote a.2,
+          append_assoc (answers p s0 f.done) a.0 a.1 ∙ ap (λ l. answers p s0 f.done ++ l) a.3 ∙ ap (λ l. answers p s0 l ++ end_text p) (sym o.lines_are),
+        );
+      }
+
   -- the lines done are the first of all bytes that begin with those taken for them
-  text_at : (more all : List ℕ) (j : ℕ) → AreWhole d b.passes f.read f.done → all ≡ f.read ++ more → j ≡ count → Appends old.contents mid.contents (text d s0 all j)
+  text_at : (more all : List ℕ) (j : ℕ) → AreWhole d b.passes f.read f.done → all ≡ f.read ++ more → j ≡ count → Appends old.contents mid.contents (text d p s0 all j)
   text_at more all j w e k =
       subst (λ l. Appends old.contents mid.contents l)
-      (sym (ap (λ l. text d s0 l j) e ∙ ap (λ n. text d s0 (f.read ++ more) n) (k ∙ sym f.count_is) ∙ text-more d b.passes s0 f.read more f.done w)) f.wrote
+      (sym (ap (λ l. text d p s0 l j) e ∙ ap (λ n. text d p s0 (f.read ++ more) n) (k ∙ sym f.count_is) ∙ text-more d p b.passes s0 f.read more f.done w)) f.wrote
+
+  -- the same, before the line of the next number
+  text_then : (more all : List ℕ) → AreWhole d b.passes f.read f.done → all ≡ f.read ++ more → Appends old.contents mid.contents (text_before d p s0 all (count + 1))
+  text_then more all w e =
+      let next : suc count ≡ count + 1 = omega arith in
+      subst (λ k. Appends old.contents mid.contents (text_before d p s0 all k)) next (text_at more all count w e refl)
 
   -- none of the bytes behind the lines that are done makes a whole line
   none_more : (more : List ℕ) → AreWhole d b.passes f.read f.done → whole_lines b.dialect (onwards b.passes more) ≡ 0 → whole_lines d (f.read ++ more) ≡ count
@@ -223,14 +355,14 @@ module _ (d : Dialect) (start b c : PlainInput) (old mid new : PlainSink) (s0 s 
       omega (arith, whole_lines-more d b.passes f.read more f.done w, none, f.count_is)
 
   abbrev pub StoppedHere : LineFault → Type 0
-  StoppedHere e = IsStopped d start.bytes.source c.bytes.source old mid s0 (run_fault e (count + 1))
+  StoppedHere e = IsStopped d p start.bytes.source c.bytes.source old mid s0 (run_fault e (count + 1))
 
   pub fault_now : (fault : LineFault) → AreWhole d b.passes f.read f.done → IsFault b c fault → StoppedHere fault
   fault_now faults.Memory w n = record {
     read = (f.read ++ n.0) ++ c.bytes.unused;
     took = read_of start.bytes c.bytes (f.read ++ n.0) fresh (Took-broke f.took n.1).passed;
     because = tt;
-    wrote = text_at (n.0 ++ c.bytes.unused) ((f.read ++ n.0) ++ c.bytes.unused) (count + 1 - 1) w (append_assoc f.read n.0 c.bytes.unused) (omega arith);
+    wrote = text_then (n.0 ++ c.bytes.unused) ((f.read ++ n.0) ++ c.bytes.unused) w (append_assoc f.read n.0 c.bytes.unused);
   }
   fault_now faults.Read w n =
       let both = Took-broke f.took n.1 in
@@ -258,35 +390,46 @@ module _ (d : Dialect) (start b c : PlainInput) (old mid new : PlainSink) (s0 s 
     read = (f.read ++ n.0) ++ c.bytes.unused;
     took = read_of start.bytes c.bytes (f.read ++ n.0) fresh (Took-then f.took n.1).passed;
     because = tt;
-    wrote = text_at (n.0 ++ c.bytes.unused) ((f.read ++ n.0) ++ c.bytes.unused) (count + 1 - 1) w (append_assoc f.read n.0 c.bytes.unused) (omega arith);
+    wrote = text_then (n.0 ++ c.bytes.unused) ((f.read ++ n.0) ++ c.bytes.unused) w (append_assoc f.read n.0 c.bytes.unused);
   }
 
-  pub front_now : (line : ScriptLine) → AreWhole d b.passes f.read f.done → IsNext b c (Some line) → WroteFront mid.contents new.contents (answer s line) → new.failures ≡ one_more mid.failures →
-      IsStopped d start.bytes.source c.bytes.source old new s0 run_faults.Write
+  pub front_now : (line : ScriptLine) (t : BookmarkedSession) → AreWhole d b.passes f.read f.done → IsNext b c (Some line) → t ≡ after s line →
+      WroteFront mid.contents new.contents (answer s line ++ prompt_text p t.session.current) → new.failures ≡ one_more mid.failures → IsStopped d p start.bytes.source c.bytes.source old new s0 run_faults.Write
   unfolding out
-  front_now line w n a t =
+  front_now line t w n is a q =
       let r = then_line d f.read f.done line f.dialect_is w n in
-      let e : answers s0 (lines d ((f.read ++ n.0) ++ c.bytes.unused)) ≡ answers s0 f.done ++ (answer s line ++ answers (after s line) r.0) =
-      ap (λ l. answers s0 l) r.1 ∙ answers-append s0 f.done (line ∷ r.0)
-      ∙ ap (λ x. answers s0 f.done ++ (answer x line ++ answers (after x line) r.0)) (sym f.session_is) in
+      let rest = answers-begin p (after s line) r.0 in
+      let all : answers p s0 (lines d ((f.read ++ n.0) ++ c.bytes.unused)) ≡ answers p s0 f.done ++ (answer s line ++ (prompt_text p (after s line).session.current ++ rest.0)) =
+      ap (λ l. answers p s0 l) r.1 ∙ answers-then p s0 f.done line r.0
+      ∙ ap (λ x. answers p s0 f.done ++ (answer x line ++ answers p (after x line) r.0)) (sym f.session_is)
+      ∙ ap (λ l. answers p s0 f.done ++ (answer s line ++ l)) rest.1 in
       record {
         read = (f.read ++ n.0) ++ c.bytes.unused;
         took = read_of start.bytes c.bytes (f.read ++ n.0) fresh (Took-then f.took n.1).passed;
-        because = t ∙ ap one_more f.writes;
+        because = q ∙ ap one_more f.writes;
         wrote = (
-          answers s0 f.done ++ a.0,
-          a.1 ++ answers (after s line) r.0,
-          Appends-then old.contents mid.contents new.contents (answers s0 f.done) a.0 f.wrote a.2,
-          append_assoc (answers s0 f.done) a.0 (a.1 ++ answers (after s line) r.0)
-              ∙ ap (λ l. answers s0 f.done ++ l) (sym (append_assoc a.0 a.1 (answers (after s line) r.0)) ∙ ap (λ l. l ++ answers (after s line) r.0) a.3)
-              ∙ sym e,
+          answers p s0 f.done ++ a.0,
+          a.1 ++ (rest.0 ++ end_text p),
+          Appends-then old.contents mid.contents new.contents (answers p s0 f.done) a.0 f.wrote a.2,
+          fits (answers p s0 f.done) a.0 a.1 (answer s line) (prompt_text p (after s line).session.current) rest.0 (end_text p) (answers p s0 (lines d ((f.read ++ n.0) ++ c.bytes.unused)))
+              (a.3 ∙ ap (λ x. answer s line ++ prompt_text p x.session.current) is) all,
         );
       }
 
 -- a run that never began
-pub nothing_read : (d : Dialect) (reader : Told) (sink : PlainSink) (start : BookmarkedSession) → IsStopped d reader reader sink sink start (run_faults.Memory 0)
-unfolding text
-nothing_read d reader sink start = record { read = []; took = keep_all reader.remaining; because = tt; wrote = Appends-none sink.contents }
+pub nothing_read : (d : Dialect) (p : Prompts) (reader : Told) (sink : PlainSink) (start : BookmarkedSession) → IsStopped d p reader reader sink sink start (run_faults.Memory 0)
+nothing_read d p reader sink start = record { read = []; took = keep_all reader.remaining; because = tt; wrote = Appends-none sink.contents }
+
+-- a run whose first prompt was not written
+pub nothing_asked : (d : Dialect) (p : Prompts) (reader : Told) (old new : PlainSink) (start : BookmarkedSession) → WroteFront old.contents new.contents (prompt_text p start.session.current) → new.failures ≡ one_more old.failures →
+    IsStopped d p reader reader old new start run_faults.Write
+unfolding out lines cuts
+nothing_asked d p reader old new start a t = record {
+  read = [];
+  took = keep_all reader.remaining;
+  because = t;
+  wrote = (a.0, a.1 ++ end_text p, a.2, sym (append_assoc a.0 a.1 (end_text p)) ∙ ap (λ l. l ++ end_text p) a.3);
+}
 
 -- ---- a run on a reader that is lent: it tells the same, but for which reader it is
 
@@ -296,7 +439,7 @@ because_told run_faults.Read read a b n m old new p = p
 because_told run_faults.Write read a b n m old new p = p
 because_told run_faults.TooLong read a b n m old new p = p
 
-abbrev done_told : {d : Dialect} {old new : PlainSink} {start : BookmarkedSession} {sum : Summary} (a b : Told) (n m : ℕ) → IsDone d (told_by a n) (told_by b m) old new start sum → IsDone d a b old new start sum
+abbrev done_told : {d : Dialect} {p : Prompts} {old new : PlainSink} {start : BookmarkedSession} {sum : Summary} (a b : Told) (n m : ℕ) → IsDone d p (told_by a n) (told_by b m) old new start sum → IsDone d p a b old new start sum
 done_told a b n m x = record {
   read = x.read;
   took = x.took;
@@ -307,11 +450,13 @@ done_told a b n m x = record {
   writes = x.writes;
   lines_are = x.lines_are;
   plays_are = x.plays_are;
+  bad_are = x.bad_are;
+  refused_are = x.refused_are;
 }
 
-pub left_told : {d : Dialect} {old new : PlainSink} {start left : BookmarkedSession} {sum : Summary} (a b : Told) (n m : ℕ) → IsLeft d (told_by a n) (told_by b m) old new start left sum →
-    IsLeft d a b old new start left sum
+pub left_told : {d : Dialect} {p : Prompts} {old new : PlainSink} {start left : BookmarkedSession} {sum : Summary} (a b : Told) (n m : ℕ) → IsLeft d p (told_by a n) (told_by b m) old new start left sum →
+    IsLeft d p a b old new start left sum
 left_told a b n m x = record { done = done_told a b n m x.done; left_is = x.left_is }
 
-pub stopped_told : {d : Dialect} {old new : PlainSink} {start : BookmarkedSession} {e : RunFault} (a b : Told) (n m : ℕ) → IsStopped d (told_by a n) (told_by b m) old new start e → IsStopped d a b old new start e
+pub stopped_told : {d : Dialect} {p : Prompts} {old new : PlainSink} {start : BookmarkedSession} {e : RunFault} (a b : Told) (n m : ℕ) → IsStopped d p (told_by a n) (told_by b m) old new start e → IsStopped d p a b old new start e
 stopped_told {e = e} a b n m x = record { read = x.read; took = x.took; because = because_told e x.read a b n m _ _ x.because; wrote = x.wrote }

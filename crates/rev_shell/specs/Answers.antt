@@ -29,6 +29,7 @@ use Rattle.rev_explain.specs.Clocks.{node_by}
 use Rattle.rev_shell.specs.Reasons.{events_text, why_text}
 use Rattle.rev_shell.specs.Views.{departures_text, step_text, time_text, after_time}
 use Rattle.rev_shell.specs.Classes.{classes_text}
+use Rattle.rev_shell.specs.Help.{help_text, help_on_text}
 use Rattle.rev_shell.specs.declared.play.Reply.{Reply}
 use Rattle.rev_shell.specs.declared.play.Reply.TheVariants.{Played, TooManyNodes, TooDeep}
 
@@ -148,6 +149,7 @@ debug_text d (debugs.Gone limit) = departures_text (last_of limit (departures d.
 debug_text d (debugs.Step n) = step_text d.session n (row_of d.session.rows n)
 debug_text d (debugs.Time t) = time_text d.session (node_by d.session.root d.session.rows d.session.current t)
 debug_text d debugs.Classes = classes_text (state_of d.session)
+debug_text d debugs.Help = help_text
 
 -- the session after it
 abbrev pub after_debug : SessionState → DebugCommand → SessionState
@@ -167,6 +169,7 @@ after_debug m (debugs.Gone limit) = m
 after_debug m (debugs.Step n) = m
 after_debug m (debugs.Time t) = after_time m (node_by m.root m.rows m.current t)
 after_debug m debugs.Classes = m
+after_debug m debugs.Help = m
 
 -- what is asked of a key at the current node
 abbrev pub query_text : SessionState → KeyQuery → List ℕ → List ℕ
@@ -175,15 +178,17 @@ query_text m queries.Chunk k = place_text (find (state_of m) k)
 query_text m queries.Why k = why_text (why_of m.root m.rows m.current k)
 query_text m queries.Story k = events_text (story m.root m.rows m.current k)
 
--- what is answered to a line of bookmarks
+-- what is answered to a line about a name
 abbrev pub bookmark_text : BookmarkedSession → BookmarkCommand → List ℕ → List ℕ
 bookmark_text d bookmarks.Mark name = bookmarked_text name d.session.current
 bookmark_text d bookmarks.Goto name = goto_text d.session (bookmarked d.bookmarks name)
+bookmark_text d bookmarks.Help name = help_on_text name
 
 -- the session after it
 abbrev pub after_bookmark : BookmarkedSession → BookmarkCommand → List ℕ → BookmarkedSession
 after_bookmark d bookmarks.Mark name = with_bookmarks d.session (with_bookmark d.bookmarks name d.session.current)
 after_bookmark d bookmarks.Goto name = with_bookmarks (gone_by d.session (bookmarked d.bookmarks name)) d.bookmarks
+after_bookmark d bookmarks.Help name = d
 
 -- ---- a line
 

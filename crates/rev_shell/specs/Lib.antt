@@ -12,3 +12,4 @@ pub mod Start
 pub mod Kept
 pub mod Views
 pub mod Classes
+pub mod Help

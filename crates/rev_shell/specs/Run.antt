@@ -1,12 +1,13 @@
 -- What a run writes, as a function of the bytes read.
--- Rule of this project: old scripts give old bytes, whatever the pieces in which they arrive; and what was written
--- at each fault.
-use Rattle.std.specs.Prelude.{◌≡◌, ◌<◌, ◌-◌, ℕ, List, [], ◌∷◌, ◌++◌, length, take, Option}
+-- Rule of this project: old scripts give old bytes, whatever the pieces in which they arrive; what was written at each
+-- fault; which lines are counted; and the prompts of a session that is typed.
+use Rattle.std.specs.Prelude.{◌≡◌, ◌<◌, ◌+◌, ℕ, zero, suc, Bool, true, false, cond, nat_eq, ◌||◌, eqb, List, [], ◌∷◌, ◌++◌, length, take, map, codes, decimal, Option}
+use Rattle.std.specs.List.{ends_with}
 use Rattle.std.specs.Io.KnownBytes.{Consumes, Appends, IsAtEnd}
 use Rattle.rev_classes.specs.declared.Config.{Config}
 use Rattle.rev_inverse.specs.Empty.{empty_state}
 use Rattle.rev_undotree.specs.Positions.{SessionState}
-use Rattle.rev_script.specs.Script.{ScriptLine, lines, whole_lines}
+use Rattle.rev_script.specs.Script.{ScriptLine, BadLine, lines, whole_lines}
 use Rattle.rev_script.specs.Source.{Told, one_more}
 use Rattle.rev_script.specs.declared.dialect.Dialect.{Dialect}
 use Rattle.rev_script.specs.declared.byte_reader.LineFault.{LineFault}
@@ -15,7 +16,11 @@ use Rattle.rev_script.specs.declared.source.LastRead.TheVariants.{Failed, Ended}
 use Rattle.rev_output.specs.Sink.{WroteFront, PlainSink}
 use Rattle.rev_output.specs.Sink as sink
 use Rattle.rev_shell.specs.Answers.{BookmarkedSession, with_bookmarks, after, answer}
+use Rattle.rev_shell.specs.Texts.{output}
+use Rattle.rev_shell.specs.declared.run.Tally.{Tally}
 use Rattle.rev_shell.specs.declared.run.Summary.{Summary}
+use Rattle.rev_shell.specs.declared.run.Prompts.{Prompts}
+use Rattle.rev_shell.specs.declared.run.Prompts.TheVariants.{Shown, Hidden}
 use Rattle.rev_shell.specs.declared.run.RunFault.{RunFault}
 use Rattle.rev_shell.specs.declared.run.RunFault.TheVariants.{Memory, Read, Write, TooLong}
 
@@ -31,10 +36,25 @@ without_bookmarks m = with_bookmarks m []
 abbrev pub initial : Config → BookmarkedSession
 initial config = without_bookmarks (opened config)
 
--- the answers of the lines, from a session on, one after another
-abbrev pub answers : BookmarkedSession → List ScriptLine → List ℕ
-answers m [] = []
-answers m (l ∷ ls) = answer m l ++ answers (after m l) ls
+-- ---- prompts
+
+-- the prompt at a node, where prompts are shown
+abbrev pub prompt_text : Prompts → ℕ → List ℕ
+prompt_text Shown node = codes "lrudb " ++ decimal node ++ codes "> "
+prompt_text Hidden node = []
+
+-- what ends the line of the last prompt
+abbrev pub end_text : Prompts → List ℕ
+end_text Shown = output []
+end_text Hidden = []
+
+-- ---- answers
+
+-- what is written of the lines, from a session on: where prompts are shown one before each line, and one behind the last; and
+-- each line's answer
+abbrev pub answers : Prompts → BookmarkedSession → List ScriptLine → List ℕ
+answers p m [] = prompt_text p m.session.current
+answers p m (l ∷ ls) = prompt_text p m.session.current ++ (answer m l ++ answers p (after m l) ls)
 
 -- the session after the lines
 abbrev pub session_after : BookmarkedSession → List ScriptLine → BookmarkedSession
@@ -42,21 +62,66 @@ session_after m [] = m
 session_after m (l ∷ ls) = session_after (after m l) ls
 
 -- what a run writes for these bytes, in a dialect and from a session on
-unfoldable pub out : Dialect → BookmarkedSession → List ℕ → List ℕ
-out d m bytes = answers m (lines d bytes)
+unfoldable pub out : Dialect → Prompts → BookmarkedSession → List ℕ → List ℕ
+out d p m bytes = answers p m (lines d bytes) ++ end_text p
 
--- the answer of the first j lines
-unfoldable pub text : Dialect → BookmarkedSession → List ℕ → ℕ → List ℕ
-text d m bytes j = answers m (take j (lines d bytes))
+-- what is written of the first j lines
+unfoldable pub text : Dialect → Prompts → BookmarkedSession → List ℕ → ℕ → List ℕ
+text d p m bytes j = answers p m (take j (lines d bytes))
+
+-- what is written before this line, counted from 1; line 0 is the session, before which nothing is
+abbrev pub text_before : Dialect → Prompts → BookmarkedSession → List ℕ → ℕ → List ℕ
+text_before d p m bytes zero = []
+text_before d p m bytes (suc j) = text d p m bytes j
+
+-- ---- lines that are counted
+
+-- the line is malformed
+abbrev pub is_bad : ScriptLine → Bool
+is_bad (BadLine a) = true
+is_bad _ = false
+
+-- the answer ends with a refusal of the tree
+abbrev pub is_refusal : List ℕ → Bool
+is_refusal text = ends_with eqb text (output (codes "SERVER_ERROR too many nodes")) || ends_with eqb text (output (codes "SERVER_ERROR too many nested forks"))
+
+-- of each line whether it is malformed
+abbrev pub bad_marks : List ScriptLine → List Bool
+bad_marks ls = map is_bad ls
+
+-- of each line, from a session on, whether the tree had no room for a step of it
+abbrev pub refused_marks : BookmarkedSession → List ScriptLine → List Bool
+refused_marks m [] = []
+refused_marks m (l ∷ ls) = is_refusal (answer m l) ∷ refused_marks (after m l) ls
+
+-- the number of the first mark, where the marks are numbered from this one on; 0 where there is none
+abbrev pub first_mark : ℕ → List Bool → ℕ
+first_mark n [] = 0
+first_mark n (b ∷ bs) = cond b n (first_mark (suc n) bs)
+
+-- how many are marked
+abbrev pub marked : List Bool → ℕ
+marked [] = 0
+marked (b ∷ bs) = cond b (suc (marked bs)) (marked bs)
+
+-- how many are marked, and the number of the first, from 1
+abbrev pub tally_of : List Bool → Tally
+tally_of marks = record { count = marked marks; first = first_mark 1 marks }
+
+-- a tally with the next one, which has this number and may be marked
+abbrev pub with_mark : Tally → Bool → ℕ → Tally
+with_mark t marked number = cond marked (record { count = t.count + 1; first = cond (nat_eq t.count 0) number t.first }) t
+
+-- ---- ends
 
 -- what was written at a fault, where these bytes were read: where memory was wanted, the answers of the lines before;
 -- where a read failed or the script was too long, the answers of the lines that lie whole in the bytes (in those that
 -- a script may have); where a write failed, a front of all answers
-abbrev pub Wrote : RunFault → Dialect → BookmarkedSession → List ℕ → Option (List ℕ) → Option (List ℕ) → Type 0
-Wrote (Memory line) d m read old new = Appends old new (text d m read (line - 1))
-Wrote Read d m read old new = Appends old new (text d m read (whole_lines d read))
-Wrote TooLong d m read old new = Appends old new (text d m read (whole_lines d (take 4294967296 read)))
-Wrote Write d m read old new = WroteFront old new (out d m read)
+abbrev pub Wrote : RunFault → Dialect → Prompts → BookmarkedSession → List ℕ → Option (List ℕ) → Option (List ℕ) → Type 0
+Wrote (Memory line) d p m read old new = Appends old new (text_before d p m read line)
+Wrote Read d p m read old new = Appends old new (text d p m read (whole_lines d read))
+Wrote TooLong d p m read old new = Appends old new (text d p m read (whole_lines d (take 4294967296 read)))
+Wrote Write d p m read old new = WroteFront old new (out d p m read)
 
 -- why a run stopped: one of its reads failed, the last; more bytes were read than may be; one of its writes failed, the last
 abbrev pub Because : RunFault → List ℕ → Told → Told → PlainSink → PlainSink → Type 0
@@ -66,28 +131,30 @@ Because TooLong read reader_old reader_new old new = 4294967296 < length read
 Because Write read reader_old reader_new old new = new.failures ≡ sink.one_more old.failures
 
 -- at the end: all was read (the last read, with room, gave none), and the answers of all its lines were written; nothing failed
-pub record IsDone (d : Dialect) (reader_old reader_new : Told) (old new : PlainSink) (start : BookmarkedSession) (sum : Summary) : Type 0 where
+pub record IsDone (d : Dialect) (p : Prompts) (reader_old reader_new : Told) (old new : PlainSink) (start : BookmarkedSession) (sum : Summary) : Type 0 where
   pub read : List ℕ
   pub took : Consumes reader_old.remaining reader_new.remaining read
   pub none_left : IsAtEnd reader_new.remaining
   pub ended : reader_new.last ≡ Ended
-  pub wrote : Appends old.contents new.contents (out d start read)
+  pub wrote : Appends old.contents new.contents (out d p start read)
   pub reads : reader_new.failures ≡ reader_old.failures
   pub writes : new.failures ≡ old.failures
   pub lines_are : sum.lines ≡ length (lines d read)
   pub plays_are : sum.plays ≡ length (session_after start (lines d read)).session.rows
+  pub bad_are : sum.bad ≡ tally_of (bad_marks (lines d read))
+  pub refused_are : sum.refused ≡ tally_of (refused_marks start (lines d read))
 
 -- the same, and what the lines were done on is as they leave it
-pub record IsLeft (d : Dialect) (reader_old reader_new : Told) (old new : PlainSink) (start left : BookmarkedSession) (sum : Summary) : Type 0 where
-  pub done : IsDone d reader_old reader_new old new start sum
+pub record IsLeft (d : Dialect) (p : Prompts) (reader_old reader_new : Told) (old new : PlainSink) (start left : BookmarkedSession) (sum : Summary) : Type 0 where
+  pub done : IsDone d p reader_old reader_new old new start sum
   pub left_is : left ≡ session_after start (lines d done.read)
 
 -- at a fault: these bytes were read, and these answers of theirs written
-pub record IsStopped (d : Dialect) (reader_old reader_new : Told) (old new : PlainSink) (start : BookmarkedSession) (e : RunFault) : Type 0 where
+pub record IsStopped (d : Dialect) (p : Prompts) (reader_old reader_new : Told) (old new : PlainSink) (start : BookmarkedSession) (e : RunFault) : Type 0 where
   pub read : List ℕ
   pub took : Consumes reader_old.remaining reader_new.remaining read
   pub because : Because e read reader_old reader_new old new
-  pub wrote : Wrote e d start read old.contents new.contents
+  pub wrote : Wrote e d p start read old.contents new.contents
 
 -- a reader's fault at a line, as one of the run
 abbrev pub run_fault : LineFault → ℕ → RunFault

@@ -6,6 +6,7 @@ ghost use Rattle.rev_shell.specs.Answers.{with_bookmarks, answer, after, debug_t
 
 use crate::bookmarks::{Bookmarks, put_bookmark_line};
 use crate::classes::put_classes;
+use crate::help::{put_help, put_help_on};
 use crate::play::{play_line, put_values};
 use crate::reasons::{put_story, put_why};
 use crate::show::{
@@ -89,6 +90,7 @@ fn put_debug<A: Allocator + Clone>(
         DebugCommand::Step(number) => put_step(session, NodeId(number), out),
         DebugCommand::Time(time) => put_time(session, time, out),
         DebugCommand::Classes => put_classes(session.store(), out),
+        DebugCommand::Help => put_help(out),
     }
 }
 
@@ -140,7 +142,7 @@ fn put_goto<A: Allocator + Clone>(
     }
 }
 
-// A command about a bookmark.
+// A command about a name.
 fn put_bookmark<A: Allocator + Clone>(
     session: &mut Session<A>,
     bookmarks: &mut Bookmarks<'_, A>,
@@ -154,6 +156,7 @@ fn put_bookmark<A: Allocator + Clone>(
     match command {
         BookmarkCommand::Mark => put_bookmarked(session, bookmarks, name, out),
         BookmarkCommand::Goto => put_goto(session, bookmarks, name.as_slice(), out),
+        BookmarkCommand::Help => put_help_on(out, name.as_slice()),
     }
 }
 

@@ -4,6 +4,7 @@
 mod answer;
 pub mod bookmarks;
 mod classes;
+mod help;
 mod play;
 pub mod quiet;
 mod reasons;

@@ -1,35 +1,59 @@
 //! A script from a reader, its answers to a writer.
-ghost use Rattle.std.specs.Prelude.{◌≡◌, ℕ, List, IfOk, IfErr, IfSome, OnOk};
+ghost use Rattle.std.specs.Prelude.{◌≡◌, ◌++◌, ◌<◌, ℕ, List, IfOk, IfErr, IfSome, OnOk, OnErr};
+ghost use Rattle.std.specs.Io.KnownBytes.{Appends};
 ghost use Rattle.rev_classes.specs.Limits.{IsWithinLimits};
 ghost use Rattle.rev_script.specs.Lines.{IsFirst};
 ghost use Rattle.rev_script.specs.Line.{view};
-ghost use Rattle.rev_output.specs.Sink.{sink_at};
-ghost use Rattle.rev_shell.specs.Run.{IsDone, IsLeft, IsStopped, run_fault, opened, without_bookmarks, initial};
+ghost use Rattle.rev_output.specs.Sink.{sink_at, WroteFront, one_more};
+ghost use Rattle.rev_shell.specs.Run.{IsDone, IsLeft, IsStopped, run_fault, opened, without_bookmarks, initial, is_bad, is_refusal, with_mark, prompt_text, end_text};
+ghost use Rattle.rev_shell.specs.declared.run.Prompts.TheVariants.{Hidden};
 ghost use Rattle.rev_shell.specs.Answers.{with_bookmarks, answer, after};
 
 use crate::answer::put_answer;
 use crate::bookmarks::Bookmarks;
+use crate::text::put_field;
 use rev_classes::Config;
 use rev_inverse::Store;
-use rev_output::{Sink, write_all};
+use rev_output::{Sink, WriteFailed, write_all};
 use rev_script::byte_reader::LineFault;
 use rev_script::dialect::Dialect;
 use rev_script::line::Line;
 use rev_script::lines::Lines;
 use rev_script::source::Source;
-use rev_undotree::Session;
+use rev_undotree::{NodeId, Session};
 use std::alloc::{AllocError, Allocator};
 use std::mem::ManuallyDrop;
 use thiserror::Error;
 
+/// How many of some commands there were, and the number of the first, counted from 1; 0 where there was none.
+#[derive(Clone, Copy, Debug, PartialEq, Eq)]
+pub struct Tally {
+    pub count: u64,
+    pub first: u64,
+}
+
 /// What a run did that read all of its input.
 #[derive(Clone, Copy, Debug, PartialEq, Eq)]
 pub struct Summary {
-    /// Command lines, malformed ones too.
+    /// Commands, malformed ones too. A command is a line of the script, with the data block behind it.
     pub lines: u64,
     /// Steps that were played and not refused.
     pub plays: u64,
+    /// Malformed commands.
+    pub bad: Tally,
+    /// Commands with a step that the tree had no room for.
+    pub refused: Tally,
 }
+
+/// Whether a person is asked for each line, by a prompt with the current node.
+#[derive(Clone, Copy, Debug, PartialEq, Eq)]
+pub enum Prompts {
+    Shown,
+    Hidden,
+}
+
+/// The tally of no command.
+pub const NONE: Tally = Tally { count: 0, first: 0 };
 
 /// Why a run ended before its input.
 #[derive(Clone, Copy, Debug, PartialEq, Eq, Drop, Error)]
@@ -57,22 +81,142 @@ pub fn fault_at(fault: LineFault, line: u64) -> RunFault
     }
 }
 
-/// Does what a line asks for; the answer is then in `text` and nothing else. At an error the text is of no use.
+/// Whether a line is malformed.
+#[inline(always)]
+pub fn is_bad<A: Allocator>(line: &Line<A>) -> bool
+    ensures { result ≡ is_bad (view line.now) }
+{
+    match line {
+        Line::Bad { .. } => true,
+        Line::Client(_) => false,
+        Line::Actor(_) => false,
+        Line::Tune(_) => false,
+        Line::Debug(_) => false,
+    }
+}
+
+// Whether an answer ends with a refusal of the tree.
+fn ends_refused(text: &[u8]) -> bool
+    ensures { result ≡ is_refusal text.now }
+{
+    text.ends_with(b"SERVER_ERROR too many nodes\r\n")
+        || text.ends_with(b"SERVER_ERROR too many nested forks\r\n")
+}
+
+// The same. (The last letter of either refusal is an `s`, and that of hardly any other answer.)
+#[inline(always)]
+fn is_refusal(text: &[u8]) -> bool
+    ensures { result ≡ is_refusal text.now }
+{
+    let size = text.len();
+    if size < 3 {
+        return false;
+    }
+    if text[size - 3] != b's' {
+        return false;
+    }
+    ends_refused(text)
+}
+
+/// A command more is counted, where it is one of those, with its number.
+#[inline(always)]
+pub fn with_mark(tally: Tally, is_one: bool, number: u64) -> Tally
+    requires { tally.count < number }
+    ensures { result ≡ with_mark tally is_one number }
+{
+    if !is_one {
+        return tally;
+    }
+    let first = if tally.count == 0 {
+        number
+    } else {
+        tally.first
+    };
+    Tally {
+        count: tally.count + 1,
+        first,
+    }
+}
+
+// Writes the prompt at a node behind a text, if there is one.
+fn put_prompt<A: Allocator>(
+    prompts: Prompts,
+    node: NodeId,
+    text: &mut Vec<u8, A>,
+) -> Result<(), AllocError>
+    ensures { OnOk result (text.new.items ≡ text.old.items ++ prompt_text prompts node.0) }
+{
+    match prompts {
+        Prompts::Hidden => Ok(()),
+        Prompts::Shown => {
+            put_field(text, b"lrudb ", node.0 as u64)?;
+            text.extend_from_slice(b"> ")
+        }
+    }
+}
+
+/// Does what a line asks for; the answer, and the prompt for the next line, are then in `text` and nothing else. Answers
+/// whether the tree refused a step of the line. At an error the text is of no use.
 pub fn answer_line<A: Allocator + Clone>(
+    prompts: Prompts,
     session: &mut Session<A>,
     bookmarks: &mut Bookmarks<'_, A>,
     line: Line<A>,
     text: &mut Vec<u8, A>,
-) -> Result<(), AllocError>
-    ensures text { OnOk result (text.new.items ≡ answer (with_bookmarks session.old bookmarks.old) (view line)) }
+) -> Result<bool, AllocError>
+    ensures text { OnOk result (text.new.items ≡ answer (with_bookmarks session.old bookmarks.old) (view line) ++ prompt_text prompts session.new.current) }
     ensures state { OnOk result (with_bookmarks session.new bookmarks.new ≡ after (with_bookmarks session.old bookmarks.old) (view line)) }
+    ensures refused { IfOk result (λ refused. refused ≡ is_refusal (answer (with_bookmarks session.old bookmarks.old) (view line))) }
 {
     text.clear();
-    put_answer(session, bookmarks, line, text)
+    put_answer(session, bookmarks, line, text)?;
+    let refused = is_refusal(text.as_slice());
+    put_prompt(prompts, session.current(), text)?;
+    Ok(refused)
+}
+
+// The prompt at a node, if there is one, is then in `text` and nothing else.
+fn first_prompt<A: Allocator>(
+    prompts: Prompts,
+    node: NodeId,
+    text: &mut Vec<u8, A>,
+) -> Result<(), AllocError>
+    ensures { OnOk result (text.new.items ≡ prompt_text prompts node.0) }
+{
+    text.clear();
+    put_prompt(prompts, node, text)
+}
+
+// What is written where the input has ended.
+fn end_text(prompts: Prompts) -> &'static [u8]
+    ensures { result.now ≡ end_text prompts }
+{
+    match prompts {
+        Prompts::Hidden => b"",
+        Prompts::Shown => b"\r\n",
+    }
+}
+
+// Writes the bytes, as `write_all` does, where there are some.
+fn write_some<K: Sink>(sink: &mut K, text: &[u8]) -> Result<(), WriteFailed>
+    ensures ok { OnOk result (Appends (K.contents sink.old) (K.contents sink.new) text.now
+        × (K.failures sink.new ≡ K.failures sink.old)) }
+    ensures err { OnErr result (WroteFront (K.contents sink.old) (K.contents sink.new) text.now
+        × (K.failures sink.new ≡ one_more (K.failures sink.old))) }
+{
+    if text.is_empty() {
+        return Ok(());
+    }
+    match write_all(sink, text) {
+        Err(e) => Err(e),
+        Ok(()) => Ok(()),
+    }
 }
 
 /// Plays the lines, from the first on, and writes each answer once its line is done. `text` holds one answer at a time.
+/// Where prompts are shown, one is written before each line is read, and the line of the last is ended.
 pub fn run_lines<S: Source, K: Sink, A: Allocator + Clone>(
+    prompts: Prompts,
     lines: &mut Lines<S, A>,
     session: &mut Session<A>,
     bookmarks: &mut Bookmarks<'_, A>,
@@ -80,15 +224,25 @@ pub fn run_lines<S: Source, K: Sink, A: Allocator + Clone>(
     sink: &mut K,
 ) -> Result<Summary, RunFault>
     requires { IsFirst lines.old }
-    ensures ok { IfOk result (λ sum. IsLeft lines.old.input.dialect lines.old.input.bytes.source lines.new.input.bytes.source
+    ensures ok { IfOk result (λ sum. IsLeft lines.old.input.dialect prompts lines.old.input.bytes.source lines.new.input.bytes.source
         (sink_at (K.contents sink.old) (K.failures sink.old)) (sink_at (K.contents sink.new) (K.failures sink.new))
         (with_bookmarks session.old bookmarks.old) (with_bookmarks session.new bookmarks.new) sum) }
-    ensures err { IfErr result (λ e. IsStopped lines.old.input.dialect lines.old.input.bytes.source lines.new.input.bytes.source
+    ensures err { IfErr result (λ e. IsStopped lines.old.input.dialect prompts lines.old.input.bytes.source lines.new.input.bytes.source
         (sink_at (K.contents sink.old) (K.failures sink.old)) (sink_at (K.contents sink.new) (K.failures sink.new))
         (with_bookmarks session.old bookmarks.old) e) }
     ensures same { lines.new.input.bytes.source.identity ≡ lines.old.input.bytes.source.identity }
 {
+    match first_prompt(prompts, session.current(), text) {
+        Err(_) => return Err(RunFault::Memory { line: 0 }),
+        Ok(()) => {}
+    }
+    match write_some(sink, text.as_slice()) {
+        Err(_) => return Err(RunFault::Write),
+        Ok(()) => {}
+    }
     let mut count: u64 = 0;
+    let mut bad = NONE;
+    let mut refused = NONE;
     'lines: loop {
         let next = match lines.next() {
             Err(fault) => return Err(fault_at(fault, count + 1)),
@@ -96,22 +250,31 @@ pub fn run_lines<S: Source, K: Sink, A: Allocator + Clone>(
         };
         let line = match next {
             None => {
+                match write_some(sink, end_text(prompts)) {
+                    Err(_) => return Err(RunFault::Write),
+                    Ok(()) => {}
+                }
                 return Ok(Summary {
                     lines: count,
                     plays: session.issued() as u64,
+                    bad,
+                    refused,
                 });
             }
             Some(line) => line,
         };
-        match answer_line(session, bookmarks, line, text) {
+        let is_bad = is_bad(&line);
+        let is_refused = match answer_line(prompts, session, bookmarks, line, text) {
             Err(_) => return Err(RunFault::Memory { line: count + 1 }),
-            Ok(()) => {}
-        }
+            Ok(refused) => refused,
+        };
         match write_all(sink, text.as_slice()) {
             Err(_) => return Err(RunFault::Write),
             Ok(()) => {}
         }
         count += 1;
+        bad = with_mark(bad, is_bad, count);
+        refused = with_mark(refused, is_refused, count);
     }
 }
 
@@ -140,19 +303,21 @@ pub fn open_session<A: Allocator + Clone>(alloc: &A, config: &Config) -> Option<
     }
 }
 
-/// Runs the script that the reader gives, in a dialect, on a session, with no bookmark at first, and writes its answers.
-/// The answer of a line is written once all its steps are done. The session keeps all that was played.
+/// Runs the script that the reader gives, in a dialect, on a session, with no bookmark at first, and writes its answers,
+/// with a prompt before each line where these are shown. The answer of a line is written once all its steps are done. The
+/// session keeps all that was played.
 pub fn run_session<S: Source, K: Sink, A: Allocator + Clone>(
     alloc: &A,
     session: &mut Session<A>,
     dialect: Dialect,
+    prompts: Prompts,
     reader: &mut S,
     sink: &mut K,
 ) -> Result<Summary, RunFault>
-    ensures ok { IfOk result (λ sum. (names : List (List ℕ × ℕ)) × IsLeft dialect (S.told reader.old) (S.told reader.new)
+    ensures ok { IfOk result (λ sum. (names : List (List ℕ × ℕ)) × IsLeft dialect prompts (S.told reader.old) (S.told reader.new)
         (sink_at (K.contents sink.old) (K.failures sink.old)) (sink_at (K.contents sink.new) (K.failures sink.new))
         (without_bookmarks session.old) (with_bookmarks session.new names) sum) }
-    ensures err { IfErr result (λ e. IsStopped dialect (S.told reader.old) (S.told reader.new)
+    ensures err { IfErr result (λ e. IsStopped dialect prompts (S.told reader.old) (S.told reader.new)
         (sink_at (K.contents sink.old) (K.failures sink.old)) (sink_at (K.contents sink.new) (K.failures sink.new))
         (without_bookmarks session.old) e) }
 {
@@ -162,7 +327,14 @@ pub fn run_session<S: Source, K: Sink, A: Allocator + Clone>(
     let mut bookmarks = Bookmarks::new(alloc);
     let mut lines = Lines::of(handle, reader, dialect);
     let mut text = Vec::new(other);
-    let ended = run_lines(&mut lines, session, &mut bookmarks, &mut text, sink);
+    let ended = run_lines(
+        prompts,
+        &mut lines,
+        session,
+        &mut bookmarks,
+        &mut text,
+        sink,
+    );
     let _reader = lines.into_source();
     match ended {
         Err(e) => Err(e),
@@ -170,24 +342,25 @@ pub fn run_session<S: Source, K: Sink, A: Allocator + Clone>(
     }
 }
 
-/// Runs the script that the reader gives, in a dialect, on a session, and writes its answers, as `run_session` does. It is
+/// Runs the script that the reader gives, in a dialect, on a session, as `run_session` does. It is
 /// for a program that ends with the run: all memory goes back at once then, and the session is not taken apart.
 pub fn run_at_last<S: Source, K: Sink, A: Allocator + Clone>(
     alloc: &A,
     session: Session<A>,
     dialect: Dialect,
+    prompts: Prompts,
     reader: &mut S,
     sink: &mut K,
 ) -> Result<Summary, RunFault>
-    ensures ok { IfOk result (λ sum. IsDone dialect (S.told reader.old) (S.told reader.new)
+    ensures ok { IfOk result (λ sum. IsDone dialect prompts (S.told reader.old) (S.told reader.new)
         (sink_at (K.contents sink.old) (K.failures sink.old)) (sink_at (K.contents sink.new) (K.failures sink.new))
         (without_bookmarks session) sum) }
-    ensures err { IfErr result (λ e. IsStopped dialect (S.told reader.old) (S.told reader.new)
+    ensures err { IfErr result (λ e. IsStopped dialect prompts (S.told reader.old) (S.told reader.new)
         (sink_at (K.contents sink.old) (K.failures sink.old)) (sink_at (K.contents sink.new) (K.failures sink.new))
         (without_bookmarks session) e) }
 {
     let mut session = session;
-    let ended = run_session(alloc, &mut session, dialect, reader, sink);
+    let ended = run_session(alloc, &mut session, dialect, prompts, reader, sink);
     let _session = ManuallyDrop::new(session);
     match ended {
         Err(e) => Err(e),
@@ -195,7 +368,8 @@ pub fn run_at_last<S: Source, K: Sink, A: Allocator + Clone>(
     }
 }
 
-/// Runs the script that the reader gives, in a dialect, on an empty store, and writes its answers, as `run_session` does.
+/// Runs the script that the reader gives, in a dialect, on an empty store, and writes its answers, as `run_session` does
+/// without prompts.
 pub fn run<S: Source, K: Sink, A: Allocator + Clone>(
     alloc: &A,
     config: &Config,
@@ -204,17 +378,17 @@ pub fn run<S: Source, K: Sink, A: Allocator + Clone>(
     sink: &mut K,
 ) -> Result<Summary, RunFault>
     requires { IsWithinLimits config.now }
-    ensures ok { IfOk result (λ sum. IsDone dialect (S.told reader.old) (S.told reader.new)
+    ensures ok { IfOk result (λ sum. IsDone dialect Hidden (S.told reader.old) (S.told reader.new)
         (sink_at (K.contents sink.old) (K.failures sink.old)) (sink_at (K.contents sink.new) (K.failures sink.new))
         (initial config.entry.now) sum) }
-    ensures err { IfErr result (λ e. IsStopped dialect (S.told reader.old) (S.told reader.new)
+    ensures err { IfErr result (λ e. IsStopped dialect Hidden (S.told reader.old) (S.told reader.new)
         (sink_at (K.contents sink.old) (K.failures sink.old)) (sink_at (K.contents sink.new) (K.failures sink.new))
         (initial config.entry.now) e) }
 {
     let ended = match open_session(alloc, config) {
         None => return Err(RunFault::Memory { line: 0 }),
         Some(mut session) => {
-            let done = run_session(alloc, &mut session, dialect, reader, sink);
+            let done = run_session(alloc, &mut session, dialect, Prompts::Hidden, reader, sink);
             drop(session);
             done
         }

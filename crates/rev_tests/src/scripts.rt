@@ -6,7 +6,7 @@ use rev_classes::{Config, fault_of};
 use rev_output::ToWrite;
 use rev_script::dialect::Dialect;
 use rev_script::source::FromRead;
-use rev_shell::run::{RunFault, Summary, run};
+use rev_shell::run::{RunFault, Summary, Tally, run};
 use std::alloc::Global;
 use std::io::{Read, Write};
 use std::process::Abort;
@@ -105,8 +105,14 @@ fn cuts(rt: HostRuntime) {
     try_cut(&rt, alloc, script.as_slice(), answers.as_slice());
     let mut written: Vec<u8> = Vec::new(alloc);
     let ended = run_with(&rt, alloc, &DEFAULTS, script.as_slice(), &mut written);
+    let summary = Summary {
+        lines: 7,
+        plays: 5,
+        bad: Tally { count: 1, first: 4 },
+        refused: Tally { count: 0, first: 0 },
+    };
     assert!(rt;
-        written.as_slice() == answers.as_slice() && ended == Ok(Summary { lines: 7, plays: 5 }),
+        written.as_slice() == answers.as_slice() && ended == Ok(summary),
         "the whole"
     );
 }

@@ -6,7 +6,7 @@ use rev_program::program::program;
 use rev_script::dialect::Dialect;
 use rev_script::source::FromRead;
 use rev_shell::quiet::TraceFault;
-use rev_shell::run::{open_session, run_session};
+use rev_shell::run::{Prompts, open_session, run_session};
 use rev_shell::start::play_start;
 use rev_undotree::Session;
 use std::alloc::{Allocator, Global};
@@ -80,6 +80,7 @@ fn answers<R: AllocGlobal + Abort>(
         &rt.alloc(),
         session,
         Dialect::CrLf,
+        Prompts::Hidden,
         &mut FromRead::new(script),
         &mut ToWrite::new(&mut written),
     );
@@ -292,7 +293,7 @@ static CASES: [Case; 9] = [
     Case {
         words: &["run", "--page-size", "1001", "--start", "no such file"],
         output: "",
-        errors: "lrudb: bad configuration: page\n",
+        errors: "lrudb: bad configuration: page\n--page-size: Bytes of a slab page: 256 to 1048576, a multiple of 8\n",
         status: 2,
     },
     Case {

@@ -27,20 +27,11 @@ brings_none brings (Ok (OpenCsv asked)) h = absurd (let e : false ≡ true = h i
 brings_none brings (Ok other) h = tt
 brings_none brings (Err e) h = tt
 
-pub returns-in-Some-clause-words : goal.returns-in-Some-clause-words
-returns-in-Some-clause-words c = no_import c.args.asks_import c.run.result c.run.ensures.words
+pub returns-then-asks_run-clause-words : goal.returns-then-asks_run-clause-words
+returns-then-asks_run-clause-words c = no_import c.args.asks_import c.run_request.result c.run_request.ensures.words
 
-pub returns-in-Some-subcommand_matches-clause-words : goal.returns-in-Some-subcommand_matches-clause-words
-returns-in-Some-subcommand_matches-clause-words c = no_import c.args.asks_import c.recording.result c.recording.ensures.words
+pub returns-then-asks_run-clause-opens : goal.returns-then-asks_run-clause-opens
+returns-then-asks_run-clause-opens c = no_opening c.args.asks_open c.run_request.result c.run_request.ensures.opens
 
-pub returns-in-Some-clause-opens : goal.returns-in-Some-clause-opens
-returns-in-Some-clause-opens c = no_opening c.args.asks_open c.run.result c.run.ensures.opens
-
-pub returns-in-Some-subcommand_matches-clause-opens : goal.returns-in-Some-subcommand_matches-clause-opens
-returns-in-Some-subcommand_matches-clause-opens c = no_opening c.args.asks_open c.recording.result c.recording.ensures.opens
-
-pub returns-in-Some-clause-brings : goal.returns-in-Some-clause-brings
-returns-in-Some-clause-brings c = brings_none c.args.brings c.run.result c.run.ensures.brings
-
-pub returns-in-Some-subcommand_matches-clause-brings : goal.returns-in-Some-subcommand_matches-clause-brings
-returns-in-Some-subcommand_matches-clause-brings c = brings_none c.args.brings c.recording.result c.recording.ensures.brings
+pub returns-then-asks_run-clause-brings : goal.returns-then-asks_run-clause-brings
+returns-then-asks_run-clause-brings c = brings_none c.args.brings c.run_request.result c.run_request.ensures.brings

@@ -3,6 +3,7 @@ use crate::players::streams::Failing;
 use rev_classes::{Config, fault_of};
 use rev_output::ToWrite;
 use rev_program::play::play_files;
+use rev_script::dialect::Dialect;
 use rev_shell::run::open_session;
 use std::io::{Read, Write};
 use std::process::Abort;
@@ -33,7 +34,14 @@ fn status_of<R: Threads + Wait + Sync + AllocGlobal + Abort, F: Read + Drop, W: 
         panic!(rt; "{fault}");
     }
     match open_session(&rt.alloc(), &CONFIG) {
-        Some(session) => play_files(rt, session, files, writer, &mut ToWrite::new(errors)),
+        Some(session) => play_files(
+            rt,
+            session,
+            Dialect::CrLf,
+            files,
+            writer,
+            &mut ToWrite::new(errors),
+        ),
         None => panic!(rt; "no memory"),
     }
 }

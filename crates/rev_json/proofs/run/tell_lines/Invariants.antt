@@ -1,15 +1,16 @@
 use Rattle.std.proofs.Common.{◌≡◌, ◌≤◌, ◌-◌, None}
 use Rattle.rev_output.specs.Sink.{sink_at}
 use Rattle.rev_shell.specs.Answers.{with_bookmarks}
+use Rattle.rev_shell.specs.declared.run.Prompts.TheVariants.{Hidden}
 use Rattle.rev_shell.proofs.Runs.{IsSoFar}
 use Rattle.rev_json.specs.JsonLines.{WroteLines}
 use Rattle.rev_json.proofs.run.tell_lines.Given as goal
 
 abbrev pub invariant-lines : goal.invariant-lines
 invariant-lines g l = (l.lines.fault ≡ None) × (l.count ≤ l.lines.input.bytes.given) × (l.lines.input.bytes.given ≤ 4294967296)
-    × IsSoFar l.fn.lines.input.dialect l.fn.lines.input l.lines.input
+    × IsSoFar l.fn.lines.input.dialect Hidden l.fn.lines.input l.lines.input
     (sink_at None (g.K.Sink.failures l.fn.sink)) (sink_at None (g.K.Sink.failures l.sink))
-    (with_bookmarks l.fn.session l.fn.bookmarks) (with_bookmarks l.session l.bookmarks) l.count
+    (with_bookmarks l.fn.session l.fn.bookmarks) (with_bookmarks l.session l.bookmarks) l.count l.bad l.refused
     × WroteLines l.count (g.K.Sink.contents l.fn.sink) (g.K.Sink.contents l.sink)
 
 abbrev pub decreases-lines : goal.decreases-lines

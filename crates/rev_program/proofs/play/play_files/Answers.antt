@@ -8,7 +8,7 @@ pub returns-clause-rows : goal.returns-clause-rows
 returns-clause-rows g c = rows_of c.record.result c.ended.result _ c.record.ensures.ok c.ended.ensures.zero
 
 pub returns-clause-fault : goal.returns-clause-fault
-returns-clause-fault g c = no_rows_of _ _ _ _ g.F.Read.remaining c.args.files.items _ _ c.record.result c.ended.result c.ended.ensures.status c.record.ensures.why c.record.ensures.err c.ended.ensures.told
+returns-clause-fault g c = no_rows_of _ _ _ _ c.args.dialect g.F.Read.remaining c.args.files.items _ _ c.record.result c.ended.result c.ended.ensures.status c.record.ensures.why c.record.ensures.err c.ended.ensures.told
 
 pub returns-clause-quiet : goal.returns-clause-quiet
 returns-clause-quiet g c = c.ended.ensures.quiet

@@ -10,8 +10,8 @@ use Rattle.rev_program.proofs.play.read_files.Given as goal
 abbrev pub invariant-loop-name : goal.invariant-loop-name
 invariant-loop-name g l = record {
   count : length l.scripts.items + length l.rest.items ≡ length l.fn.files.items;
-  steps : (more : List (Vec (Step Global))) → AreScripts g.F.Read.remaining l.rest.items more → AreScripts g.F.Read.remaining l.fn.files.items (l.scripts.items ++ more);
-  spoilt : (e : RecordingFault) → IsSpoilt g.F.Read.remaining l.rest.items e → IsSpoilt g.F.Read.remaining l.fn.files.items e;
+  steps : (more : List (Vec (Step Global))) → AreScripts l.fn.dialect g.F.Read.remaining l.rest.items more → AreScripts l.fn.dialect g.F.Read.remaining l.fn.files.items (l.scripts.items ++ more);
+  spoilt : (e : RecordingFault) → IsSpoilt l.fn.dialect g.F.Read.remaining l.rest.items e → IsSpoilt l.fn.dialect g.F.Read.remaining l.fn.files.items e;
 }
 
 abbrev pub decreases-loop-name : goal.decreases-loop-name

@@ -15,13 +15,13 @@ returns-in-Ok-print-clause-ok g c = record {
 }
 
 pub returns-in-Err-clause-why : goal.returns-in-Err-clause-why
-returns-in-Err-clause-why g c = ended_reading g.F.Read.remaining c.args.files.items c.in-Err.fault c.in-Err.ensures.err
+returns-in-Err-clause-why g c = ended_reading c.args.dialect g.F.Read.remaining c.args.files.items c.in-Err.fault c.in-Err.ensures.err
 
 pub returns-in_err-played-clause-why : goal.returns-in_err-played-clause-why
 returns-in_err-played-clause-why g c =
-    let all : AreAllScripts g.F.Read.remaining c.args.files.items = (c.in-Ok.scripts.items, c.in-Ok.ensures.steps) in
-    let h : EndedBy g.F.Read.remaining c.args.files.items c.in_err-played.field-0.0 = ended_playing g.F.Read.remaining c.args.files.items c.in_err-played.field-0.0 all c.in_err-played.ensures.err in
+    let all : AreAllScripts c.args.dialect g.F.Read.remaining c.args.files.items = (c.in-Ok.scripts.items, c.in-Ok.ensures.steps) in
+    let h : EndedBy c.args.dialect g.F.Read.remaining c.args.files.items c.in_err-played.field-0.0 = ended_playing c.args.dialect g.F.Read.remaining c.args.files.items c.in_err-played.field-0.0 all c.in_err-played.ensures.err in
     search rules
 
 pub returns-in-Err-print-clause-why : goal.returns-in-Err-print-clause-why
-returns-in-Err-print-clause-why g c = ended_printing g.F.Read.remaining _ _ (c.in-Ok.scripts.items, c.in-Ok.ensures.steps) c.in-Err-print.ensures.err.0
+returns-in-Err-print-clause-why g c = ended_printing c.args.dialect g.F.Read.remaining _ _ (c.in-Ok.scripts.items, c.in-Ok.ensures.steps) c.in-Err-print.ensures.err.0

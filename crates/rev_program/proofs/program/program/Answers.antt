@@ -1,45 +1,41 @@
 use Rattle.std.proofs.Common.{◌≡◌, true, false, inl, rules, sym, ◌∙◌, Err}
 use Rattle.rev_program.proofs.Ends.{stopped_of, plainly, unnoted, noted_of, early_of}
+use Rattle.rev_program.proofs.Tallies.{run_stopped}
 use Rattle.rev_program.proofs.program.program.Goals as goal
 
 pub returns-in-Err-clause-status : goal.returns-in-Err-clause-status
 returns-in-Err-clause-status c = search rules steps 4000000
 
 pub returns-in-Ok-Run-clause-early : goal.returns-in-Ok-Run-clause-early
-returns-in-Ok-Run-clause-early g c =
-    λ n o. inl (stopped_of _ _ _ _ c.run_asked.result _ c.ended-in-Ok-Run.ensures.status c.ended-in-Ok-Run.ensures.told n)
+returns-in-Ok-Run-clause-early g c = λ some other. c.ended_run.ensures.early some
 
-pub returns-in-Ok-Run-clause-behind : goal.returns-in-Ok-Run-clause-behind
-returns-in-Ok-Run-clause-behind g c =
-    λ i b. plainly _ _ _ _ _ c.ended-in-Ok-Run.ensures.quiet
-    (λ n. inl (stopped_of _ _ _ _ c.run_asked.result _ c.ended-in-Ok-Run.ensures.status c.ended-in-Ok-Run.ensures.told n))
+pub returns-in-Ok-Run-clause-run : goal.returns-in-Ok-Run-clause-run
+returns-in-Ok-Run-clause-run g c = λ asks. c.ended_run.ensures
+
+pub returns-in-Err-clause-run : goal.returns-in-Err-clause-run
+returns-in-Err-clause-run g c = λ asks. run_stopped _ _ _ _ c.from.result _ c.ended.ensures.range c.ended.ensures.status c.ended.ensures.told
 
 pub returns-in-Err-clause-behind : goal.returns-in-Err-clause-behind
 returns-in-Err-clause-behind g c =
-    λ i b. plainly _ _ _ _ _ c.ended.ensures.quiet (λ n. inl (stopped_of _ _ _ _ (Err c.from.result) _ c.ended.ensures.status c.ended.ensures.told n))
+    λ i r b. plainly _ _ _ _ _ c.ended.ensures.quiet (λ n. inl (stopped_of _ _ _ _ (Err c.from.result) _ c.ended.ensures.status c.ended.ensures.told n))
 
 pub returns-in-Ok-Record-clause-behind : goal.returns-in-Ok-Record-clause-behind
 returns-in-Ok-Record-clause-behind g c =
-    λ i b. plainly _ _ _ _ _ c.record_files.ensures.quiet (λ n. early_of _ _ _ _ _ _ _ (c.record_files.ensures.early n))
-
-pub returns-in-Ok-Run-clause-noted : goal.returns-in-Ok-Run-clause-noted
-returns-in-Ok-Run-clause-noted g c =
-    λ i. unnoted _ _ _ _ _ c.ended-in-Ok-Run.ensures.quiet
-    (λ n. inl (stopped_of _ _ _ _ c.run_script.result _ c.ended-in-Ok-Run.ensures.status c.ended-in-Ok-Run.ensures.told n))
+    λ i r b. plainly _ _ _ _ _ c.record_files.ensures.quiet (λ n. early_of _ _ _ _ _ _ _ (c.record_files.ensures.early n))
 
 pub returns-in-Err-clause-noted : goal.returns-in-Err-clause-noted
 returns-in-Err-clause-noted g c =
-    λ i. unnoted _ _ _ _ _ c.ended.ensures.quiet (λ n. inl (stopped_of _ _ _ _ (Err c.from.result) _ c.ended.ensures.status c.ended.ensures.told n))
+    λ i r. unnoted _ _ _ _ _ c.ended.ensures.quiet (λ n. inl (stopped_of _ _ _ _ (Err c.from.result) _ c.ended.ensures.status c.ended.ensures.told n))
 
 pub returns-in-Ok-Record-clause-noted : goal.returns-in-Ok-Record-clause-noted
 returns-in-Ok-Record-clause-noted g c =
-    λ i. unnoted _ _ _ _ _ c.record_files.ensures.quiet (λ n. early_of _ _ _ _ _ _ _ (c.record_files.ensures.early n))
+    λ i r. unnoted _ _ _ _ _ c.record_files.ensures.quiet (λ n. early_of _ _ _ _ _ _ _ (c.record_files.ensures.early n))
 
 pub returns-in-Ok-Open-clause-noted : goal.returns-in-Ok-Open-clause-noted
-returns-in-Ok-Open-clause-noted g c = λ i. noted_of _ _ _ _ _ c.open_traces.ensures.ends
+returns-in-Ok-Open-clause-noted g c = λ i r. noted_of _ _ _ _ _ c.open_traces.ensures.ends
 
 pub returns-in-Ok-OpenWatch-clause-noted : goal.returns-in-Ok-OpenWatch-clause-noted
-returns-in-Ok-OpenWatch-clause-noted g c = λ i. c.open_watch.ensures.ends
+returns-in-Ok-OpenWatch-clause-noted g c = λ i r. c.open_watch.ensures.ends
 
 pub returns-in-Ok-OpenCsv-clause-noted : goal.returns-in-Ok-OpenCsv-clause-noted
-returns-in-Ok-OpenCsv-clause-noted g c = λ i. c.open_csv.ensures.ends
+returns-in-Ok-OpenCsv-clause-noted g c = λ i r. c.open_csv.ensures.ends

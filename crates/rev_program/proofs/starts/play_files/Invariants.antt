@@ -5,7 +5,7 @@ use Rattle.rev_program.proofs.starts.play_files.Given as goal
 
 -- wherever the files that are left lead, all of them lead there
 abbrev pub invariant-loop-name : goal.invariant-loop-name
-invariant-loop-name g l = (t : SessionState) → AreStarts g.F.Read.remaining l.rest.items l.session t → AreStarts g.F.Read.remaining l.fn.files.items l.fn.session t
+invariant-loop-name g l = (t : SessionState) → AreStarts l.fn.dialect g.F.Read.remaining l.rest.items l.session t → AreStarts l.fn.dialect g.F.Read.remaining l.fn.files.items l.fn.session t
 
 abbrev pub decreases-loop-name : goal.decreases-loop-name
 decreases-loop-name g l = length l.rest.items

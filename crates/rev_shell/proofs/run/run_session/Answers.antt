@@ -3,7 +3,7 @@ use Rattle.rev_shell.proofs.Runs.{nothing_read, left_told}
 use Rattle.rev_shell.proofs.run.run_session.Goals as goal
 
 pub returns-in_default-clause-err : goal.returns-in_default-clause-err
-returns-in_default-clause-err g c = nothing_read _ _ _ _
+returns-in_default-clause-err g c = nothing_read _ _ _ _ _
 
 pub returns-clause-ok : goal.returns-clause-ok
 returns-clause-ok g c =

@@ -6,16 +6,16 @@ returns-in-Usage-clause-told g c =
     rw c.in-Usage.is t
 
 pub returns-in-BadPage-clause-told : goal.returns-in-BadPage-clause-told
-returns-in-BadPage-clause-told g c = rw c.in-BadPage.is c.tell_parts-in-BadPage.ensures.told
+returns-in-BadPage-clause-told g c = rw c.in-BadPage.is c.tell_page.ensures.told
 
 pub returns-in-BadFactor-clause-told : goal.returns-in-BadFactor-clause-told
-returns-in-BadFactor-clause-told g c = rw c.in-BadFactor.is c.tell_parts-in-BadFactor.ensures.told
+returns-in-BadFactor-clause-told g c = rw c.in-BadFactor.is c.tell_factor.ensures.told
 
 pub returns-in-TooManyClasses-clause-told : goal.returns-in-TooManyClasses-clause-told
-returns-in-TooManyClasses-clause-told g c = rw c.in-TooManyClasses.is c.tell_parts-in-TooManyClasses.ensures.told
+returns-in-TooManyClasses-clause-told g c = rw c.in-TooManyClasses.is c.tell_classes.ensures.told
 
 pub returns-in-BadLimit-clause-told : goal.returns-in-BadLimit-clause-told
-returns-in-BadLimit-clause-told g c = rw c.in-BadLimit.is c.tell_parts-in-BadLimit.ensures.told
+returns-in-BadLimit-clause-told g c = rw c.in-BadLimit.is c.tell_limits.ensures.told
 
 pub returns-in-Memory-clause-told : goal.returns-in-Memory-clause-told
 returns-in-Memory-clause-told g c = rw c.in-Memory.is c.tell_parts-in-Memory.ensures.told
@@ -40,16 +40,16 @@ returns-in-Usage-clause-ok g c =
     rw c.in-Usage.is t
 
 pub returns-in-BadPage-clause-ok : goal.returns-in-BadPage-clause-ok
-returns-in-BadPage-clause-ok g c = rw c.in-BadPage.is c.tell_parts-in-BadPage.ensures.ok
+returns-in-BadPage-clause-ok g c = rw c.in-BadPage.is c.tell_page.ensures.ok
 
 pub returns-in-BadFactor-clause-ok : goal.returns-in-BadFactor-clause-ok
-returns-in-BadFactor-clause-ok g c = rw c.in-BadFactor.is c.tell_parts-in-BadFactor.ensures.ok
+returns-in-BadFactor-clause-ok g c = rw c.in-BadFactor.is c.tell_factor.ensures.ok
 
 pub returns-in-TooManyClasses-clause-ok : goal.returns-in-TooManyClasses-clause-ok
-returns-in-TooManyClasses-clause-ok g c = rw c.in-TooManyClasses.is c.tell_parts-in-TooManyClasses.ensures.ok
+returns-in-TooManyClasses-clause-ok g c = rw c.in-TooManyClasses.is c.tell_classes.ensures.ok
 
 pub returns-in-BadLimit-clause-ok : goal.returns-in-BadLimit-clause-ok
-returns-in-BadLimit-clause-ok g c = rw c.in-BadLimit.is c.tell_parts-in-BadLimit.ensures.ok
+returns-in-BadLimit-clause-ok g c = rw c.in-BadLimit.is c.tell_limits.ensures.ok
 
 pub returns-in-Memory-clause-ok : goal.returns-in-Memory-clause-ok
 returns-in-Memory-clause-ok g c = rw c.in-Memory.is c.tell_parts-in-Memory.ensures.ok
