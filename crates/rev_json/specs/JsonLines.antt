@@ -22,8 +22,8 @@ AreJsonLines (suc n) bytes = (front : List ℕ) × (line : List ℕ) × AreJsonL
 abbrev pub WroteLines : ℕ → Option (List ℕ) → Option (List ℕ) → Type 0
 WroteLines n old new = (bytes : List ℕ) × AreJsonLines n bytes × Appends old new bytes
 
--- what was written at a fault: where memory was wanted for a line, those of the lines before; where a write failed, some and
--- a part of one more; else some
+-- what was written at a fault: where memory was wanted for a line, those of the lines before; where a write failed,
+-- some and a part of one more; else some
 abbrev pub WroteAt : RunFault → Option (List ℕ) → Option (List ℕ) → Type 0
 WroteAt (Memory line) old new = WroteLines (line - 1) old new
 WroteAt Write old new = (n : ℕ) × (bytes : List ℕ) × (front : List ℕ) × AreJsonLines n bytes × Appends old new (bytes ++ front)

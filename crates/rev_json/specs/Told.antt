@@ -1,6 +1,6 @@
 -- What a run does that tells its lines as JSON.
--- Rule of this project: it reads, plays and ends as `run` does, and tells each line in a line of JSON. Which text stands for
--- an answer is not said.
+-- Rule of this project: it reads, plays and ends as `run` does, and tells each line in a line of JSON. Which text stands
+-- for an answer is not said.
 use Rattle.std.specs.Prelude.{None}
 use Rattle.rev_script.specs.Source.{Told}
 use Rattle.rev_script.specs.declared.dialect.Dialect.{Dialect}
@@ -12,8 +12,8 @@ use Rattle.rev_shell.specs.declared.run.Summary.{Summary}
 use Rattle.rev_shell.specs.declared.run.RunFault.{RunFault}
 use Rattle.rev_json.specs.JsonLines.{WroteLines, WroteAt}
 
--- at the end: all was read, nothing failed, and the session is as all lines leave it, one after another (what `run` says
--- where it is not known what the writer holds); as many lines of JSON as there are lines were written
+-- at the end: all was read, nothing failed, and the session is as all lines leave it, one after another (what `run`
+-- says where it is not known what the writer holds); as many lines of JSON as there are lines were written
 pub record IsTold (d : Dialect) (reader_old reader_new : Told) (old new : PlainSink) (start left : BookmarkedSession) (sum : Summary) : Type 0 where
   pub ended : IsLeft d Hidden reader_old reader_new (sink_at None old.failures) (sink_at None new.failures) start left sum
   pub wrote : WroteLines sum.lines old.contents new.contents

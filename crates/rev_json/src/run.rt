@@ -17,7 +17,7 @@ use rev_shell::run::{NONE, Prompts, RunFault, Summary, answer_line, fault_at, is
 use rev_undotree::Session;
 use std::alloc::Global;
 
-// Plays the lines, from the first on, and writes what is told of each once it is done. `text` holds one answer at a time.
+// Plays the lines, from the first on, and writes what is told of each once it is done. `text` holds one answer.
 fn tell_lines<S: Source, K: Sink>(
     alloc: Global,
     lines: &mut Lines<S, Global>,
@@ -80,12 +80,12 @@ fn tell_lines<S: Source, K: Sink>(
     }
 }
 
-/// Runs the script that the reader gives, in a dialect, on a session, with no bookmark at first, and tells of each line in a
-/// line of JSON, with LF: `line`, its number from 1; `node`, the current node behind it; `command`, the words that name
-/// its command, or null where it is malformed; and `answer`, an object for each line of its answer but the `END` of a
-/// list. It is written once all steps of the line are done. The session keeps all that was played.
+/// Runs the script that the reader gives, in a dialect, on a session, with no bookmark at first, and tells of each
+/// line in a line of JSON, with LF: `line`, its number from 1; `node`, the current node behind it; `command`, the words
+/// that name its command, or null where it is malformed; and `answer`, an object for each line of its answer but the
+/// `END` of a list. It is written once all steps of the line are done. The session keeps all that was played.
 ///
-/// Memory is also taken for each line's JSON. Where there is none, the line's steps are done, and nothing of it is told.
+/// Memory is also taken for each line's JSON. Where there is none, the line's steps are done, and nothing is told of it.
 pub fn run_as_json<S: Source, K: Sink>(
     alloc: Global,
     session: &mut Session<Global>,
