@@ -4,7 +4,7 @@ ghost use Rattle.rev_options.specs.Request.{IsInRange, IsOfWords, asks_open, Ope
 
 use crate::csv::sample_of;
 use crate::import::{STANDARD, factor_of, required, rhythm_of, text};
-use crate::{Request, config_of, fault, files_of, start, with_config};
+use crate::{NUMBERS, Request, config_of, fault, files_of, start, with_config};
 use clap::error::ErrorKind;
 use clap::{Arg, ArgAction, ArgMatches, Command, Error};
 use rev_classes::Config;
@@ -13,18 +13,6 @@ use rev_import::sample::Sample;
 use rev_import::setup::Factor;
 use std::alloc::{AllocError, Global};
 use std::convert::AsStr;
-
-/// The options that tell of the cache. A server's settings stand for them.
-const OF_THE_CACHE: [&str; 8] = [
-    "page-size",
-    "pages",
-    "num",
-    "den",
-    "bump",
-    "hash-power",
-    "now",
-    "temp-ttl",
-];
 
 /// Traces to look around in: their steps are played, each as a node, and a session is read from the standard input then.
 #[derive(Debug, Drop)]
@@ -87,8 +75,19 @@ fn watch<'a>(alloc: Global) -> Result<Arg<'a>, AllocError> {
         "Plays what `import watch` makes of a log of memcached's watch; the settings tell of the cache [may be given again]",
     )
     .requires_arg("settings")?
-    .conflicts_with_all(&["traces", "csv", "sample"])?
-    .conflicts_with_all(&OF_THE_CACHE)
+    .conflicts_with("traces")?
+    .conflicts_with("csv")?
+    .conflicts_with("sample")?
+    .conflicts_with("temp-ttl")
+}
+
+// The logs' option, which has none beside it that tells of the cache.
+fn watch_alone<'a>(alloc: Global) -> Result<Arg<'a>, AllocError> {
+    let mut arg = watch(alloc)?;
+    for of in &NUMBERS {
+        arg = arg.conflicts_with(of.name)?;
+    }
+    Ok(arg)
 }
 
 fn csv<'a>(alloc: Global) -> Result<Arg<'a>, AllocError> {
@@ -98,12 +97,14 @@ fn csv<'a>(alloc: Global) -> Result<Arg<'a>, AllocError> {
         "TRACE",
         "Plays what `import csv` makes of a published trace of a cache [may be given again]",
     )
-    .conflicts_with_all(&["traces", "settings", "factor"])
+    .conflicts_with("traces")?
+    .conflicts_with("settings")?
+    .conflicts_with("factor")
 }
 
 fn with_imports<'a>(alloc: Global, command: Command<'a>) -> Result<Command<'a>, AllocError> {
     command
-        .arg(watch(alloc)?)?
+        .arg(watch_alone(alloc)?)?
         .arg(text(
             alloc,
             "settings",
