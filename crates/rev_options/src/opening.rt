@@ -4,6 +4,7 @@ ghost use Rattle.rev_options.specs.Request.{IsInRange, IsOfWords, asks_open, Ope
 
 use crate::csv::sample_of;
 use crate::import::{STANDARD, factor_of, required, rhythm_of, text};
+use crate::number::NUMBERS;
 use crate::{Request, config_of, dialect_of, fault, files_of, json, line_feed, start, with_config};
 use clap::error::ErrorKind;
 use clap::{Arg, ArgAction, ArgMatches, Command, Error};
@@ -14,18 +15,6 @@ use rev_import::setup::Factor;
 use rev_script::dialect::Dialect;
 use std::alloc::{AllocError, Global};
 use std::convert::AsStr;
-
-/// The options that tell of the cache. A server's settings stand for them.
-const OF_THE_CACHE: [&str; 8] = [
-    "page-size",
-    "pages",
-    "num",
-    "den",
-    "bump",
-    "hash-power",
-    "now",
-    "temp-ttl",
-];
 
 /// How files are read, and how a session is answered.
 #[derive(Clone, Copy, Debug, PartialEq, Eq)]
@@ -102,8 +91,19 @@ fn watch<'a>(alloc: Global) -> Result<Arg<'a>, AllocError> {
         "Plays what `import watch` makes of a log of memcached's watch; the settings tell of the cache [may be given again]",
     )
     .requires_arg("settings")?
-    .conflicts_with_all(&["traces", "csv", "sample"])?
-    .conflicts_with_all(&OF_THE_CACHE)
+    .conflicts_with("traces")?
+    .conflicts_with("csv")?
+    .conflicts_with("sample")?
+    .conflicts_with("temp-ttl")
+}
+
+// The logs' option, which has none beside it that tells of the cache.
+fn watch_alone<'a>(alloc: Global) -> Result<Arg<'a>, AllocError> {
+    let mut arg = watch(alloc)?;
+    for of in &NUMBERS {
+        arg = arg.conflicts_with(of.name)?;
+    }
+    Ok(arg)
 }
 
 fn csv<'a>(alloc: Global) -> Result<Arg<'a>, AllocError> {
@@ -113,12 +113,14 @@ fn csv<'a>(alloc: Global) -> Result<Arg<'a>, AllocError> {
         "TRACE",
         "Plays what `import csv` makes of a published trace of a cache [may be given again]",
     )
-    .conflicts_with_all(&["traces", "settings", "factor"])
+    .conflicts_with("traces")?
+    .conflicts_with("settings")?
+    .conflicts_with("factor")
 }
 
 fn with_imports<'a>(alloc: Global, command: Command<'a>) -> Result<Command<'a>, AllocError> {
     command
-        .arg(watch(alloc)?)?
+        .arg(watch_alone(alloc)?)?
         .arg(text(
             alloc,
             "settings",
