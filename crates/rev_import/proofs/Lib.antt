@@ -6,3 +6,4 @@ pub mod Numerals
 pub mod Rows
 pub mod Written
 pub mod Moved
+pub mod Filled

@@ -56,10 +56,7 @@ fn put_words<A: Allocator>(
 fn put_filler<A: Allocator>(out: &mut Vec<u8, A>, size: u32) -> Result<(), AllocError>
     ensures { OnOk result (out.new.items ≡ out.old.items ++ replicate size 120) }
 {
-    for _ in 0..size {
-        out.push(FILLER)?;
-    }
-    Ok(())
+    out.resize(out.len() + size as usize, FILLER)
 }
 
 /// Sets the clock: `@ NOW`.
