@@ -46,7 +46,7 @@ ended_reading d remaining files LogDiffers s = absurd s.spoils
 pub ended_playing : (d : Dialect) {F : Type 0} (remaining : F → Option (List ℕ)) (files : List (String Global × F)) (e : RecordingFault) → AreAllScripts d remaining files → IsOfPlay e → EndedBy d remaining files e
 ended_playing d remaining files e all p = elim p [
   | inl m ↦ subst (EndedBy d remaining files) (sym m) tt
-  | inr d ↦ subst (EndedBy d remaining files) (sym d) all
+  | inr l ↦ subst (EndedBy d remaining files) (sym l) all
 ]
 
 pub ended_printing : (d : Dialect) {F : Type 0} (remaining : F → Option (List ℕ)) (files : List (String Global × F)) (e : RecordingFault) → AreAllScripts d remaining files → IsOfPrint e → EndedBy d remaining files e

@@ -1,7 +1,6 @@
 -- What is told at a run's end.
 use Rattle.std.proofs.Common.{◌≡◌, ◌≢◌, ◌≤◌, ℕ, Bool, true, false, cond, nat_eq, inl, inr, List, [], ◌∷◌, Option, codes, decimal, refl, sym, ◌∙◌, subst, arith, eqb-true}
 use Rattle.std.proofs.lemmas.Bool.{cases_Bool}
-use Rattle.std.proofs.KnownBytes.{Appends-nil}
 use Rattle.rev_shell.specs.declared.run.Tally.{Tally}
 use Rattle.rev_shell.specs.declared.run.Summary.{Summary}
 use Rattle.rev_program.specs.Program.{IsStatus, EndsRun, IsCounted, tally_text}
@@ -9,7 +8,6 @@ use Rattle.rev_program.specs.Stop.{status, text}
 use Rattle.rev_program.specs.Telling.{Told, joined}
 use Rattle.rev_program.specs.declared.stop.Stop.{Stop}
 use Rattle.rev_program.specs.declared.stop.Stop.TheVariants.{Usage, BadPage, BadFactor, TooManyClasses, BadLimit, Memory, CannotRead, CannotOpen, NotAStep, CannotWrite, TooLong, CannotWriteFile, BadLine, BadStats, NoEvent, BadRow, NoRow, BadImport}
-use Rattle.rev_program.proofs.Parts.{told_all}
 
 other : (n m : ℕ) → (n ≡ m → ⊥) → nat_eq n m ≡ false
 other n m differs = elim (cases_Bool (nat_eq n m)) [
@@ -17,16 +15,12 @@ other n m differs = elim (cases_Bool (nat_eq n m)) [
   | inr e ↦ e
 ]
 
--- nothing is told of none
-pub none_told : (t : Tally) (so : List ℕ) (old : Option (List ℕ)) (failures : ℕ) → t.count ≡ 0 → Told old old failures failures (tally_text t so)
-none_told t so old failures is = rw is (told_all old old failures failures [] (Appends-nil old))
-
--- one is
+-- one command was so
 pub one_told : (P : List ℕ → Type 0) (t : Tally) (so first : List ℕ) → t.count ≡ 1 → first ≡ decimal t.first →
     P (joined (codes "lrudb: 1 command was " ∷ so ∷ codes ", it is command " ∷ first ∷ codes "\n" ∷ [])) → P (tally_text t so)
 one_told P t so first is digits told = rw is (subst (λ d. P (joined (codes "lrudb: 1 command was " ∷ so ∷ codes ", it is command " ∷ d ∷ codes "\n" ∷ []))) digits told)
 
--- more are
+-- more were
 pub more_told : (P : List ℕ → Type 0) (t : Tally) (so count first : List ℕ) → (t.count ≡ 0 → ⊥) → (t.count ≡ 1 → ⊥) → count ≡ decimal t.count → first ≡ decimal t.first →
     P (joined (codes "lrudb: " ∷ count ∷ codes " commands were " ∷ so ∷ codes ", the first is command " ∷ first ∷ codes "\n" ∷ [])) → P (tally_text t so)
 more_told P t so count first some many number digits told =
