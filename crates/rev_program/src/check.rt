@@ -1,11 +1,12 @@
 //! `lrudb import watch --check`: the script is played as it is made, and compared with what the log says.
 
 use crate::import::Making;
-use crate::imported::{Feed, NamedLogs};
+use crate::imported::stop_in;
 use crate::stop::Stop;
 use indexmap::IndexMap;
 use rev_classes::{Config, fault_of};
 use rev_explain::departures;
+use rev_intake::fault::IntakeFault;
 use rev_intake::feed::LogFeed;
 use rev_intake::intake::{Intake, PIECE};
 use rev_intake::report::put_part;
@@ -46,6 +47,7 @@ struct Side {
 }
 
 /// How an eviction compares with those that the other one told.
+#[derive(Clone, Copy)]
 enum Eviction {
     /// It was told before by the same one.
     Again,
@@ -105,6 +107,15 @@ struct Fate {
     replay: Side,
 }
 
+impl Fate {
+    fn evict(&mut self, teller: Teller) -> Result<Eviction, AllocError> {
+        match teller {
+            Teller::Log => self.log.evict(&mut self.replay),
+            Teller::Replay => self.replay.evict(&mut self.log),
+        }
+    }
+}
+
 /// How many gets and evictions are alike.
 #[derive(Clone, Copy, Default)]
 struct Tally {
@@ -152,6 +163,18 @@ impl Tally {
         count(&mut self.gets);
         if is_alike {
             count(&mut self.alike);
+        }
+    }
+
+    fn note(&mut self, teller: Teller, eviction: Eviction) {
+        match eviction {
+            Eviction::Again => return,
+            Eviction::Both => count(&mut self.both),
+            Eviction::Alone => {}
+        }
+        match teller {
+            Teller::Log => count(&mut self.logged),
+            Teller::Replay => count(&mut self.replayed),
         }
     }
 
@@ -216,20 +239,9 @@ impl Comparison {
 
     fn evict(&mut self, teller: Teller, key: &[u8]) -> Result<(), AllocError> {
         let place = self.place(key)?;
-        let Some(Fate { log, replay }) = self.fates.get_index_mut(place) else {
-            return Ok(());
-        };
-        let (one, other, told) = match teller {
-            Teller::Log => (log, replay, &mut self.tally.logged),
-            Teller::Replay => (replay, log, &mut self.tally.replayed),
-        };
-        match one.evict(other)? {
-            Eviction::Again => {}
-            Eviction::Alone => count(told),
-            Eviction::Both => {
-                count(told);
-                count(&mut self.tally.both);
-            }
+        if let Some(fate) = self.fates.get_index_mut(place) {
+            let eviction = fate.evict(teller)?;
+            self.tally.note(teller, eviction);
         }
         Ok(())
     }
@@ -409,21 +421,45 @@ fn first_of(alloc: Global, line: Option<&LogLine<Global>>) -> Result<First, Allo
 // Takes in a little more. The event that became lines by it goes behind the others.
 fn feed<F: Read + Drop>(
     alloc: Global,
-    feed: &mut NamedLogs<'_, F>,
+    logs: &mut LogFeed<'_, F>,
     piece: &mut Vec<u8>,
     events: &mut Vec<Noted>,
-) -> Result<bool, Stop> {
-    let First { gid, said } = first_of(alloc, feed.logs.first())?;
-    let before = feed.logs.intake().figures().lines;
-    let more = feed.feed(piece)?;
-    let lines = feed.logs.intake().figures().lines.saturating_sub(before);
-    if gid.is_some()
-        && gid_of(feed.logs.first()) != gid
-        && events.push(Noted { said, lines }).is_err()
-    {
-        return Err(Stop::Memory);
+) -> Result<bool, IntakeFault> {
+    let First { gid, said } = first_of(alloc, logs.first())?;
+    let before = logs.intake().figures().lines;
+    let more = logs.feed(piece)?;
+    let lines = logs.intake().figures().lines.saturating_sub(before);
+    let is_written = gid.is_some() && gid_of(logs.first()) != gid;
+    if is_written && events.push(Noted { said, lines }).is_err() {
+        return Err(IntakeFault::Memory);
     }
     Ok(more)
+}
+
+// Plays the script as it is made, and sends it.
+fn send_checked<F: Read + Drop, K: Sink>(
+    alloc: Global,
+    logs: &mut LogFeed<'_, F>,
+    check: &mut Check,
+    sink: &mut K,
+) -> Result<(), IntakeFault> {
+    let mut piece = Vec::new(alloc);
+    let mut events = Vec::new(alloc);
+    for _ in 0..u64::MAX {
+        let more = feed(alloc, logs, &mut piece, &mut events)?;
+        // The script's first lines belong to no event.
+        let is_begun = !piece.is_empty() && events.is_empty();
+        if !more || piece.len() >= PIECE || is_begun {
+            check.replay(piece.as_slice(), events.as_slice())?;
+            write_all(sink, piece.as_slice())?;
+            piece.clear();
+            events.clear();
+        }
+        if !more {
+            break;
+        }
+    }
+    Ok(())
 }
 
 impl<'a, F: Read + Drop> Making for CheckedLogs<'a, F> {
@@ -435,26 +471,10 @@ impl<'a, F: Read + Drop> Making for CheckedLogs<'a, F> {
             check,
         } = self;
         let alloc = *logs.allocator();
-        let logs = LogFeed::new(alloc, intake, logs);
-        let mut logs = NamedLogs { alloc, names, logs };
-        let mut piece = Vec::new(alloc);
-        let mut events = Vec::new(alloc);
-        for _ in 0..u64::MAX {
-            let more = feed(alloc, &mut logs, &mut piece, &mut events)?;
-            // The script's first lines belong to no event.
-            let is_begun = !piece.is_empty() && events.is_empty();
-            if !more || piece.len() >= PIECE || is_begun {
-                check.replay(piece.as_slice(), events.as_slice())?;
-                if write_all(sink, piece.as_slice()).is_err() {
-                    return Err(Stop::CannotWrite);
-                }
-                piece.clear();
-                events.clear();
-            }
-            if !more {
-                break;
-            }
+        let mut logs = LogFeed::new(alloc, intake, logs);
+        match send_checked(alloc, &mut logs, check, sink) {
+            Ok(()) => Ok(()),
+            Err(fault) => Err(stop_in(alloc, fault, names, logs.place())),
         }
-        Ok(())
     }
 }

@@ -496,7 +496,7 @@ fn import_logs<R: Files + AllocGlobal, I: Read + Drop, O: Write>(
     asked: &WatchImport,
     words: &[u8],
     intake: &mut Intake<Global>,
-    check: Option<&mut Check>,
+    check: &mut Option<Check>,
     reader: I,
     writer: &mut O,
 ) -> Result<(), Stop> {
@@ -599,15 +599,7 @@ fn import<R: Files + AllocGlobal, I: Read + Drop, O: Write>(
     let mut check = check_of(rt.alloc(), asked.check, &setup.config)?;
     let mut intake = intake_of(rt.alloc(), setup, asked)?;
     let words = words.as_slice();
-    import_logs(
-        rt,
-        asked,
-        words,
-        &mut intake,
-        check.as_mut(),
-        reader,
-        writer,
-    )?;
+    import_logs(rt, asked, words, &mut intake, &mut check, reader, writer)?;
     let told = add_report(notes, asked, words, &intake, &check, setup_lines, stats);
     match told {
         Ok(()) => Ok(()),

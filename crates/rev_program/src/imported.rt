@@ -27,24 +27,30 @@ fn either(stop: Result<Stop, Stop>) -> Stop {
     }
 }
 
-/// Logs of these names.
-#[derive(Drop)]
-pub(crate) struct NamedLogs<'a, F: Read + Drop> {
-    pub(crate) alloc: Global,
-    pub(crate) names: &'a [String],
-    pub(crate) logs: LogFeed<'a, F>,
+/// Why logs of these names do not become a script, at the one in a place.
+pub(crate) fn stop_in(alloc: Global, fault: IntakeFault, names: &[String], place: usize) -> Stop {
+    // All logs together have no event.
+    let place = if fault == IntakeFault::NoEvent {
+        0
+    } else {
+        place
+    };
+    either(stop_of_log(alloc, fault, name_in(names, place)))
 }
 
-impl<'a, F: Read + Drop> Feed for NamedLogs<'a, F> {
+/// Logs of these names.
+#[derive(Drop)]
+pub(crate) struct NamedLogs<'n, 'i, F: Read + Drop> {
+    pub(crate) alloc: Global,
+    pub(crate) names: &'n [String],
+    pub(crate) logs: LogFeed<'i, F>,
+}
+
+impl<'n, 'i, F: Read + Drop> Feed for NamedLogs<'n, 'i, F> {
     fn feed(&mut self, out: &mut Vec<u8>) -> Result<bool, Stop> {
         match self.logs.feed(out) {
             Ok(more) => Ok(more),
-            // All logs together have none.
-            Err(IntakeFault::NoEvent) => {
-                let first = name_in(self.names, 0);
-                Err(either(stop_of_log(self.alloc, IntakeFault::NoEvent, first)))
-            }
-            Err(fault) => Err(either(stop_of_log(self.alloc, fault, self.name()))),
+            Err(fault) => Err(stop_in(self.alloc, fault, self.names, self.logs.place())),
         }
     }
 
@@ -53,24 +59,29 @@ impl<'a, F: Read + Drop> Feed for NamedLogs<'a, F> {
     }
 }
 
-/// Published traces of these names.
-#[derive(Drop)]
-pub(crate) struct NamedTraces<'a, F: Read + Drop> {
-    pub(crate) alloc: Global,
-    pub(crate) names: &'a [String],
-    pub(crate) traces: RowFeed<'a, F>,
+// Why traces of these names do not become a script, at the one in a place.
+fn stop_among(alloc: Global, fault: RowsFault, names: &[String], place: usize) -> Stop {
+    // All traces together have no row.
+    let place = if fault == RowsFault::NoRow { 0 } else { place };
+    either(stop_of_row(alloc, fault, name_in(names, place)))
 }
 
-impl<'a, F: Read + Drop> Feed for NamedTraces<'a, F> {
+/// Published traces of these names.
+#[derive(Drop)]
+pub(crate) struct NamedTraces<'n, 'i, F: Read + Drop> {
+    pub(crate) alloc: Global,
+    pub(crate) names: &'n [String],
+    pub(crate) traces: RowFeed<'i, F>,
+}
+
+impl<'n, 'i, F: Read + Drop> Feed for NamedTraces<'n, 'i, F> {
     fn feed(&mut self, out: &mut Vec<u8>) -> Result<bool, Stop> {
         match self.traces.feed(out) {
             Ok(more) => Ok(more),
-            // All traces together have none.
-            Err(RowsFault::NoRow) => {
-                let first = name_in(self.names, 0);
-                Err(either(stop_of_row(self.alloc, RowsFault::NoRow, first)))
+            Err(fault) => {
+                let place = self.traces.place();
+                Err(stop_among(self.alloc, fault, self.names, place))
             }
-            Err(fault) => Err(either(stop_of_row(self.alloc, fault, self.name()))),
         }
     }
 
