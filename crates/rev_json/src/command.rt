@@ -145,6 +145,13 @@ fn unnamed_of<A: Allocator>(line: &Line<A>) -> Unnamed {
                 ..
             },
         ) => Unnamed::Events,
+        Line::Debug(DebugLine::Plain(DebugCommand::Help)) => Unnamed::Help,
+        Line::Debug(
+            DebugLine::Bookmark {
+                command: BookmarkCommand::Help,
+                ..
+            },
+        ) => Unnamed::Help,
         _ => Unnamed::Count,
     }
 }
