@@ -33,16 +33,17 @@ CLIENT_ERROR {message}
 SERVER_ERROR {message}
 """
 # The rows that do not begin with their kind.
-NUMBERED = {
+UNNAMED = {
     "NUMBER": ["{number}"],
     "TREE": ["{node} {parent} {step} {outcome}"],
     "GONE": ["{node} {key} {cause}"],
+    "HELP": ["{text}"],
     "EVENT": ["{node} {event} {class} {queue}", "{node} {event} {from} {to}", "{node} {event} {cause}"],
 }
 FIELD = re.compile(r"{(\w+)}")
 # The commands whose answer is a list, at whose end the text has `END`, and the errors in its place.
-LISTS = ("get", "gets", ":tree", ":pages", ":classes", ":story", ":gone", ":marks")
-ERRORS = ("ERROR", "CLIENT_ERROR", "SERVER_ERROR")
+LISTS = ("get", "gets", ":tree", ":pages", ":classes", ":story", ":gone", ":marks", ":help")
+ERRORS = ("ERROR", "CLIENT_ERROR", "SERVER_ERROR", "NOHELP")
 # The objects in the place of a value, each with its names in order and how it is written.
 VALUES = [
     (["hex"], lambda it: bytes.fromhex(it["hex"])),
@@ -54,7 +55,7 @@ VALUES = [
 def by_fields():
     """The forms by their kind and the names of their fields."""
     forms = [(it.split()[0].split("{")[0], it) for it in FORMS.split("\n") if it]
-    forms += [(kind, it) for kind, some in NUMBERED.items() for it in some]
+    forms += [(kind, it) for kind, some in UNNAMED.items() for it in some]
     return {(kind, *FIELD.findall(form)): form for kind, form in forms}
 
 

@@ -5,9 +5,9 @@ use rev_script::command::{BookmarkCommand, DebugCommand, KeyQuery, StorageComman
 use rev_script::line::{ClientLine, DebugLine, Line};
 use std::alloc::Allocator;
 
-/// What the rows of an answer are that begin with a number.
+/// What the rows of an answer are that do not begin with their kind: those that begin with a number, or all of `:help`.
 #[derive(Clone, Copy)]
-pub enum Numbered {
+pub enum Unnamed {
     /// The number that `incr` or `decr` left.
     Count,
     /// The nodes of the tree.
@@ -16,6 +16,8 @@ pub enum Numbered {
     Events,
     /// The keys that left.
     Departures,
+    /// What may be typed.
+    Help,
 }
 
 /// A line's command.
@@ -23,7 +25,7 @@ pub enum Numbered {
 pub struct Command {
     /// The words that name it; none where the line is malformed.
     pub name: Option<&'static str>,
-    pub numbered: Numbered,
+    pub unnamed: Unnamed,
 }
 
 fn verb_name(verb: StoreVerb) -> &'static str {
@@ -133,17 +135,24 @@ fn line_name<A: Allocator>(line: &Line<A>) -> Option<&'static str> {
     }
 }
 
-fn numbered_of<A: Allocator>(line: &Line<A>) -> Numbered {
+fn unnamed_of<A: Allocator>(line: &Line<A>) -> Unnamed {
     match line {
-        Line::Debug(DebugLine::Plain(DebugCommand::Tree)) => Numbered::Nodes,
-        Line::Debug(DebugLine::Plain(DebugCommand::Gone(_))) => Numbered::Departures,
+        Line::Debug(DebugLine::Plain(DebugCommand::Tree)) => Unnamed::Nodes,
+        Line::Debug(DebugLine::Plain(DebugCommand::Gone(_))) => Unnamed::Departures,
         Line::Debug(
             DebugLine::Query {
                 query: KeyQuery::Story,
                 ..
             },
-        ) => Numbered::Events,
-        _ => Numbered::Count,
+        ) => Unnamed::Events,
+        Line::Debug(DebugLine::Plain(DebugCommand::Help)) => Unnamed::Help,
+        Line::Debug(
+            DebugLine::Bookmark {
+                command: BookmarkCommand::Help,
+                ..
+            },
+        ) => Unnamed::Help,
+        _ => Unnamed::Count,
     }
 }
 
@@ -151,6 +160,6 @@ fn numbered_of<A: Allocator>(line: &Line<A>) -> Numbered {
 pub fn command_of<A: Allocator>(line: &Line<A>) -> Command {
     Command {
         name: line_name(line),
-        numbered: numbered_of(line),
+        unnamed: unnamed_of(line),
     }
 }

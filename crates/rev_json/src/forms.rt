@@ -1,6 +1,6 @@
 //! The forms of rows: which fields an object has, for the words of a row.
 
-use crate::command::Numbered;
+use crate::command::Unnamed;
 use crate::words::{Words, is_word, word_behind};
 
 /// What becomes of the next word, or of some words, of a row. A field whose word the row does not have is left out.
@@ -248,6 +248,11 @@ static LEFT: Form = Form {
     ],
 };
 
+static HELP: Form = Form {
+    kind: "HELP",
+    parts: &[Part::Rest("text")],
+};
+
 /// The words of the steps that name neither a key nor a queue, and of the root.
 static STEPS_OF_NOTHING: [&str; 9] = [
     "root",
@@ -285,13 +290,14 @@ fn event_form(event: &[u8]) -> &'static Form {
     }
 }
 
-// The form of a row that begins with a number.
-fn numbered_form(row: &[u8], numbered: Numbered) -> &'static Form {
-    match numbered {
-        Numbered::Count => &COUNT,
-        Numbered::Nodes => &NODE,
-        Numbered::Departures => &DEPARTURE,
-        Numbered::Events => event_form(word_behind(row, 1)),
+// The form of a row that does not begin with its kind.
+fn unnamed_form(row: &[u8], unnamed: Unnamed) -> &'static Form {
+    match unnamed {
+        Unnamed::Count => &COUNT,
+        Unnamed::Nodes => &NODE,
+        Unnamed::Departures => &DEPARTURE,
+        Unnamed::Events => event_form(word_behind(row, 1)),
+        Unnamed::Help => &HELP,
     }
 }
 
@@ -315,11 +321,19 @@ fn begins_with_digit(row: &[u8]) -> bool {
     }
 }
 
+// Whether a row does not begin with its kind.
+fn is_unnamed(row: &[u8], unnamed: Unnamed) -> bool {
+    match unnamed {
+        Unnamed::Help => !is_word(row, b"NOHELP"),
+        _ => begins_with_digit(row),
+    }
+}
+
 /// The form of a row, and the words that are its parts; none of a row that is its own kind.
-pub fn form_of<'a>(row: &'a [u8], numbered: Numbered) -> Option<(&'static Form, Words<'a>)> {
+pub fn form_of<'a>(row: &'a [u8], unnamed: Unnamed) -> Option<(&'static Form, Words<'a>)> {
     let mut words = Words::of(row);
-    if begins_with_digit(row) {
-        return Some((numbered_form(row, numbered), words));
+    if is_unnamed(row, unnamed) {
+        return Some((unnamed_form(row, unnamed), words));
     }
     let kind = words.next()?;
     let form = named_form(row, kind)?;

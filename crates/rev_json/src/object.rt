@@ -35,7 +35,7 @@ pub fn json_line(
         command: command.name,
         answer: Rows {
             text: answer,
-            numbered: command.numbered,
+            unnamed: command.unnamed,
         },
     };
     // Only a want of memory keeps it from being written.

@@ -1,7 +1,7 @@
 //! The rows of an answer.
 ghost use Rattle.std.specs.Prelude.{◌≤◌, ◌<◌, length, IfSome};
 
-use crate::command::Numbered;
+use crate::command::Unnamed;
 use crate::fields::{put_bytes, put_part};
 use crate::forms::{Form, form_of};
 use crate::words::{Words, is_word};
@@ -88,10 +88,10 @@ fn put_fields<S: Serializer>(
 }
 
 // Puts the object of a row.
-fn put_row<S: Serializer>(out: &mut S, row: &Row<'_>, numbered: Numbered) -> Result<(), S::Error> {
+fn put_row<S: Serializer>(out: &mut S, row: &Row<'_>, unnamed: Unnamed) -> Result<(), S::Error> {
     out.begin_map(None)?;
     out.key("kind")?;
-    match form_of(row.line, numbered) {
+    match form_of(row.line, unnamed) {
         None => put_bytes(out, row.line)?,
         Some((form, mut words)) => put_fields(out, form, &mut words)?,
     }
@@ -103,11 +103,11 @@ fn put_row<S: Serializer>(out: &mut S, row: &Row<'_>, numbered: Numbered) -> Res
 }
 
 // Puts the objects of all rows, but for an `END`.
-fn put_rows<S: Serializer>(out: &mut S, text: &[u8], numbered: Numbered) -> Result<(), S::Error> {
+fn put_rows<S: Serializer>(out: &mut S, text: &[u8], unnamed: Unnamed) -> Result<(), S::Error> {
     let mut rest = text;
     'rows: while let Some((row, behind)) = first_row(rest) {
         if !is_word(row.line, b"END") {
-            put_row(out, &row, numbered)?;
+            put_row(out, &row, unnamed)?;
         }
         rest = behind;
     }
@@ -118,7 +118,7 @@ fn put_rows<S: Serializer>(out: &mut S, text: &[u8], numbered: Numbered) -> Resu
 #[derive(Clone, Copy)]
 pub struct Rows<'a> {
     pub text: &'a [u8],
-    pub numbered: Numbered,
+    pub unnamed: Unnamed,
 }
 
 impl Described for Rows<'_> {}
@@ -126,7 +126,7 @@ impl Described for Rows<'_> {}
 impl Serialize for Rows<'_> {
     fn serialize<S: Serializer>(&self, out: &mut S) -> Result<(), S::Error> {
         out.begin_seq(None)?;
-        put_rows(out, self.text, self.numbered)?;
+        put_rows(out, self.text, self.unnamed)?;
         out.end_seq()
     }
 }

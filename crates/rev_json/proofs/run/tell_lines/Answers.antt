@@ -3,7 +3,7 @@ use Rattle.rev_script.specs.Script.{onwards, cuts}
 use Rattle.rev_script.proofs.Known.{Took-refl}
 use Rattle.rev_script.proofs.Scripts.{takes_byte, first-unused, first-given}
 use Rattle.rev_output.specs.Sink.{PlainSink, sink_at}
-use Rattle.rev_shell.proofs.Runs.{progress, finished, memory_now, fault_now, front_now, still_whole}
+use Rattle.rev_shell.proofs.Runs.{progress, finished, memory_now, fault_now, front_now, still_whole, few_bad, few_refused}
 use Rattle.rev_json.proofs.Telling.{no_lines, one_more_line, before_line, at_fault, part_of_line}
 use Rattle.rev_json.proofs.run.tell_lines.Goals as goal
 
@@ -27,6 +27,8 @@ lines-init g c =
         session_is = refl;
         wrote = tt;
         writes = refl;
+        bad_is = refl;
+        refused_is = refl;
       },
       no_lines _,
     )
@@ -35,7 +37,7 @@ pub returns-in-Err-clause-err : goal.returns-in-Err-clause-err
 returns-in-Err-clause-err g c =
     let i = c.lines.invariant in
     let w = still_whole i.3 (λ e. let n = (c.in-Err.ensures.stays i.0 e.ended).0 in cc) in
-    let stopped = fault_now _ _ _ c.next.new.self.input _ _ nowhere _ _ _ (first-unused _ c.requires) (first-given _ c.requires) i.3 c.in-Err.fault w (c.in-Err.ensures.err i.0) in
+    let stopped = fault_now _ _ _ _ c.next.new.self.input _ _ nowhere _ _ _ _ _ (first-unused _ c.requires) (first-given _ c.requires) i.3 c.in-Err.fault w (c.in-Err.ensures.err i.0) in
     rw c.fault_at.ensures (record { stopped = stopped; wrote = at_fault c.in-Err.fault _ _ _ i.4 })
 
 pub returns-in-None-clause-ok : goal.returns-in-None-clause-ok
@@ -43,7 +45,7 @@ returns-in-None-clause-ok g c =
     let i = c.lines.invariant in
     let n = rw c.in-None.is at c.in-Ok.ensures.ok in
     record {
-      ended = finished _ _ _ c.next.new.self.input _ _ nowhere _ _ _ (first-unused _ c.requires) (first-given _ c.requires) i.3 _ c.issued.ensures (λ e. (c.in-Ok.ensures.stays i.0 e).1) n;
+      ended = finished _ _ _ _ c.next.new.self.input _ _ _ _ _ _ _ _ (first-unused _ c.requires) (first-given _ c.requires) i.3 _ c.issued.ensures (λ e. (c.in-Ok.ensures.stays i.0 e).1) n tt refl;
       wrote = i.4;
     }
 
@@ -53,7 +55,7 @@ returns-in-Err-answer_line-clause-err g c =
     let n = rw c.in-Some.is at c.in-Ok.ensures.ok in
     let w = still_whole i.3 (λ e. let x = (c.in-Ok.ensures.stays i.0 e.ended).0 in cc) in
     record {
-      stopped = memory_now _ _ _ c.next.new.self.input _ _ nowhere _ _ _ (first-unused _ c.requires) (first-given _ c.requires) i.3 _ w n;
+      stopped = memory_now _ _ _ _ c.next.new.self.input _ _ nowhere _ _ _ _ _ (first-unused _ c.requires) (first-given _ c.requires) i.3 _ w n;
       wrote = before_line _ _ _ i.4;
     }
 
@@ -63,7 +65,7 @@ returns-in-Err-json_line-clause-err g c =
     let n = rw c.in-Some.is at c.in-Ok.ensures.ok in
     let w = still_whole i.3 (λ e. let x = (c.in-Ok.ensures.stays i.0 e.ended).0 in cc) in
     record {
-      stopped = memory_now _ _ _ c.next.new.self.input _ _ nowhere _ _ _ (first-unused _ c.requires) (first-given _ c.requires) i.3 _ w n;
+      stopped = memory_now _ _ _ _ c.next.new.self.input _ _ nowhere _ _ _ _ _ (first-unused _ c.requires) (first-given _ c.requires) i.3 _ w n;
       wrote = before_line _ _ _ i.4;
     }
 
@@ -73,20 +75,28 @@ returns-in-Err-write_all-clause-err g c =
     let n = rw c.in-Some.is at c.in-Ok.ensures.ok in
     let w = still_whole i.3 (λ e. let x = (c.in-Ok.ensures.stays i.0 e.ended).0 in cc) in
     record {
-      stopped = front_now _ _ _ _ _ _ _ _ _ _ (first-unused _ c.requires) (first-given _ c.requires) i.3 _ w n ([], _, tt, refl) c.in-Err-write_all.ensures.err.1;
+      stopped = front_now _ _ _ _ _ _ _ _ _ _ _ _ _ (first-unused _ c.requires) (first-given _ c.requires) i.3 _ _ w n c.in-Ok-answer_line.ensures.state ([], _, tt, refl) c.in-Err-write_all.ensures.err.1;
       wrote = part_of_line _ _ _ _ _ i.4 c.in-Err-write_all.ensures.err.0;
     }
+
+pub with_mark-bad-requires : goal.with_mark-bad-requires
+with_mark-bad-requires g c = few_bad c.lines.invariant.3
+
+pub with_mark-refused-requires : goal.with_mark-refused-requires
+with_mark-refused-requires g c = few_refused c.lines.invariant.3
 
 pub lines-preserved : goal.lines-preserved
 lines-preserved g c =
     let i = c.lines.invariant in
     let n = rw c.in-Some.is at c.in-Ok.ensures.ok in
     let w = still_whole i.3 (λ e. let x = (c.in-Ok.ensures.stays i.0 e.ended).0 in cc) in
-    let a = rw c.as_slice-in-lines.ensures.value at c.in-Ok-write_all.ensures.ok.0 in (
+    let a = rw c.as_slice-in-lines.ensures.value at c.in-Ok-write_all.ensures.ok.0 in
+    let bad = rw c.is_bad-is_bad.ensures at c.with_mark-bad.ensures in
+    let refused = rw c.in-Ok-answer_line.ensures.refused at c.with_mark-refused.ensures in (
       c.in-Ok.ensures.good,
       omega (arith, takes_byte _ _ _ n.0 _ _ n.3, n.1.passed.count, i.1),
       c.in-Ok.ensures.most,
-      progress _ _ _ _ _ _ _ _ _ _ (first-unused _ c.requires) (first-given _ c.requires) i.3 _ _ w n c.in-Ok-answer_line.ensures.state tt c.in-Ok-write_all.ensures.ok.1,
+      progress _ _ _ _ _ _ _ _ _ _ _ _ _ (first-unused _ c.requires) (first-given _ c.requires) i.3 _ _ _ _ w n c.in-Ok-answer_line.ensures.state tt c.in-Ok-write_all.ensures.ok.1 bad refused,
       one_more_line _ _ _ _ _ i.4 c.in-Ok-json_line.ensures a,
     )
 
