@@ -181,6 +181,7 @@ fn put_debug_line<A: Allocator + Clone>(
 }
 
 /// Does what a line asks for, and writes its answer. At an error the answer is of no use.
+#[inline(always)]
 pub fn put_answer<A: Allocator + Clone>(
     session: &mut Session<A>,
     bookmarks: &mut Bookmarks<'_, A>,

@@ -157,6 +157,7 @@ fn put_prompt<A: Allocator>(
 
 /// Does what a line asks for; the answer, and the prompt for the next line, are then in `text` and nothing else. Answers
 /// whether the tree refused a step of the line. At an error the text is of no use.
+#[inline(always)]
 pub fn answer_line<A: Allocator + Clone>(
     prompts: Prompts,
     session: &mut Session<A>,
