@@ -16,7 +16,7 @@ static FAULTS: [Faulty; 4] = [
         fails: false,
         most: 100,
         output: "NODE 0\r\nERROR\r\n",
-        errors: "",
+        errors: "lrudb: 1 command was malformed, it is command 2\n",
         status: 0,
     },
     Faulty {
