@@ -57,7 +57,7 @@ nothing None b h = tt
 nothing (Some xs) None h = absurd h
 nothing (Some xs) (Some ys) h = h ∙ sym (append-nil xs)
 
-noted_text : Option Full → List ℕ
+abbrev noted_text : Option Full → List ℕ
 noted_text None = []
 noted_text (Some full) = full_text full
 
