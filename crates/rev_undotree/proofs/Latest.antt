@@ -6,8 +6,9 @@ use Rattle.std.proofs.lemmas.Bool.{cases_lt}
 use Rattle.std.proofs.lemmas.Option.{get_or_from_slice_get, slice_get_within, slice_get-get_or}
 use Rattle.rev_undotree.specs.declared.mention.Mention.{Mention}
 use Rattle.rev_undotree.specs.declared.links.Entry.{Entry}
+use Rattle.rev_undotree.specs.declared.links.Head.{Head}
 use Rattle.rev_undotree.specs.Mentions.{Holds}
-use Rattle.rev_undotree.specs.Links.{mention_of, mentions_of, links_of, bucket_at, node_at, Linked, LeadsPast, IsSound, no_mention, Rises}
+use Rattle.rev_undotree.specs.Links.{mention_of, mentions_of, links_of, lasts_of, bucket_at, node_at, Linked, LeadsPast, IsSound, no_mention, Rises}
 use Rattle.rev_undotree.proofs.Linking.{no_entry}
 
 -- the link c leads into the bucket of the hash h, and no mention of h up to node d lies past it
@@ -17,11 +18,10 @@ pub record Seeks (ms : List Mention) (m h d c : ℕ) : Type 0 where
   pub last : (i : ℕ) → i < length ms → (get_or ms i no_mention).hash ≡ h → node_at ms i ≤ d → i < c
 
 -- the mention that the walk stands at is another, or it is of a node past d
-seek_more : (heads : List ℕ) (ms : List Mention) (links : List ℕ) (h d c e : ℕ) → Linked heads ms links (length ms) → Seeks ms (length heads) h d c → 0 < c
+seek_more : (m : ℕ) (lasts : List ℕ) (ms : List Mention) (links : List ℕ) (h d c e : ℕ) → Linked m lasts ms links (length ms) → Seeks ms m h d c → 0 < c
     → ((get_or ms (c - 1) no_mention).hash ≡ h → node_at ms (c - 1) ≤ d → ⊥) → e ≡ get_or links (c - 1) 0
-    → Seeks ms (length heads) h d e
-seek_more heads ms links h d c e l s p n f =
-    let m = length heads in
+    → Seeks ms m h d e
+seek_more m lasts ms links h d c e l s p n f =
     let sb : c ≤ length ms = s.below in
     let j : c - 1 < length ms = omega arith in
     let o = l.at_link (c - 1) j in
@@ -89,7 +89,7 @@ seek_end ms m h d c s z n k b =
     absurd (omega arith)
 
 -- the same at entries, where the walk stands at one
-module _ (heads : List ℕ) (es : List Entry) (sound : IsSound heads es) (h d c : ℕ) (s : Seeks (mentions_of es) (length heads) h d c) (p : 0 < c) where
+module _ (heads : List Head) (es : List Entry) (sound : IsSound heads es) (h d c : ℕ) (s : Seeks (mentions_of es) (length heads) h d c) (p : 0 < c) where
   stands_at : get_or (mentions_of es) (c - 1) no_mention ≡ mention_of (get_or es (c - 1) no_entry)
   stands_at = get_or-map mention_of es (c - 1) no_entry
 
@@ -100,8 +100,8 @@ module _ (heads : List ℕ) (es : List Entry) (sound : IsSound heads es) (h d c 
       let n : (get_or es (c - 1) no_entry).hash ≡ h → (get_or es (c - 1) no_entry).node ≤ d → ⊥ = λ a b. elim other [ inl (_, past) ↦ omega arith | inr ne ↦ ne a ] in
       let e = ap (λ (m : Mention). m.hash) stands_at in
       let f = ap (λ (m : Mention). m.node) stands_at in
-      let l = subst (Linked heads (mentions_of es) (links_of es)) (sym (length-map es mention_of)) sound.linked in
-      seek_more heads (mentions_of es) (links_of es) h d c (get_or es (c - 1) no_entry).earlier l s p
+      let l = subst (Linked (length heads) (lasts_of heads) (mentions_of es) (links_of es)) (sym (length-map es mention_of)) sound.linked in
+      seek_more (length heads) (lasts_of heads) (mentions_of es) (links_of es) h d c (get_or es (c - 1) no_entry).earlier l s p
       (λ a b. n (sym e ∙ a) (subst (λ x. x ≤ d) f b)) (sym (get_or-map (λ (x : Entry). x.earlier) es (c - 1) no_entry))
 
   -- it says what is asked for
