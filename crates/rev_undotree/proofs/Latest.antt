@@ -8,14 +8,28 @@ use Rattle.rev_undotree.specs.declared.mention.Mention.{Mention}
 use Rattle.rev_undotree.specs.declared.links.Entry.{Entry}
 use Rattle.rev_undotree.specs.declared.links.Head.{Head}
 use Rattle.rev_undotree.specs.Mentions.{Holds}
-use Rattle.rev_undotree.specs.Links.{mention_of, mentions_of, links_of, lasts_of, bucket_at, node_at, Linked, LeadsPast, IsSound, no_mention, Rises}
-use Rattle.rev_undotree.proofs.Linking.{no_entry}
+use Rattle.rev_undotree.specs.Links.{mention_of, mentions_of, links_of, lasts_of, bucket_at, node_at, Leads, Linked, LeadsPast, IsSound, no_mention, Rises}
+use Rattle.rev_undotree.proofs.Linking.{no_entry, no_head}
 
 -- the link c leads into the bucket of the hash h, and no mention of h up to node d lies past it
 pub record Seeks (ms : List Mention) (m h d c : ℕ) : Type 0 where
   pub below : c ≤ length ms
   pub home : 0 < c → bucket_at ms m (c - 1) ≡ h % m
   pub last : (i : ℕ) → i < length ms → (get_or ms i no_mention).hash ≡ h → node_at ms i ≤ d → i < c
+
+-- the walk begins at the head of the hash's bucket
+pub begins : (heads : List Head) (es : List Entry) (h d b : ℕ) → IsSound heads es → b ≡ h % length heads → b < length heads → Seeks (mentions_of es) (length heads) h d (get_or heads b no_head).last
+begins heads es h d b s is w =
+    let m = length heads in
+    let f : get_or (lasts_of heads) b 0 ≡ (get_or heads b no_head).last = get_or-map (λ (x : Head). x.last) heads b no_head in
+    let l : Leads (mentions_of es) m (length es) b (get_or heads b no_head).last = subst (λ c. Leads (mentions_of es) m (length es) b c) f (s.linked.at_head b w) in
+    let e : length (mentions_of es) ≡ length es = length-map es mention_of in
+    let lb : (get_or heads b no_head).last ≤ length es = l.below in
+    record {
+      below = omega arith;
+      home = λ p. l.home p ∙ is;
+      last = λ i k t _. let v : i < length es = omega arith in l.last i v (ap (λ x. x % m) t ∙ sym is);
+    }
 
 -- the mention that the walk stands at is another, or it is of a node past d
 seek_more : (m : ℕ) (lasts : List ℕ) (ms : List Mention) (links : List ℕ) (h d c e : ℕ) → Linked m lasts ms links (length ms) → Seeks ms m h d c → 0 < c

@@ -1,11 +1,10 @@
 -- Links when a mention comes behind the others, and when an entry is linked.
-use Rattle.std.proofs.Common.{◌≡◌, ◌≢◌, ℕ, ◌+◌, ◌-◌, ◌%◌, ◌<◌, ◌≤◌, List, length, inl, inr, refl, sym, ◌∙◌, ap, subst, arith, get_or}
+use Rattle.std.proofs.Common.{◌≡◌, ◌≢◌, ℕ, zero, suc, ◌+◌, ◌-◌, ◌%◌, ◌<◌, ◌≤◌, List, length, replicate, inl, inr, refl, sym, ◌∙◌, ap, subst, arith, get_or}
 use Rattle.std.proofs.lemmas.Bool.{cases_eq, cases_lt}
 use Rattle.std.proofs.Math.ListN.{set, get_or-map}
 use Rattle.std.proofs.Math.Seq.{map-set_same}
 use Rattle.std.proofs.lemmas.List.{get_or-set_same, get_or-set_other, length-set, length-map, map-set}
 use Rattle.rev_undotree.specs.declared.mention.Mention.{Mention}
-use Rattle.rev_undotree.specs.declared.hint.Hint.{Hint}
 use Rattle.rev_undotree.specs.declared.links.Entry.{Entry}
 use Rattle.rev_undotree.specs.declared.links.Head.{Head}
 use Rattle.rev_undotree.specs.Links.{mention_of, mentions_of, links_of, lasts_of, bucket_at, Leads, Linked, IsLinked, no_mention}
@@ -108,3 +107,13 @@ module _ (heads : List Head) (es : List Entry) (n p : ℕ) (e : Entry) (same : m
       (subst (λ ls. Linked m ls (mentions_of (set es n e)) (links_of (set es n e)) (n + 1)) t
       (subst (λ ns. Linked m (set (lasts_of heads) p (n + 1)) ns (links_of (set es n e)) (n + 1)) (sym mentions_kept)
       (subst (λ ls. Linked m (set (lasts_of heads) p (n + 1)) (mentions_of es) ls (n + 1)) u r)))
+
+-- heads that lead to no entry
+empty_heads : (m b : ℕ) (h : Head) → h.last ≡ 0 → get_or (lasts_of (replicate m h)) b 0 ≡ 0
+empty_heads zero zero h e = refl
+empty_heads zero (suc b) h e = refl
+empty_heads (suc m) zero h e = e
+empty_heads (suc m) (suc b) h e = empty_heads m b h e
+
+pub unlinked : (heads : List Head) (es : List Entry) (m : ℕ) (h : Head) → 0 < length heads → heads ≡ replicate m h → h.last ≡ 0 → IsLinked heads es 0
+unlinked heads es m h s e z = linked_none (length heads) (lasts_of heads) (mentions_of es) (links_of es) s (λ b _. ap (λ hs. get_or (lasts_of hs) b 0) e ∙ empty_heads m b h z)
