@@ -11,8 +11,8 @@ use std::process::Abort;
 // The first three keys have hashes that end with the same twelve bits, so they share a bucket; the last is never set.
 const NAMES: [&str; 6] = ["k0", "k350", "k5986", "k1", "k2", "k3"];
 
-/// How many sets an order has, at one in how many depths keys are looked up, and how many such depths there are. The sets'
-/// nodes are numbered from 1 on, and lie one below another.
+/// How many sets an order has, at one in how many depths keys are looked up, and how many such depths there are. The
+/// sets' nodes are numbered from 1 on, and lie one below another.
 #[derive(Clone, Copy)]
 struct Extent {
     sets: usize,

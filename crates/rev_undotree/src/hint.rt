@@ -2,8 +2,8 @@
 // So many bits are for the link.
 const LINK_BITS: u32 = 27;
 
-/// A link to an entry, or 0, and a number below 32: a hint, on which nothing that is promised rests. A link that takes more
-/// than 27 bits is not kept.
+/// A link to an entry, or 0, and a number below 32: a hint, on which nothing that is promised rests. A link that takes
+/// more than 27 bits is not kept.
 #[derive(Clone, Copy)]
 pub struct Hint {
     bits: u32,
@@ -13,7 +13,7 @@ pub struct Hint {
 pub const NO_HINT: Hint = Hint { bits: 0 };
 
 impl Hint {
-    /// The link, with the number.
+    /// The link with the number.
     pub fn new(link: u32, number: u32) -> Hint {
         if link >> LINK_BITS > 0 {
             return NO_HINT;

@@ -3,10 +3,10 @@
 //!
 //! Skips are hints, on which nothing that is promised rests. The entries of a bucket are a stack of trees as for a
 //! skew-binary number (Myers, "An applicative random-access stack", 1983), with loose entries in between. A tree's last
-//! entry is its root, and a root's skip leads to the first root behind its tree. To find that takes two roots behind it,
-//! and a play would wait for the memory of a far one. So an entry with no root just behind it that is near is loose, and
-//! its skip leads to the last root, which the head knows. Of 16 such entries in a row the last one is a root all the same.
-//! So a walk by skips and links comes past n entries in O(log n) steps, and 15 more for loose entries.
+//! entry is its root, and a root's skip leads to the first root behind its tree. To make a root, two behind it are
+//! read, and a play would wait for the memory of far ones. So an entry is loose where the one behind it is far or no
+//! root: its skip leads to the last root, which the head knows. Of 16 such entries in a row the last one is a root all
+//! the same. So a walk by skips and links comes past n entries in O(log n) steps, and 15 more at most.
 ghost use Rattle.std.specs.Prelude.{◌≡◌, ℕ, ◌+◌, ◌-◌, ◌^◌, ◌%◌, ◌<◌, ◌≤◌, IfSome, IsTrue, Some, length, slice_get};
 ghost use Rattle.rev_undotree.specs.Mentions.{Holds};
 ghost use Rattle.rev_undotree.specs.Links.{mention_of, mentions_of, IsLinked, IsSound, LeadsPast};
@@ -21,8 +21,8 @@ const FAR: u32 = 1024;
 // How many entries in a row are loose, at most.
 const MOST_LOOSE: u32 = 15;
 
-/// A mention, with the link to the entry before it in its bucket. Beside its skip stands how high the tree is of which it
-/// is the root; a loose one has 0 there.
+/// A mention, with the link to the entry before it in its bucket. Beside a root's skip stands how high its tree is, and
+/// beside that of a loose entry 0.
 #[derive(Clone, Copy)]
 pub struct Entry {
     pub hash: u32,
@@ -43,8 +43,8 @@ impl Entry {
     }
 }
 
-/// The link to the last entry of a bucket, and that to its last root, beside which stands how many loose entries have come
-/// since.
+/// The link to the last entry of a bucket, and that to its last root. Beside the latter stands how many loose entries
+/// have come since.
 #[derive(Clone, Copy)]
 pub struct Head {
     pub last: u32,
@@ -65,8 +65,8 @@ fn follow(entries: &[Entry], link: u32) -> Option<Entry>
     entries.get(at).copied()
 }
 
-// The skip of a root that comes in front of the one which `root` leads to, with its height. Its tree takes in the two trees
-// behind it where they are equally high.
+// The skip of a root that comes in front of the one which `root` leads to, with its height. Its tree takes in the two
+// trees behind it where they are equally high.
 fn skip_of_root(entries: &[Entry], root: u32) -> Hint {
     let Some(first) = follow(entries, root) else {
         return NO_HINT;
@@ -80,8 +80,8 @@ fn skip_of_root(entries: &[Entry], root: u32) -> Hint {
     }
 }
 
-// The skip of the entry that the link `own` leads to, which comes in front of the others of its bucket, and the bucket's
-// last root then.
+// The skip of the entry that the link `own` leads to, which comes in front of the others of its bucket, and the
+// bucket's last root then.
 fn place_in_front(entries: &[Entry], own: u32, head: Head) -> (Hint, Hint) {
     let root = head.root.link();
     let loose = head.root.number();
@@ -93,7 +93,7 @@ fn place_in_front(entries: &[Entry], own: u32, head: Head) -> (Hint, Hint) {
     }
 }
 
-// The mention as the entry that the link `own` leads to, in front of the others of a bucket, and the bucket's head then.
+// The mention as the entry that the link `own` leads to, in front of others of its bucket, and the bucket's head then.
 fn in_front(entries: &[Entry], own: u32, head: Head, mention: Mention) -> (Entry, Head)
     ensures mention { mention_of result.0 ≡ mention }
     ensures earlier { result.0.earlier ≡ head.last }

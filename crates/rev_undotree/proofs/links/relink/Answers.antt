@@ -1,4 +1,4 @@
-use Rattle.std.proofs.Common.{rules, ◌≡◌, ◌<◌, length, refl, sym, subst}
+use Rattle.std.proofs.Common.{rules, ◌<◌, length, refl, sym, subst}
 use Rattle.rev_undotree.proofs.Linking.{no_head, unlinked}
 use Rattle.rev_undotree.proofs.links.relink.Goals as goal
 
