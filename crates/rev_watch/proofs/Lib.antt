@@ -1,4 +1,5 @@
 pub mod WordLemmas
+mod Behind
 pub mod Ordered
 pub mod ReaderLemmas
 pub mod ReadLemmas
