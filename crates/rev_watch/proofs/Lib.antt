@@ -4,4 +4,5 @@ pub mod Ordered
 pub mod ReaderLemmas
 pub mod ReadLemmas
 pub mod Order
+mod HeldLemmas
 pub mod Written
