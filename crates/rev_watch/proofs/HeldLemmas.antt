@@ -1,10 +1,12 @@
 -- Lines that are held in a run and in a tree: what they are together.
-use Rattle.std.proofs.Common.{◌≡◌, ℕ, zero, suc, ◌+◌, ◌-◌, ◌<◌, ◌≤◌, true, false, inl, inr, ◌⊎◌, Option, Some, None, option_to_list, IfSome, IfNone, Result, Ok, Err, MatchResult, List, [], ◌∷◌, ◌++◌, length, get_or, set, refl, sym, ◌∙◌, ap, subst, arith}
+use Rattle.std.proofs.Common.{◌≡◌, ℕ, zero, suc, ◌+◌, ◌-◌, ◌<◌, ◌≤◌, nat_lt, true, false, inl, inr, ◌⊎◌, Option, Some, None, option_to_list, IfSome, IfNone, Result, Ok, Err, MatchResult, List, [], ◌∷◌, ◌++◌, length, get_or, set, refl, sym, ◌∙◌, ap, subst, arith}
 use Rattle.std.proofs.lemmas.Bool.Decides.{eqb_tells, leb_tells, nat_tests}
 use Rattle.std.proofs.lemmas.Cmp.{ranked}
 use Rattle.std.specs.BTreeMap.{insert_entry}
+use Rattle.std.specs.List.{All}
 use Rattle.std.specs.List.Sorted.{IsNonDecreasingBy, IsBinarySearchResult, IsSearchInRange}
-use Rattle.std.specs.Ordering.{nat_cmp, ordering_index}
+use Rattle.std.specs.Map.{keys_of}
+use Rattle.std.specs.Ordering.{nat_cmp, ordering_index, is_lt}
 use Rattle.rev_watch.specs.Held.{together, AreAbove, IsRun, is_first}
 use Rattle.rev_watch.specs.Window.{is_held}
 
@@ -303,6 +305,25 @@ module _ {T : Type 0} where
 
   pub old-together : (run strays : List (ℕ × T)) (i : ℕ) (d : ℕ × T) (k : ℕ) → i < length run → (get_or run i d).0 ≡ k → is_held k (together run strays) ≡ true
   old-together run strays i d k l q = held-run k run strays (held-at run i d k l q)
+
+  -- ---- a number above all strays
+
+  pub strays-none : (strays : List (ℕ × T)) (k : ℕ) → (0 < length strays → false ≡ true) → is_held k strays ≡ false
+  strays-none [] k h = refl
+  strays-none (e ∷ strays) k h = absurd (let q = h (omega arith) in cc)
+
+  pub strays-below : (strays : List (ℕ × T)) (last k : ℕ) → All (λ n. is_lt (nat_cmp last n) ≡ false) (keys_of strays) → nat_lt last k ≡ true → is_held k strays ≡ false
+  strays-below [] last k h l = refl
+  strays-below (e ∷ strays) last k h l =
+      let first : is_lt (nat_cmp last e.0) ≡ false = h 0 0 (omega arith) in
+      held-cons k e strays (λ q. elim (leb_tells (suc last) e.0) [
+        | inl p ↦ absurd (let r = rw p.0 at first in cc)
+        | inr p ↦ elim (leb_tells (suc last) k) [
+          | inl m ↦ omega (arith, p.1, m.1, q)
+          | inr m ↦ absurd (let r = rw m.0 at l in cc)
+        ]
+      ])
+      ∙ strays-below strays last k (λ j d s. h (suc j) d (omega (arith, s))) l
 
   -- ---- a number is looked for in the run
 

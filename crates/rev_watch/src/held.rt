@@ -1,5 +1,5 @@
 //! Lines by rising numbers, as a window holds them.
-ghost use Rattle.std.specs.Prelude.{◌≡◌, ◌<◌, ◌-◌, ℕ, [], ◌∷◌, length, true, IfOk, OnOk, OnErr, IfSome, IfNone, slice_index_or};
+ghost use Rattle.std.specs.Prelude.{◌≡◌, ◌<◌, ◌-◌, ℕ, [], ◌∷◌, length, true, false, IfOk, OnOk, OnErr, IfSome, IfNone, slice_index_or};
 ghost use Rattle.std.specs.BTreeMap.{insert_entry};
 ghost use Rattle.std.specs.Ordering.{nat_cmp};
 ghost use Rattle.rev_watch.specs.Held.{is_first};
@@ -35,6 +35,16 @@ fn is_above<T, A: Allocator>(number: u64, run: &VecDeque<(u64, T), A>) -> bool
     match run.back() {
         None => true,
         Some(last) => last.0 < number,
+    }
+}
+
+// Whether a number is above all strays, which have none of it then.
+fn is_above_strays<T, A: Allocator>(number: u64, strays: &BTreeMap<u64, T, A>) -> bool
+    ensures { result ≡ true → is_held number strays.now.entries ≡ false }
+{
+    match strays.last_key_value() {
+        None => true,
+        Some((last, _)) => *last < number,
     }
 }
 
@@ -78,8 +88,7 @@ impl<T: Drop, A: Allocator + Copy> HeldLines<T, A> {
         ensures ok { OnOk result (self.new ≡ insert_entry nat_cmp self.old number line) }
         ensures err { OnErr result (self.new ≡ self.old) }
     {
-        // (that no stray is above the run is not among what is known of them, so it is looked for there, too)
-        if is_above(number, &self.run) && !self.strays.contains_key(&number) {
+        if is_above(number, &self.run) && is_above_strays(number, &self.strays) {
             self.run.push_back((number, line))?;
             return Ok(false);
         }

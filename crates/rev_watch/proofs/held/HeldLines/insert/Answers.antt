@@ -10,22 +10,22 @@ use Rattle.rev_watch.proofs.held.HeldLines.insert.Goals.{in-Some-1, in-None-1}
 
 -- a line behind all others goes to the end of the run
 
-pub invariant_of-self-then-not-contains_key : goal.invariant_of-self-then-not-contains_key
-invariant_of-self-then-not-contains_key g c =
+pub invariant_of-self-then-is_above_strays : goal.invariant_of-self-then-is_above_strays
+invariant_of-self-then-is_above_strays g c =
     let run = c.self.inside.run.items in
     let strays = c.self.inside.strays.entries in
     let below : AreBelow c.args.number run = below-last run strays c.args.number c.self.invariant (c.is_above.ensures c.if-is_above.true) in
-    subst (λ l. IsRun l strays) (sym c.in_ok-push_back.ensures.items) (run-push run strays c.args.number c.args.line c.self.invariant below (sym c.contains_key.ensures ∙ c.if-not-contains_key.true))
+    subst (λ l. IsRun l strays) (sym c.in_ok-push_back.ensures.items) (run-push run strays c.args.number c.args.line c.self.invariant below (c.is_above_strays.ensures c.if-is_above_strays.true))
 
-pub returns-then-not-contains_key-clause-had : goal.returns-then-not-contains_key-clause-had
-returns-then-not-contains_key-clause-had g c =
+pub returns-then-is_above_strays-clause-had : goal.returns-then-is_above_strays-clause-had
+returns-then-is_above_strays-clause-had g c =
     let run = c.self.inside.run.items in
     let strays = c.self.inside.strays.entries in
     let below : AreBelow c.args.number run = below-last run strays c.args.number c.self.invariant (c.is_above.ensures c.if-is_above.true) in
-    sym (ap (is_held c.args.number) (sym c.self.view_is) ∙ new-together run strays c.args.number below (sym c.contains_key.ensures ∙ c.if-not-contains_key.true))
+    sym (ap (is_held c.args.number) (sym c.self.view_is) ∙ new-together run strays c.args.number below (c.is_above_strays.ensures c.if-is_above_strays.true))
 
-pub returns-then-not-contains_key-clause-ok : goal.returns-then-not-contains_key-clause-ok
-returns-then-not-contains_key-clause-ok g c =
+pub returns-then-is_above_strays-clause-ok : goal.returns-then-is_above_strays-clause-ok
+returns-then-is_above_strays-clause-ok g c =
     let run = c.self.inside.run.items in
     let strays = c.self.inside.strays.entries in
     let below : AreBelow c.args.number run = below-last run strays c.args.number c.self.invariant (c.is_above.ensures c.if-is_above.true) in
