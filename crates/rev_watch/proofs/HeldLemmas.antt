@@ -3,7 +3,7 @@ use Rattle.std.proofs.Common.{◌≡◌, ℕ, zero, suc, ◌+◌, ◌-◌, ◌<�
 use Rattle.std.proofs.lemmas.Bool.Decides.{eqb_tells, leb_tells, nat_tests}
 use Rattle.std.proofs.lemmas.Cmp.{ranked}
 use Rattle.std.specs.BTreeMap.{insert_entry}
-use Rattle.std.specs.List.{All}
+use Rattle.std.specs.List.{All, insert as insert_at}
 use Rattle.std.specs.List.Sorted.{IsNonDecreasingBy, IsBinarySearchResult, IsSearchInRange}
 use Rattle.std.specs.Map.{keys_of}
 use Rattle.std.specs.Ordering.{nat_cmp, ordering_index, is_lt}
@@ -338,16 +338,60 @@ module _ {T : Type 0} where
   absent [] k f = refl
   absent (e ∷ run) k f = held-cons k e run (λ q. f 0 e (omega arith) (sym q)) ∙ absent run k (λ j d l. f (suc j) d (omega (arith, l)))
 
+  -- where a number that is not held would stand: lower ones are in front of it, and higher ones behind
+  pub record IsGap (run : List (ℕ × T)) (k i : ℕ) : Type 0 where
+    pub within : i ≤ length run
+    pub lower : (j : ℕ) (d : ℕ × T) → j < i → (get_or run j d).0 < k
+    pub higher : (j : ℕ) (d : ℕ × T) → i ≤ j → j < length run → k < (get_or run j d).0
+
+  pub gap-not_held : (run : List (ℕ × T)) (k i : ℕ) → IsGap run k i → is_held k run ≡ false
+  gap-not_held run k i gap = absent run k (λ j d l q. elim (leb_tells (suc j) i) [
+    | inl before ↦ omega (arith, gap.lower j d before.1, q)
+    | inr behind ↦ omega (arith, gap.higher j d (omega (arith, behind.1)) l, q)
+  ])
+
   pub searched : (run strays : List (ℕ × T)) (k : ℕ) → IsRun run strays → (r : Result ℕ ℕ) → IsSearchInRange r (length run) → IsBinarySearchResult (λ (e : ℕ × T). nat_cmp e.0 k) run r →
-      MatchResult r (λ i. (i < length run) × ((d : ℕ × T) → (get_or run i d).0 ≡ k)) (λ i. is_held k run ≡ false)
+      MatchResult r (λ i. (i < length run) × ((d : ℕ × T) → (get_or run i d).0 ≡ k)) (IsGap run k)
   searched run strays k h (Ok i) b p = (b, λ d. ranked _ k _ (sym (p d)))
   searched run strays k h (Err i) b p =
       let rises : IsNonDecreasingBy (λ (e : ℕ × T). ordering_index (nat_cmp e.0 k)) run = λ x y d le lt. order-rises _ _ k (numbers-rise run strays h x y d le lt) in
-      let parts = p rises in
-      absent run k (λ j d l q. elim (leb_tells (suc j) i) [
-        | inl before ↦ let less : (get_or run j d).0 < k = ranked _ k _ (sym (parts.0 j d (omega arith) before.1)) in omega (arith, less, q)
-        | inr behind ↦ let more : k < (get_or run j d).0 = ranked _ k _ (sym (parts.1 j d (omega (arith, behind.1)) l)) in omega (arith, more, q)
-      ])
+      let parts = p rises in record {
+        within = b;
+        lower = λ j d l. ranked _ k _ (sym (parts.0 j d (omega arith) l));
+        higher = λ j d l m. ranked _ k _ (sym (parts.1 j d l m));
+      }
+
+  -- ---- a line of the run goes to its place
+
+  insert_at-together : (run strays : List (ℕ × T)) (i k : ℕ) (v : T) → is_held k run ≡ false → i ≤ length run → together (insert_at run i (k, v)) strays ≡ insert (together run strays) k v
+  insert_at-together run strays zero k v n l = refl
+  insert_at-together [] strays (suc i) k v n l = absurd (omega (arith, l))
+  insert_at-together (e ∷ run) strays (suc i) k v n l =
+      let t = held-tail k e run n in
+      ap (λ ls. insert ls e.0 e.1) (insert_at-together run strays i k v t.1 (omega (arith, l))) ∙ insert-swap (together run strays) k v e.0 e.1 t.0
+
+  pub gap-together : (run strays : List (ℕ × T)) (i k : ℕ) (v : T) → IsGap run k i → together (insert_at run i (k, v)) strays ≡ insert (together run strays) k v
+  gap-together run strays i k v gap = insert_at-together run strays i k v (gap-not_held run k i gap) gap.within
+
+  above-insert : (j : ℕ) (es : List (ℕ × T)) (i k : ℕ) (v : T) → AreAbove j es → j < k → i ≤ length es → AreAbove j (insert_at es i (k, v))
+  above-insert j es zero k v h l b = (l, h)
+  above-insert j [] (suc i) k v h l b = absurd (omega (arith, b))
+  above-insert j (e ∷ es) (suc i) k v h l b = (h.0, above-insert j es i k v h.1 l (omega (arith, b)))
+
+  above-all : (k : ℕ) (es : List (ℕ × T)) → ((j : ℕ) (d : ℕ × T) → j < length es → k < (get_or es j d).0) → AreAbove k es
+  above-all k [] h = tt
+  above-all k (e ∷ es) h = (h 0 e (omega arith), above-all k es (λ j d l. h (suc j) d (omega (arith, l))))
+
+  pub run-gap : (run strays : List (ℕ × T)) (i k : ℕ) (v : T) → IsRun run strays → IsGap run k i → is_held k strays ≡ false → IsRun (insert_at run i (k, v)) strays
+  run-gap run strays zero k v h gap n = (above-all k run (λ j d l. gap.higher j d (omega arith) l), n, h)
+  run-gap [] strays (suc i) k v h gap n = absurd (omega (arith, gap.within))
+  run-gap (e ∷ run) strays (suc i) k v h gap n =
+      let rest : IsGap run k i = record {
+        within = omega (arith, gap.within);
+        lower = λ j d l. gap.lower (suc j) d (omega (arith, l));
+        higher = λ j d l m. gap.higher (suc j) d (omega (arith, l)) (omega (arith, m));
+      } in
+      (above-insert e.0 run i k v h.0 (gap.lower 0 e (omega arith)) rest.within, h.1, run-gap run strays i k v h.2 rest n)
 
   -- ---- the lowest number
 
