@@ -107,8 +107,8 @@ impl<A: Allocator + Copy> Guesses<A> {
         self.guesses.get_mut(place)
     }
 
-    // Marks the event of this number, where it is a look-up of this key that waits: a command made it. The answer is its
-    // number then.
+    // Marks the event of this number, where it is a look-up of this key that waits: a command made it. The answer is
+    // its number then.
     fn mark_own(
         &mut self,
         key: &Key<A>,

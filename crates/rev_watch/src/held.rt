@@ -9,12 +9,12 @@ use std::alloc::{AllocError, Allocator};
 use std::collections::{BTreeMap, VecDeque};
 use std::marker::Model;
 
-/// How many lines of the run are moved at most to let in another one (this project's own figure: most lines that are out of
-/// order have to go back by a few).
+/// How many lines of the run are moved at most to let in another one (this project's own figure: most lines that are
+/// out of order have to go back by a few).
 const NEAR: usize = 64;
 
-/// Lines by rising numbers. Most come nearly in the order of their numbers: these stand in a run, and only the others, the
-/// strays, in a tree.
+/// Lines by rising numbers. Most come nearly in the order of their numbers: these stand in a run, and only the others,
+/// the strays, in a tree.
 #[derive(Drop)]
 pub struct HeldLines<T, A: Allocator> {
     run: VecDeque<(u64, T), A>,
@@ -83,8 +83,8 @@ impl<T: Drop, A: Allocator + Copy> HeldLines<T, A> {
         self.run.len() + self.strays.len()
     }
 
-    /// Takes in a line with its number, in the place of one of the same number, and answers whether one was held. It takes
-    /// time logarithmic in how many are held, and little where the numbers come nearly in order.
+    /// Takes in a line with its number, in the place of one of the same number, and answers whether one was held. It
+    /// takes time logarithmic in how many are held, and little where the numbers come nearly in order.
     ///
     /// Err: memory was refused; the line is dropped.
     pub fn insert(&mut self, number: u64, line: T) -> Result<bool, AllocError>
