@@ -1,8 +1,7 @@
 //! What is read along the path from the root to the current node: a row for each step, and for each key that left.
-
 use rev_model::Cause;
-use rev_undotree::{NodeId, Session};
-use std::alloc::{AllocError, Allocator};
+use rev_undotree::NodeId;
+use std::alloc::Allocator;
 
 /// What a step did, as far as it is counted. A look-up is a get or a touch.
 #[derive(Clone, Copy, Debug, PartialEq, Eq)]
@@ -24,16 +23,16 @@ pub struct PathStep {
     /// The clock after the step, in seconds.
     pub second: u32,
     pub kind: StepKind,
-    /// The class that holds the key after the step, of a step that stored or hit; 0 for any other.
+    /// The class that holds the key of the step's command after the step; 0 where none does, or it has no key.
     pub class: u8,
 }
 
-/// A key that left the index at a step of the path: one that `departures` of rev_explain tells, in the same order.
+/// A key that left the index at a step of the path: one of those that `departures` of rev_explain tells.
 #[derive(Clone, Copy, Debug, PartialEq, Eq)]
 pub struct Leaving {
     pub node: NodeId,
     /// Which step of the path it was, from 1.
-    pub step: u32,
+    pub step: usize,
     /// The clock after the step, in seconds.
     pub second: u32,
     pub cause: Cause,
@@ -43,7 +42,7 @@ pub struct Leaving {
     pub fetched: bool,
     /// How many seconds before the step the item was stored or last bumped.
     pub idle: u32,
-    /// How many look-ups missed the key from this step on, until a step stores it.
+    /// How many look-ups missed the key from this step on, until a step stores it: at most 2^32 - 1.
     pub asks: u32,
     /// How many seconds after the step the first of them came, 0 where there is none.
     pub asked_after: u32,
@@ -53,7 +52,7 @@ pub struct Leaving {
 #[derive(Clone, Copy, Debug, PartialEq, Eq)]
 pub struct PageMove {
     /// Which step of the path ended the move, from 1.
-    pub step: u32,
+    pub step: usize,
     /// The clock after the step, in seconds.
     pub second: u32,
     pub from: u8,
@@ -64,10 +63,10 @@ pub struct PageMove {
 #[derive(Clone, Copy, Debug, PartialEq, Eq)]
 pub struct QueueBytes {
     /// Which step of the path it was, from 1.
-    pub step: u32,
-    pub class: u8,
+    pub step: usize,
+    pub class: usize,
     /// How many pages the class owns.
-    pub pages: u32,
+    pub pages: usize,
     /// The footprints of the items in each queue together, in bytes.
     pub hot: u64,
     pub warm: u64,
@@ -78,26 +77,17 @@ pub struct QueueBytes {
 /// The path from the root to the current node, as far as it is counted.
 #[derive(Drop)]
 pub struct Path<A: Allocator> {
+    /// The clock at the root, in seconds.
+    pub start: u32,
+    /// How many steps a slot has: at least 1, and so many that there are at most 120 slots. The last slot may have fewer.
+    pub slot_length: usize,
     /// A row for each step, from the first.
     pub steps: Vec<PathStep, A>,
     /// A row for each key that left, in the order in which they left.
     pub leavings: Vec<Leaving, A>,
     /// A row for each page that moved, in that order.
     pub moves: Vec<PageMove, A>,
-    /// The bytes of each class after each step that ends a slot of `slot_length` steps, and after the last step; in the
-    /// order of the steps, and within one by rising class. Classes that own no page are left out.
+    /// The bytes of each class that owns a page, after each step that ends a slot: in the order of the steps, and of one
+    /// step by rising class.
     pub bytes: Vec<QueueBytes, A>,
-    /// How many steps a slot has: so that there are at most 120, and at least 1. The last slot may have fewer.
-    pub slot_length: u32,
-    /// How large the chunks of each class are, in bytes: class 1 first.
-    pub chunk_sizes: Vec<u32, A>,
-    /// How many pages each class owns at the end: class 1 first.
-    pub pages: Vec<u32, A>,
-    /// The clock at the root, in seconds.
-    pub start: u32,
 }
-
-/// Reads the path from the root to the current node. The session goes there and back: it stands where it stood.
-///
-/// Err: a growth of a list was refused; the session stands where it stood, too.
-pub fn gather<A: Allocator + Clone>(session: &mut Session<A>) -> Result<Path<A>, AllocError>;
