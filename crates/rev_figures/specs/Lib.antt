@@ -4,3 +4,4 @@ pub mod Asking
 pub mod Rows
 pub mod Paths
 pub mod Climbing
+pub mod Tables

@@ -33,20 +33,20 @@ fn ask_before(ask: Ask, second: u32) -> Ask
 
 /// The look-ups of each key that has any.
 #[derive(Drop)]
-pub struct Asks<A: Allocator> {
-    alloc: A,
-    keys: IndexMap<Vec<u8, A>, Ask, BuildHasherDefault<FoldHasher>, A>,
+pub struct Asks<'a, A: Allocator> {
+    alloc: &'a A,
+    pub keys: IndexMap<Vec<u8, A>, Ask, BuildHasherDefault<FoldHasher>, &'a A>,
 }
 
-impl<A: Allocator + Clone> Asks<A> {
+impl<'a, A: Allocator + Clone> Asks<'a, A> {
     /// No key has any.
-    pub fn new(alloc: A) -> Result<Asks<A>, AllocError>
-        ensures { IfOk result (λ asks. asks.keys.entries ≡ []) }
+    pub fn new(alloc: &'a A) -> Asks<'a, A>
+        ensures { result.keys.entries ≡ [] }
     {
-        Ok(Asks {
-            alloc: alloc.clone()?,
+        Asks {
+            alloc,
             keys: IndexMap::new(alloc),
-        })
+        }
     }
 
     /// Those of a key.

@@ -323,7 +323,7 @@ pub fn gather<A: Allocator + Clone>(session: &mut Session<A>) -> Result<Path<A>,
 {
     let stood = session.current();
     let alloc = session.store().alloc()?;
-    let mut asks = Asks::new(alloc.clone()?)?;
+    let mut asks = Asks::new(&alloc);
     let mut path = Path {
         start: 0,
         slot_length: slot_length(session.depth()),
