@@ -1,7 +1,7 @@
 -- The tables of a report, over the rows of a path.
 -- Rule of this project: what a report counts of the steps and of the keys that left.
-use Rattle.std.specs.Prelude.{ℕ, ◌+◌, ◌/◌, ◌<◌, Bool, true, false, not, cond, ◌&&◌, ◌||◌, ◌≡◌, nat_eq, nat_lt, nat_le, min, List, [], ◌∷◌, Option, None, Some, map, length, slice_get}
-use Rattle.std.specs.List.{filter, count_by, sum_by}
+use Rattle.std.specs.Prelude.{ℕ, ◌+◌, ◌-◌, ◌/◌, ◌^◌, fold, Bool, true, false, not, cond, ◌&&◌, ◌||◌, ◌≡◌, nat_eq, nat_lt, min, List, [], ◌∷◌, Option, None, Some, map, length, slice_get}
+use Rattle.std.specs.List.{filter, count_by}
 use Rattle.std.specs.List.Sorted.{IsPermutation, IsSorted}
 use Rattle.std.specs.Ordering.{nat_cmp}
 use Rattle.rev_model.specs.declared.Cause.{Cause}
@@ -77,9 +77,13 @@ is_step c k s = is_of c s.class && nat_eq (kind_number k) (kind_number s.kind)
 abbrev pub count_steps : Option ℕ → StepKind → List PathStep → ℕ
 count_steps c k ss = count_by (is_step c k) ss
 
--- how many look-ups missed a key that left the class
-abbrev pub missed : ℕ → Leaving → ℕ
-missed c l = cond (nat_eq c l.class) l.asks 0
+-- a count with the look-ups more that missed a key, if it left the class: at most the highest number of 64 bits
+abbrev pub count_missed : ℕ → ℕ → Leaving → ℕ
+count_missed c n l = cond (nat_eq c l.class) (min (n + l.asks) (2 ^ 64 - 1)) n
+
+-- how many look-ups missed keys that had left the class last
+abbrev pub count_misses : ℕ → List Leaving → ℕ
+count_misses c ls = fold (count_missed c) 0 ls
 
 -- the seconds that are told of a key that left: until it was asked for again, or since it was used
 abbrev pub wait : Which → Leaving → ℕ
@@ -99,7 +103,11 @@ pub record IsMiddle (xs : List ℕ) (m : Option ℕ) : Type 0 where
   pub sorted : IsSorted nat_cmp ordered
   pub middle : m ≡ slice_get ordered (length ordered / 2)
 
+-- the clock after a step, t where there is none
+abbrev pub second_of : ℕ → Option PathStep → ℕ
+second_of t None = t
+second_of t (Some s) = s.second
+
 -- the clock after the last of these steps, t where there is none
 abbrev pub last_second : ℕ → List PathStep → ℕ
-last_second t [] = t
-last_second t (s ∷ ss) = last_second s.second ss
+last_second t ss = second_of t (slice_get ss (length ss - 1))

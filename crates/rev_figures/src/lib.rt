@@ -9,5 +9,5 @@ pub mod tables;
 mod walk;
 
 pub use path::{Leaving, PageMove, Path, PathStep, QueueBytes, StepKind};
-pub use tables::{CauseCounts, ClassFigures, Totals, Which, class_figures, totals};
+pub use tables::{CauseCounts, ClassFigures, Totals, Which, class_figures, count_all};
 pub use walk::gather;

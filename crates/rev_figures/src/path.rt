@@ -4,7 +4,7 @@ use rev_undotree::NodeId;
 use std::alloc::Allocator;
 
 /// What a step did, as far as it is counted. A look-up is a get or a touch.
-#[derive(Clone, Copy, Debug, PartialEq, Eq)]
+#[derive(Clone, Copy)]
 pub enum StepKind {
     /// It stored an item.
     Stored,
@@ -17,7 +17,7 @@ pub enum StepKind {
 }
 
 /// A step of the path.
-#[derive(Clone, Copy, Debug, PartialEq, Eq)]
+#[derive(Clone, Copy)]
 pub struct PathStep {
     pub node: NodeId,
     /// The clock after the step, in seconds.
@@ -28,7 +28,7 @@ pub struct PathStep {
 }
 
 /// A key that left the index at a step of the path: one of those that `departures` of rev_explain tells.
-#[derive(Clone, Copy, Debug, PartialEq, Eq)]
+#[derive(Clone, Copy)]
 pub struct Leaving {
     pub node: NodeId,
     /// Which step of the path it was, from 1.
@@ -49,7 +49,7 @@ pub struct Leaving {
 }
 
 /// A page that went from one class to another, or to the pool, which is class 0.
-#[derive(Clone, Copy, Debug, PartialEq, Eq)]
+#[derive(Clone, Copy)]
 pub struct PageMove {
     /// Which step of the path ended the move, from 1.
     pub step: usize,
@@ -60,7 +60,7 @@ pub struct PageMove {
 }
 
 /// How full a class is after a step of the path.
-#[derive(Clone, Copy, Debug, PartialEq, Eq)]
+#[derive(Clone, Copy)]
 pub struct QueueBytes {
     /// Which step of the path it was, from 1.
     pub step: usize,

@@ -1,16 +1,16 @@
 //! The tables of a report, counted from the rows of a path.
-ghost use Rattle.std.specs.Prelude.{◌≡◌, IfOk, length, min, Some, None};
-ghost use Rattle.std.specs.List.{sum_by};
+ghost use Rattle.std.specs.Prelude.{◌≡◌, IfOk, length, map, Some, None};
+ghost use Rattle.std.specs.List.{filter};
 ghost use Rattle.rev_figures.specs.declared.path.StepKind.TheVariants as kind;
 ghost use Rattle.rev_figures.specs.declared.tables.Which.TheVariants as which_of;
-ghost use Rattle.rev_figures.specs.Tables.{cause_number, kind_number, is_of, is_eviction, is_one, is_counted, count_left, cause_counts, is_step, count_steps, missed, wait, waits, IsMiddle, last_second};
+ghost use Rattle.rev_figures.specs.Tables.{cause_number, kind_number, is_of, is_eviction, is_one, is_counted, count_left, cause_counts, is_step, count_steps, count_missed, count_misses, wait, waits, IsMiddle, last_second};
 
 use crate::path::{Leaving, Path, PathStep, StepKind};
 use rev_model::Cause;
 use std::alloc::{AllocError, Allocator};
 
 /// How many keys left by each cause.
-#[derive(Clone, Copy, Debug, PartialEq, Eq)]
+#[derive(Clone, Copy)]
 pub struct CauseCounts {
     pub evicted: usize,
     pub evicted_by_mover: usize,
@@ -23,7 +23,7 @@ pub struct CauseCounts {
 }
 
 /// What all steps did.
-#[derive(Clone, Copy, Debug, PartialEq, Eq)]
+#[derive(Clone, Copy)]
 pub struct Totals {
     pub steps: usize,
     /// Look-ups that found an item, and those that found none.
@@ -38,7 +38,7 @@ pub struct Totals {
 }
 
 /// What became of the keys of a class.
-#[derive(Clone, Copy, Debug, PartialEq, Eq)]
+#[derive(Clone, Copy)]
 pub struct ClassFigures {
     /// From 1.
     pub class: u8,
@@ -144,13 +144,10 @@ fn is_counted(class: Option<u8>, which: Which, leaving: &Leaving) -> bool
 fn count_left(class: Option<u8>, which: Which, leavings: &[Leaving]) -> usize
     ensures { result ≡ count_left class which leavings.now }
 {
-    let mut count = 0;
-    for leaving in leavings {
-        if is_counted(class, which, leaving) {
-            count += 1;
-        }
-    }
-    count
+    leavings
+        .iter()
+        .filter(|leaving| is_counted(class, which, leaving))
+        .count()
 }
 
 /// How many keys left the class by each cause.
@@ -180,31 +177,30 @@ fn is_step(class: Option<u8>, kind: StepKind, step: &PathStep) -> bool
 fn count_steps(class: Option<u8>, kind: StepKind, steps: &[PathStep]) -> usize
     ensures { result ≡ count_steps class kind steps.now }
 {
-    let mut count = 0;
-    for step in steps {
-        if is_step(class, kind, step) {
-            count += 1;
-        }
-    }
-    count
+    steps
+        .iter()
+        .filter(|step| is_step(class, kind, step))
+        .count()
 }
 
-/// How many look-ups missed a key that left the class.
-fn misses_of(class: u8, leaving: &Leaving) -> u32
-    ensures { result ≡ missed class leaving.now }
+/// A count with the look-ups more that missed a key which left the class.
+fn count_missed(count: u64, class: u8, leaving: &Leaving) -> u64
+    ensures { result ≡ count_missed class count leaving.now }
 {
-    if class == leaving.class { leaving.asks } else { 0 }
+    if class == leaving.class {
+        count.saturating_add(u64::from(leaving.asks))
+    } else {
+        count
+    }
 }
 
 /// How many look-ups missed keys that had left the class last.
 fn count_misses(class: u8, leavings: &[Leaving]) -> u64
-    ensures { result ≡ min (sum_by (missed class) leavings.now) 18446744073709551615 }
+    ensures { result ≡ count_misses class leavings.now }
 {
-    let mut count = 0u64;
-    for leaving in leavings {
-        count = count.saturating_add(u64::from(misses_of(class, leaving)));
-    }
-    count
+    leavings
+        .iter()
+        .fold(0, |count, leaving| count_missed(count, class, leaving))
 }
 
 /// The seconds that are told of one of these: until it was asked for again, or since it was used.
@@ -224,15 +220,13 @@ fn waits<A: Allocator>(
     leavings: &[Leaving],
     alloc: A,
 ) -> Result<Vec<u32, A>, AllocError>
-    ensures { IfOk result (λ seconds. seconds.items ≡ waits class which leavings.now) }
+    ensures { IfOk result (λ seconds. seconds.items ≡ map (wait which) (filter (is_counted class which) leavings.now)) }
 {
-    let mut seconds = Vec::new(alloc);
-    for leaving in leavings {
-        if is_counted(class, which, leaving) {
-            seconds.push(wait(which, leaving))?;
-        }
-    }
-    Ok(seconds)
+    leavings
+        .iter()
+        .filter(|leaving| is_counted(class, which, leaving))
+        .map(|leaving| wait(which, leaving))
+        .collect(alloc)
 }
 
 /// The middle one of some numbers in order, the higher of two; none of none.
@@ -267,7 +261,7 @@ fn last_second(start: u32, steps: &[PathStep]) -> u32
 }
 
 /// The totals of a path.
-pub fn totals<A: Allocator>(path: &Path<A>) -> Totals
+pub fn count_all<A: Allocator>(path: &Path<A>) -> Totals
     ensures steps { result.steps ≡ length path.now.steps.items }
     ensures hits { result.hits ≡ count_steps None kind.Hit path.now.steps.items }
     ensures misses { result.misses ≡ count_steps None kind.Miss path.now.steps.items }
@@ -298,7 +292,7 @@ pub fn class_figures<A: Allocator + Clone>(
     ensures class { IfOk result (λ figures. figures.class ≡ class) }
     ensures stores { IfOk result (λ figures. figures.stores ≡ count_steps (Some class) kind.Stored path.now.steps.items) }
     ensures hits { IfOk result (λ figures. figures.hits ≡ count_steps (Some class) kind.Hit path.now.steps.items) }
-    ensures misses { IfOk result (λ figures. figures.misses ≡ min (sum_by (missed class) path.now.leavings.items) 18446744073709551615) }
+    ensures misses { IfOk result (λ figures. figures.misses ≡ count_misses class path.now.leavings.items) }
     ensures left { IfOk result (λ figures. figures.left ≡ cause_counts (Some class) path.now.leavings.items) }
     ensures evicted { IfOk result (λ figures. figures.evicted ≡ count_left (Some class) which_of.Lost path.now.leavings.items) }
     ensures unfetched { IfOk result (λ figures. figures.unfetched ≡ count_left (Some class) which_of.Unfetched path.now.leavings.items) }

@@ -164,6 +164,25 @@ fn add_bytes<A: Allocator>(
     Ok(())
 }
 
+/// Adds the same rows where a slot ends at the step.
+fn add_slot_end<A: Allocator>(
+    bytes: &mut Vec<QueueBytes, A>,
+    store: &Store<A>,
+    step: usize,
+    slot_length: usize,
+    steps: usize,
+) -> Result<(), AllocError>
+    requires sound { Sound store.now }
+    requires slot { 0 < slot_length }
+    ensures { OnOk result (bytes.new.items ≡ bytes.old.items ++ reverse (cond (is_slot_end step slot_length steps) (bytes_rows store.now step) [])) }
+{
+    if ends_slot(step, slot_length, steps) {
+        add_bytes(bytes, store, step)
+    } else {
+        Ok(())
+    }
+}
+
 /// Adds the row of a page that moved, if one did; the store stands before the step.
 fn add_move<A: Allocator>(
     moves: &mut Vec<PageMove, A>,
@@ -269,21 +288,22 @@ fn note_step<A: Allocator + Clone>(
 }
 
 /// Goes up to the root, and reads each node on the way: its rows are added behind those of the nodes below it.
+#[tactic(auto, using(crate::proofs::Climbing::has_climbed))]
 fn climb<A: Allocator + Clone>(
     session: &mut Session<A>,
     path: &mut Path<A>,
+    slot_length: usize,
     asks: &mut Asks<A>,
     alloc: &A,
 ) -> Result<(), AllocError>
-    requires slot { 0 < path.old.slot_length }
+    requires slot { 0 < slot_length }
     requires asks { asks.old.keys.entries ≡ [] }
     ensures climbed { HasClimbed session.old session.new }
     ensures root { OnOk result (lineage session.new.rows session.new.current ≡ []) }
     ensures steps { OnOk result (path.new.steps.items ≡ path.old.steps.items ++ reverse (path_steps session.old.root session.old.rows session.old.current)) }
     ensures leavings { OnOk result (path.new.leavings.items ≡ path.old.leavings.items ++ reverse (path_leavings session.old.root session.old.rows session.old.current)) }
     ensures moves { OnOk result (path.new.moves.items ≡ path.old.moves.items ++ reverse (path_moves session.old.root session.old.rows session.old.current)) }
-    ensures bytes { OnOk result (path.old.slot_length ≡ slot_length_of (length (lineage session.old.rows session.old.current)) → path.new.bytes.items ≡ path.old.bytes.items ++ reverse (path_bytes session.old.root session.old.rows session.old.current)) }
-    ensures slot { path.new.slot_length ≡ path.old.slot_length }
+    ensures bytes { OnOk result (slot_length ≡ slot_length_of (length (lineage session.old.rows session.old.current)) → path.new.bytes.items ≡ path.old.bytes.items ++ reverse (path_bytes session.old.root session.old.rows session.old.current)) }
 {
     let steps = session.depth();
     let mut depth = steps;
@@ -294,9 +314,7 @@ fn climb<A: Allocator + Clone>(
         note_step(asks, second, step, outcome)?;
         gone.clear();
         add_gone(&mut gone, node, step, outcome, &trace, alloc)?;
-        if ends_slot(depth, path.slot_length, steps) {
-            add_bytes(&mut path.bytes, session.store(), depth)?;
-        }
+        add_slot_end(&mut path.bytes, session.store(), depth, slot_length, steps)?;
         match session.back() {
             Ok(_) => {}
             Err(_) => unreachable!(),
@@ -306,6 +324,51 @@ fn climb<A: Allocator + Clone>(
         depth -= 1;
     }
     Ok(())
+}
+
+/// A path of which nothing is read.
+fn empty_path<A: Allocator + Clone>(alloc: &A) -> Result<Path<A>, AllocError>
+    ensures steps { IfOk result (λ path. path.steps.items ≡ []) }
+    ensures leavings { IfOk result (λ path. path.leavings.items ≡ []) }
+    ensures moves { IfOk result (λ path. path.moves.items ≡ []) }
+    ensures bytes { IfOk result (λ path. path.bytes.items ≡ []) }
+{
+    Ok(Path {
+        start: 0,
+        slot_length: 1,
+        steps: Vec::new(alloc.clone()?),
+        leavings: Vec::new(alloc.clone()?),
+        moves: Vec::new(alloc.clone()?),
+        bytes: Vec::new(alloc.clone()?),
+    })
+}
+
+/// Reads the path from the root to the current node, and leaves the session at a node on it: at the root, where no memory
+/// was refused.
+#[tactic(auto, using(crate::proofs::Returning::stays_put))]
+fn read_path<A: Allocator + Clone>(
+    session: &mut Session<A>,
+    alloc: &A,
+) -> Result<Path<A>, AllocError>
+    ensures climbed { HasClimbed session.old session.new }
+    ensures start { IfOk result (λ path. path.start ≡ session.old.root.globals.clock) }
+    ensures slot_length { IfOk result (λ path. path.slot_length ≡ slot_length_of (length (lineage session.old.rows session.old.current))) }
+    ensures steps { IfOk result (λ path. path.steps.items ≡ path_steps session.old.root session.old.rows session.old.current) }
+    ensures leavings { IfOk result (λ path. path.leavings.items ≡ path_leavings session.old.root session.old.rows session.old.current) }
+    ensures moves { IfOk result (λ path. path.moves.items ≡ path_moves session.old.root session.old.rows session.old.current) }
+    ensures bytes { IfOk result (λ path. path.bytes.items ≡ path_bytes session.old.root session.old.rows session.old.current) }
+{
+    let slot_length = slot_length(session.depth());
+    let mut path = empty_path(alloc)?;
+    let mut asks = Asks::new(alloc);
+    climb(session, &mut path, slot_length, &mut asks, alloc)?;
+    path.start = session.store().globals().clock;
+    path.slot_length = slot_length;
+    path.steps.reverse();
+    path.leavings.reverse();
+    path.moves.reverse();
+    path.bytes.reverse();
+    Ok(path)
 }
 
 /// Reads the path from the root to the current node, in time that grows with its steps. The session goes up to the root
@@ -323,22 +386,7 @@ pub fn gather<A: Allocator + Clone>(session: &mut Session<A>) -> Result<Path<A>,
 {
     let stood = session.current();
     let alloc = session.store().alloc()?;
-    let mut asks = Asks::new(&alloc);
-    let mut path = Path {
-        start: 0,
-        slot_length: slot_length(session.depth()),
-        steps: Vec::new(alloc.clone()?),
-        leavings: Vec::new(alloc.clone()?),
-        moves: Vec::new(alloc.clone()?),
-        bytes: Vec::new(alloc.clone()?),
-    };
-    let climbed = climb(session, &mut path, &mut asks, &alloc);
-    path.start = session.store().globals().clock;
+    let path = read_path(session, &alloc);
     let _turned = session.go(stood);
-    climbed?;
-    path.steps.reverse();
-    path.leavings.reverse();
-    path.moves.reverse();
-    path.bytes.reverse();
-    Ok(path)
+    path
 }
