@@ -126,6 +126,7 @@ module _ (v now : SessionState) (d l m : ℕ) (first read : Read) (asked : List 
       splits = up.splits;
       stays = λ f. absurd (false≢true (ap is_empty f));
     }
+
     module _ (after before : State) (t : ℕ) (gone : List PlainDeparture) (more : Read) (asks : List ℕ → Ask)
         (after_is : after ≡ at now.root now.rows now.current) (before_is : before ≡ at later.root later.rows later.current) (second : t ≡ after.globals.clock)
         (steps_is : more.steps ≡ read.steps ++ step_row n after e o ∷ [])

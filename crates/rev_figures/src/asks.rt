@@ -31,7 +31,11 @@ fn is_none(ask: Ask) -> bool
 fn ask_before(ask: Ask, second: u32) -> Ask
     ensures { result ≡ asked_by StepKind.Miss second ask }
 {
-    let count = if ask.count < u32::MAX { ask.count + 1 } else { ask.count };
+    let count = if ask.count < u32::MAX {
+        ask.count + 1
+    } else {
+        ask.count
+    };
     Ask {
         count,
         first: second,

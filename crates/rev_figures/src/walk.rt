@@ -5,7 +5,6 @@ ghost use Rattle.rev_model.specs.Sound.{Sound};
 ghost use Rattle.rev_model.specs.Actor.{owned_pages};
 ghost use Rattle.rev_model.specs.Events.{item_of};
 ghost use Rattle.rev_requests.specs.Plain.{plain_step};
-
 ghost use Rattle.rev_undotree.specs.Machine.{lineage};
 ghost use Rattle.rev_figures.specs.Asks.{asked_at};
 ghost use Rattle.rev_figures.specs.Asking.{ask_in};
@@ -320,7 +319,14 @@ fn climb<A: Allocator + Clone>(
             Err(_) => unreachable!(),
         }
         add_move(&mut path.moves, session.store(), depth, second, outcome)?;
-        add_leavings(&mut path.leavings, session.store(), depth, second, asks, &gone)?;
+        add_leavings(
+            &mut path.leavings,
+            session.store(),
+            depth,
+            second,
+            asks,
+            &gone,
+        )?;
         depth -= 1;
     }
     Ok(())
