@@ -1,0 +1,5 @@
+pub mod Asking
+pub mod Counts
+pub mod Nodes
+pub mod Climbing
+pub mod Returning

@@ -1,0 +1,13 @@
+//! Figures of a trace that was played: where a cache loses its keys, when and why, and which of them are asked for again.
+#![tactic(auto)]
+
+mod asks;
+mod gone;
+mod kinds;
+pub mod path;
+pub mod tables;
+mod walk;
+
+pub use path::{Leaving, PageMove, Path, PathStep, QueueBytes, StepKind};
+pub use tables::{CauseCounts, ClassFigures, Totals, Which, class_figures, count_all};
+pub use walk::gather;

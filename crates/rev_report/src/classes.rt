@@ -1,0 +1,177 @@
+//! The table by class.
+use crate::figures::{ClassRow, Figures};
+use crate::markup::Piece::{Count, Markup, Tenths};
+use crate::markup::put;
+use crate::scale::Scale;
+use crate::words::cause_numbers;
+use std::alloc::AllocError;
+
+/// How many figures a row of the table has.
+pub const CELLS: usize = 17;
+
+/// What the figures of a row are, in order.
+pub const CELL_NAMES: [&str; CELLS] = [
+    "chunk, bytes",
+    "pages at the end",
+    "stores",
+    "hits",
+    "misses",
+    "evicted",
+    "evicted by mover",
+    "deleted",
+    "dropped by failed set",
+    "reclaimed by hit",
+    "reclaimed by pull",
+    "reclaimed by crawler",
+    "reclaimed by mover",
+    "evicted, never fetched",
+    "idle when evicted, median s",
+    "evicted, asked again",
+    "asked again after, median s",
+];
+
+/// The figures of a row, in the same order; none where there is nothing to tell.
+pub fn cells(row: &ClassRow) -> [Option<u64>; CELLS] {
+    let figures = &row.figures;
+    let [
+        evicted,
+        by_mover,
+        deleted,
+        dropped,
+        by_hit,
+        by_pull,
+        by_crawler,
+        reclaimed,
+    ] = cause_numbers(&figures.left);
+    [
+        Some(u64::from(row.chunk_size)),
+        Some(row.pages),
+        Some(figures.stores as u64),
+        Some(figures.hits as u64),
+        Some(figures.misses),
+        Some(evicted),
+        Some(by_mover),
+        Some(deleted),
+        Some(dropped),
+        Some(by_hit),
+        Some(by_pull),
+        Some(by_crawler),
+        Some(reclaimed),
+        Some(figures.unfetched as u64),
+        figures.idle.map(u64::from),
+        Some(figures.asked as u64),
+        figures.asked_after.map(u64::from),
+    ]
+}
+
+// The figure in a place of a row.
+fn cell(row: &ClassRow, place: usize) -> Option<u64> {
+    cells(row).get(place).copied().unwrap_or(None)
+}
+
+// The largest figure in a place.
+fn largest(rows: &[ClassRow], place: usize) -> u64 {
+    let mut largest = 0u64;
+    for row in rows {
+        largest = largest.max(cell(row, place).unwrap_or(0));
+    }
+    largest
+}
+
+// Whether a place is a cause's by which no key left, so that its column says nothing.
+fn is_left_out(rows: &[ClassRow], place: usize) -> bool {
+    place > 5 && place < 13 && largest(rows, place) == 0
+}
+
+fn put_names(out: &mut Vec<u8>, rows: &[ClassRow]) -> Result<(), AllocError> {
+    for (place, name) in CELL_NAMES.iter().enumerate() {
+        if !is_left_out(rows, place) {
+            put(
+                out,
+                &[Markup("<th scope=\"col\">"), Markup(*name), Markup("</th>")],
+            )?;
+        }
+    }
+    Ok(())
+}
+
+// Puts a bar whose length is a number's share of the largest.
+fn put_bar(out: &mut Vec<u8>, value: u64, largest: u64) -> Result<(), AllocError> {
+    let scale = Scale {
+        last: largest,
+        length: 1000,
+    };
+    put(
+        out,
+        &[
+            Markup(
+                "<svg class=\"b\" viewBox=\"0 0 100 5\" preserveAspectRatio=\"none\" aria-hidden=\"true\"><rect class=\"of\" width=\"100\" height=\"5\"/><rect width=\"",
+            ),
+            Tenths(scale.at(value)),
+            Markup("\" height=\"5\"/></svg>"),
+        ],
+    )
+}
+
+fn put_cell(
+    out: &mut Vec<u8>,
+    name: &'static str,
+    value: Option<u64>,
+    largest: u64,
+) -> Result<(), AllocError> {
+    put(
+        out,
+        &[
+            Markup("<td data-label=\""),
+            Markup(name),
+            Markup("\"><span class=\"n\">"),
+        ],
+    )?;
+    match value {
+        Some(value) => {
+            put(out, &[Count(value), Markup("</span>")])?;
+            put_bar(out, value, largest)?;
+        }
+        None => put(out, &[Markup("\u{2013}</span>")])?,
+    }
+    put(out, &[Markup("</td>")])
+}
+
+fn put_row(out: &mut Vec<u8>, rows: &[ClassRow], row: &ClassRow) -> Result<(), AllocError> {
+    put(
+        out,
+        &[
+            Markup("<tr><th scope=\"row\"><span class=\"w\">Class </span>"),
+            Count(u64::from(row.figures.class)),
+            Markup("</th>"),
+        ],
+    )?;
+    for (place, name) in CELL_NAMES.iter().enumerate() {
+        if !is_left_out(rows, place) {
+            put_cell(out, *name, cell(row, place), largest(rows, place))?;
+        }
+    }
+    put(out, &[Markup("</tr>")])
+}
+
+/// Puts the table by class.
+pub fn put_classes(out: &mut Vec<u8>, figures: &Figures) -> Result<(), AllocError> {
+    let rows = figures.classes.as_slice();
+    put(
+        out,
+        &[Markup(
+            "<h2>Classes</h2><div class=\"over\"><table><thead><tr><th scope=\"col\">class</th>",
+        )],
+    )?;
+    put_names(out, rows)?;
+    put(out, &[Markup("</tr></thead><tbody>")])?;
+    for row in rows {
+        put_row(out, rows, row)?;
+    }
+    put(
+        out,
+        &[Markup(
+            "</tbody></table></div><p class=\"soft\">The class that evicted most keys stands first. A bar is a number\u{2019}s share of the largest in its column, and a cause by which no key left has no column. Misses are look-ups of keys that were not there and had left the class last. An evicted key was idle since it was stored or last bumped.</p>",
+        )],
+    )
+}

@@ -1,0 +1,22 @@
+//! A report to look at: where a cache loses its keys, as one page of markup with its style and its pictures in it, and
+//! the rows that the pictures are made of as CSV.
+#![tactic(auto)]
+
+mod charts;
+mod classes;
+mod escape;
+pub mod figures;
+mod header;
+mod keys;
+pub mod life;
+pub mod markup;
+mod numbers;
+pub mod page;
+mod plot;
+mod queues;
+pub mod rows;
+mod scale;
+pub mod slots;
+mod style;
+mod times;
+mod words;

@@ -1,0 +1,80 @@
+//! The page of a report.
+use crate::classes::put_classes;
+use crate::figures::Figures;
+use crate::header::put_header;
+use crate::keys::put_keys;
+use crate::life::Life;
+use crate::markup::Piece::Markup;
+use crate::markup::put;
+use crate::plot::Column;
+use crate::queues::{QueueCurve, put_queues, queue_curves};
+use crate::slots::{left_columns, move_columns};
+use crate::style::{FILLS, STYLE};
+use crate::times::put_times;
+use rev_classes::Config;
+use std::alloc::{AllocError, Global};
+
+/// What a report is of.
+#[derive(Clone, Copy)]
+pub struct Subject<'a> {
+    /// The names of the traces.
+    pub names: &'a [String],
+    pub config: &'a Config,
+    /// The words of the options for a run.
+    pub options: &'a [u8],
+    /// What was guessed or left out, a line each.
+    pub notes: &'a [u8],
+}
+
+/// What the pictures are made of.
+#[derive(Drop)]
+pub struct Curves {
+    /// The keys that left in each slot, by cause.
+    pub left: Vec<Column>,
+    /// The pages that moved in each slot.
+    pub moved: Vec<Column>,
+    /// The bytes of the queues of the worst classes.
+    pub queues: Vec<QueueCurve>,
+}
+
+/// The curves of figures.
+pub fn curves_of(alloc: Global, figures: &Figures) -> Result<Curves, AllocError> {
+    Ok(Curves {
+        left: left_columns(alloc, &figures.path, &figures.slots)?,
+        moved: move_columns(alloc, &figures.path, &figures.slots)?,
+        queues: queue_curves(alloc, figures)?,
+    })
+}
+
+fn put_front(out: &mut Vec<u8>) -> Result<(), AllocError> {
+    put(
+        out,
+        &[
+            Markup(
+                "<!DOCTYPE html>\n<html lang=\"en\" xmlns=\"http://www.w3.org/1999/xhtml\"><head><meta charset=\"utf-8\"/><meta name=\"viewport\" content=\"width=device-width, initial-scale=1\"/><title>lrudb report</title><style>",
+            ),
+            Markup(STYLE),
+            Markup("</style></head><body>"),
+            Markup(FILLS),
+            Markup("<main>"),
+        ],
+    )
+}
+
+/// Puts the whole page.
+pub fn put_page(
+    out: &mut Vec<u8>,
+    alloc: Global,
+    subject: &Subject<'_>,
+    figures: &Figures,
+    curves: &Curves,
+    lives: &[Life],
+) -> Result<(), AllocError> {
+    put_front(out)?;
+    put_header(out, subject, figures)?;
+    put_classes(out, figures)?;
+    put_times(out, figures, &curves.left, &curves.moved)?;
+    put_queues(out, alloc, figures, &curves.queues)?;
+    put_keys(out, figures, lives)?;
+    put(out, &[Markup("</main></body></html>\n")])
+}

@@ -1,0 +1,242 @@
+//! The rows of a report's tables and curves, as CSV.
+use crate::classes::{CELL_NAMES, cells};
+use crate::figures::Figures;
+use crate::keys::{cause_words, step_of};
+use crate::life::Life;
+use crate::page::Curves;
+use crate::plot::Column;
+use crate::words::{CAUSES, QUEUES, second_after};
+use csv::{Writer, WriterBuilder};
+use itoa::Buffer;
+use rev_explain::events::EventKind;
+use rev_figures::Path;
+use rev_model::Queue;
+use rev_shell::text::queue_text;
+use std::alloc::Global;
+use std::io::Write;
+use thiserror::Error;
+
+/// A row could not be written.
+#[derive(Clone, Copy, Debug, PartialEq, Eq, Drop, Error)]
+#[error("cannot write")]
+pub struct RowsFailed;
+
+// Puts a field.
+fn put_word<W: Write + Drop>(rows: &mut Writer<W>, word: &[u8]) -> Result<(), RowsFailed> {
+    match rows.write_field(word) {
+        Ok(()) => Ok(()),
+        Err(_) => Err(RowsFailed),
+    }
+}
+
+// Puts a field that is a number.
+fn put_number<W: Write + Drop>(rows: &mut Writer<W>, n: u64) -> Result<(), RowsFailed> {
+    let mut digits = Buffer::new();
+    put_word(rows, digits.format(n).as_bytes())
+}
+
+fn put_numbers<W: Write + Drop>(rows: &mut Writer<W>, numbers: &[u64]) -> Result<(), RowsFailed> {
+    for number in numbers {
+        put_number(rows, *number)?;
+    }
+    Ok(())
+}
+
+fn put_words<W: Write + Drop>(rows: &mut Writer<W>, words: &[&str]) -> Result<(), RowsFailed> {
+    for word in words {
+        put_word(rows, word.as_bytes())?;
+    }
+    Ok(())
+}
+
+// Ends a row.
+fn end<W: Write + Drop>(rows: &mut Writer<W>) -> Result<(), RowsFailed> {
+    match rows.end_record() {
+        Ok(()) => Ok(()),
+        Err(_) => Err(RowsFailed),
+    }
+}
+
+// Sends what was put.
+fn sent<W: Write + Drop>(mut rows: Writer<W>) -> Result<(), RowsFailed> {
+    match rows.flush() {
+        Ok(()) => Ok(()),
+        Err(_) => Err(RowsFailed),
+    }
+}
+
+fn put_cells<W: Write + Drop>(
+    rows: &mut Writer<W>,
+    cells: &[Option<u64>],
+) -> Result<(), RowsFailed> {
+    for cell in cells {
+        match cell {
+            Some(n) => put_number(rows, *n)?,
+            None => put_word(rows, b"")?,
+        }
+    }
+    end(rows)
+}
+
+/// Writes the table by class.
+pub fn write_classes<W: Write + Drop>(writer: W, figures: &Figures) -> Result<(), RowsFailed> {
+    let mut rows = WriterBuilder::new().from_writer(writer);
+    put_words(&mut rows, &["class"])?;
+    put_words(&mut rows, &CELL_NAMES)?;
+    end(&mut rows)?;
+    for row in &figures.classes {
+        put_number(&mut rows, u64::from(row.figures.class))?;
+        put_cells(&mut rows, &cells(row))?;
+    }
+    sent(rows)
+}
+
+// Puts which steps a column is of, and the clock behind them.
+fn put_place<W: Write + Drop>(
+    rows: &mut Writer<W>,
+    path: &Path<Global>,
+    column: &Column,
+) -> Result<(), RowsFailed> {
+    put_number(rows, column.from.saturating_add(1))?;
+    put_number(rows, column.to)?;
+    put_number(rows, u64::from(second_after(path, column.to)))
+}
+
+fn put_column<W: Write + Drop>(
+    rows: &mut Writer<W>,
+    path: &Path<Global>,
+    column: &Column,
+    series: usize,
+) -> Result<(), RowsFailed> {
+    put_place(rows, path, column)?;
+    for value in column.values.iter().take(series) {
+        put_number(rows, *value)?;
+    }
+    end(rows)
+}
+
+// Writes columns, with the names of their numbers.
+fn write_columns<W: Write + Drop>(
+    writer: W,
+    path: &Path<Global>,
+    names: &[&str],
+    columns: &[Column],
+) -> Result<(), RowsFailed> {
+    let mut rows = WriterBuilder::new().from_writer(writer);
+    put_words(&mut rows, &["first step", "last step", "clock"])?;
+    put_words(&mut rows, names)?;
+    end(&mut rows)?;
+    for column in columns {
+        put_column(&mut rows, path, column, names.len())?;
+    }
+    sent(rows)
+}
+
+/// Writes the keys that left, by cause.
+pub fn write_left<W: Write + Drop>(
+    writer: W,
+    figures: &Figures,
+    curves: &Curves,
+) -> Result<(), RowsFailed> {
+    write_columns(writer, &figures.path, &CAUSES, &curves.left)
+}
+
+/// Writes the pages that moved.
+pub fn write_moves<W: Write + Drop>(
+    writer: W,
+    figures: &Figures,
+    curves: &Curves,
+) -> Result<(), RowsFailed> {
+    write_columns(writer, &figures.path, &["pages moved"], &curves.moved)
+}
+
+/// Writes the bytes of the queues of the worst classes.
+pub fn write_queues<W: Write + Drop>(
+    writer: W,
+    figures: &Figures,
+    curves: &Curves,
+) -> Result<(), RowsFailed> {
+    let mut rows = WriterBuilder::new().from_writer(writer);
+    put_words(&mut rows, &["class", "first step", "last step", "clock"])?;
+    put_words(&mut rows, &QUEUES)?;
+    end(&mut rows)?;
+    for curve in &curves.queues {
+        for column in &curve.columns {
+            put_number(&mut rows, curve.class as u64)?;
+            put_column(&mut rows, &figures.path, column, QUEUES.len())?;
+        }
+    }
+    sent(rows)
+}
+
+// Puts what an event is, and the queue that the key stands in then or the cause.
+fn put_kind<W: Write + Drop>(rows: &mut Writer<W>, kind: EventKind) -> Result<(), RowsFailed> {
+    let (word, queue): (&str, Queue) = match kind {
+        EventKind::Stored(place) => ("stored", place.queue),
+        EventKind::Replaced(place) => ("replaced", place.queue),
+        EventKind::Moved { to, .. } => ("moved", to),
+        EventKind::Left(cause) => return put_words(rows, &["left", cause_words(cause)]),
+    };
+    put_word(rows, word.as_bytes())?;
+    put_word(rows, queue_text(queue))
+}
+
+fn put_life<W: Write + Drop>(
+    rows: &mut Writer<W>,
+    path: &Path<Global>,
+    life: &Life,
+) -> Result<(), RowsFailed> {
+    for (event, command) in life.events.iter().zip(&life.commands) {
+        let step = step_of(path, event.node.0);
+        put_word(rows, &life.key)?;
+        put_numbers(
+            rows,
+            &[
+                step,
+                u64::from(event.node.0),
+                u64::from(second_after(path, step)),
+            ],
+        )?;
+        put_kind(rows, event.kind)?;
+        put_word(rows, command)?;
+        end(rows)?;
+    }
+    for ask in &life.asks {
+        put_word(rows, &life.key)?;
+        put_number(rows, ask.step as u64)?;
+        put_word(rows, b"")?;
+        put_number(rows, u64::from(second_after(path, ask.step as u64)))?;
+        put_words(
+            rows,
+            &["asked", if ask.is_hit { "hit" } else { "miss" }, ""],
+        )?;
+        end(rows)?;
+    }
+    Ok(())
+}
+
+/// Writes what befell keys, and when they were asked for.
+pub fn write_lives<W: Write + Drop>(
+    writer: W,
+    figures: &Figures,
+    lives: &[Life],
+) -> Result<(), RowsFailed> {
+    let mut rows = WriterBuilder::new().from_writer(writer);
+    put_words(
+        &mut rows,
+        &[
+            "key",
+            "step",
+            "node",
+            "clock",
+            "event",
+            "queue or cause",
+            "command",
+        ],
+    )?;
+    end(&mut rows)?;
+    for life in lives {
+        put_life(&mut rows, &figures.path, life)?;
+    }
+    sent(rows)
+}

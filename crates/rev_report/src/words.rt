@@ -1,0 +1,167 @@
+//! Words and numbers as a reader sees them.
+ghost use Rattle.std.specs.Prelude.{◌≡◌, [], ◌∷◌};
+
+use crate::markup::Piece::{Count, Markup, Plain, Tenths};
+use crate::markup::put;
+use rev_figures::{CauseCounts, Path};
+use std::alloc::{AllocError, Global};
+
+/// The causes in the order in which they are told.
+pub const CAUSES: [&str; 8] = [
+    "evicted",
+    "evicted by mover",
+    "deleted",
+    "dropped by failed set",
+    "reclaimed by hit",
+    "reclaimed by pull",
+    "reclaimed by crawler",
+    "reclaimed by mover",
+];
+
+/// The fills of the causes, in the same order.
+pub const CAUSE_FILLS: [&str; 8] = [
+    "url(#c0)", "url(#c1)", "url(#c2)", "url(#c3)", "url(#c4)", "url(#c5)", "url(#c6)", "url(#c7)",
+];
+
+/// The numbers of causes, in the same order.
+pub fn cause_numbers(left: &CauseCounts) -> [u64; 8]
+    ensures { result ≡ left.now.evicted ∷ left.now.evicted_by_mover ∷ left.now.deleted ∷ left.now.dropped_by_failed_set
+        ∷ left.now.reclaimed_by_hit ∷ left.now.reclaimed_by_pull ∷ left.now.reclaimed_by_crawler ∷ left.now.reclaimed_by_mover ∷ [] }
+{
+    [
+        left.evicted as u64,
+        left.evicted_by_mover as u64,
+        left.deleted as u64,
+        left.dropped_by_failed_set as u64,
+        left.reclaimed_by_hit as u64,
+        left.reclaimed_by_pull as u64,
+        left.reclaimed_by_crawler as u64,
+        left.reclaimed_by_mover as u64,
+    ]
+}
+
+/// The queues in the order in which they stand on one another.
+pub const QUEUES: [&str; 4] = ["HOT", "WARM", "COLD", "TEMP"];
+
+/// The fills of the queues, in the same order.
+pub const QUEUE_FILLS: [&str; 4] = ["url(#q0)", "url(#q1)", "url(#q2)", "url(#q3)"];
+
+/// Puts a number, and what it counts.
+pub fn put_counted(
+    out: &mut Vec<u8>,
+    n: u64,
+    one: &'static str,
+    many: &'static str,
+) -> Result<(), AllocError> {
+    put(
+        out,
+        &[
+            Count(n),
+            Markup("\u{202f}"),
+            Markup(if n == 1 { one } else { many }),
+        ],
+    )
+}
+
+// The largest unit of bytes of which a number has at least one: its bytes and its name.
+fn unit_of(bytes: u64) -> (u64, &'static str) {
+    if bytes >= 1073741824 {
+        (1073741824, "\u{202f}GiB")
+    } else if bytes >= 1048576 {
+        (1048576, "\u{202f}MiB")
+    } else if bytes >= 1024 {
+        (1024, "\u{202f}KiB")
+    } else {
+        (1, "\u{202f}B")
+    }
+}
+
+/// Puts a number of bytes in the unit of a step.
+pub fn put_round_bytes(out: &mut Vec<u8>, bytes: u64, step: u64) -> Result<(), AllocError> {
+    let (unit, name) = unit_of(step);
+    put(out, &[Count(bytes / unit.max(1)), Markup(name)])
+}
+
+/// Puts a number of bytes in the largest unit that fits, to a tenth of it.
+pub fn put_bytes(out: &mut Vec<u8>, bytes: u64) -> Result<(), AllocError> {
+    let (unit, name) = unit_of(bytes);
+    let tenths = bytes.saturating_mul(10) / unit.max(1);
+    put(
+        out,
+        &[Tenths(tenths.min(u64::from(u32::MAX)) as u32), Markup(name)],
+    )
+}
+
+/// The clock behind so many steps, in seconds.
+pub fn second_after(path: &Path<Global>, steps: u64) -> u32 {
+    let Some(last) = steps.checked_sub(1) else {
+        return path.start;
+    };
+    match path.steps.get(last as usize) {
+        Some(step) => step.second,
+        None => path.start,
+    }
+}
+
+// Puts a number of two digits.
+fn put_two(out: &mut Vec<u8>, n: u64) -> Result<(), AllocError> {
+    if n < 10 {
+        put(out, &[Markup("0"), Plain(n)])
+    } else {
+        put(out, &[Plain(n)])
+    }
+}
+
+/// Puts seconds as minutes and seconds, with hours in front of them where there are any.
+pub fn put_span(out: &mut Vec<u8>, seconds: u64) -> Result<(), AllocError> {
+    let minutes = seconds / 60;
+    if minutes < 60 {
+        put(out, &[Plain(minutes), Markup(":")])?;
+    } else {
+        put(out, &[Count(minutes / 60), Markup(":")])?;
+        put_two(out, minutes % 60)?;
+        put(out, &[Markup(":")])?;
+    }
+    put_two(out, seconds % 60)
+}
+
+/// Puts seconds in words: hours and minutes, minutes and seconds, or seconds.
+pub fn put_time(out: &mut Vec<u8>, seconds: u64) -> Result<(), AllocError> {
+    let (minutes, hours) = (seconds / 60, seconds / 3600);
+    if hours > 0 {
+        put(
+            out,
+            &[
+                Count(hours),
+                Markup("\u{202f}h "),
+                Plain(minutes % 60),
+                Markup("\u{202f}min"),
+            ],
+        )
+    } else if minutes > 0 {
+        put(
+            out,
+            &[
+                Plain(minutes),
+                Markup("\u{202f}min "),
+                Plain(seconds % 60),
+                Markup("\u{202f}s"),
+            ],
+        )
+    } else {
+        put(out, &[Plain(seconds), Markup("\u{202f}s")])
+    }
+}
+
+/// The clock along a path, counted from its beginning.
+#[derive(Clone, Copy)]
+pub struct Clock<'a> {
+    pub path: &'a Path<Global>,
+    pub begin: u32,
+}
+
+/// Puts how long after the beginning the clock stands behind so many steps.
+pub fn put_clock(out: &mut Vec<u8>, clock: Clock<'_>, steps: u64) -> Result<(), AllocError> {
+    let second = second_after(clock.path, steps).saturating_sub(clock.begin);
+    put_span(out, u64::from(second))
+}
