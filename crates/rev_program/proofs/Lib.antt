@@ -6,3 +6,4 @@ mod Traced
 mod Parts
 mod Stops
 mod Tallies
+mod Feeds
