@@ -107,30 +107,29 @@ impl<A: Allocator + Copy> Guesses<A> {
         self.guesses.get_mut(place)
     }
 
-    // Marks the look-up that a command of this connection made of this key.
+    // Marks the event of this number, where it is a look-up of this key that waits: a command made it. The answer is
+    // its number then.
     fn mark_own(
         &mut self,
         key: &Key<A>,
-        connection: i32,
+        number: Option<u64>,
         waiting: &VecDeque<LogLine<A>, A>,
         figures: &mut Figures,
-    ) {
-        let Some(number) = self.connections.get(&connection).copied() else {
-            return;
-        };
-        let Some(place) = self.place(number) else {
-            return;
-        };
-        let Some(line) = waiting.get(place) else {
-            return;
-        };
+    ) -> Option<u64> {
+        let place = self.place(number?)?;
+        let line = waiting.get(place)?;
         if !looks_up(&line.event, key) {
-            return;
+            return None;
         }
         if let Some(guess) = self.guesses.get_mut(place) {
             guess.own = true;
             one_more(&mut figures.own_look_ups);
         }
+        number
+    }
+
+    // The look-up of this number was no hit of the key.
+    fn take_back(&mut self, key: &Key<A>, number: u64) {
         if let Some(held) = self.keys.get_mut(key.bytes()) {
             if held.last_hit == Some(number) {
                 held.last_hit = held.earlier_hit;
@@ -241,15 +240,18 @@ impl<A: Allocator + Copy> Guesses<A> {
                 connection,
                 ..
             } => {
-                self.mark_own(key, *connection, waiting, figures);
-                self.connections.insert(*connection, number)?;
+                let before = self.connections.insert(*connection, number)?;
+                let own = self.mark_own(key, before, waiting, figures);
                 if *outcome == StoreOutcome::Stored {
                     self.hold(key, end_of(now, *ttl))?;
+                } else if let Some(number) = own {
+                    self.take_back(key, number);
                 }
             }
             Event::Deletion { key, connection } => {
                 if let Some(connection) = connection {
-                    self.mark_own(key, *connection, waiting, figures);
+                    let before = self.connections.get(connection).copied();
+                    self.mark_own(key, before, waiting, figures);
                 }
                 self.keys.swap_remove(key.bytes());
             }

@@ -11,11 +11,27 @@ use std::process::Abort;
 // The first three keys have hashes that end with the same twelve bits, so they share a bucket; the last is never set.
 const NAMES: [&str; 6] = ["k0", "k350", "k5986", "k1", "k2", "k3"];
 
-// How many sets each order has. Their nodes are numbered from 1 on, and lie one below another.
-const SETS: usize = 2401;
+/// How many sets an order has, at one in how many depths keys are looked up, and how many such depths there are. The
+/// sets' nodes are numbered from 1 on, and lie one below another.
+#[derive(Clone, Copy)]
+struct Extent {
+    sets: usize,
+    step: usize,
+    depths: usize,
+}
 
-// Keys are looked up at one in so many depths.
-const STEP: usize = 7;
+const USUAL: Extent = Extent {
+    sets: 2401,
+    step: 7,
+    depths: 344,
+};
+
+// Fifty far mentions, so that a look-up passes some that are loose and some that are roots.
+const LONG: Extent = Extent {
+    sets: 55_000,
+    step: 499,
+    depths: 111,
+};
 
 /// Which key is set at a node.
 #[derive(Clone, Copy)]
@@ -34,9 +50,11 @@ enum Order {
     Apart,
     /// One that is seldom set, and in the end at each node.
     FarThenNear,
+    /// Two that are seldom set, from first to last.
+    Far,
 }
 
-const ORDERS: [Order; 7] = [
+const ORDERS: [Order; 8] = [
     Order::Hot,
     Order::Turns,
     Order::Phases,
@@ -44,7 +62,15 @@ const ORDERS: [Order; 7] = [
     Order::Pairs,
     Order::Apart,
     Order::FarThenNear,
+    Order::Far,
 ];
+
+fn extent_of(order: Order) -> Extent {
+    match order {
+        Order::Far => LONG,
+        _ => USUAL,
+    }
+}
 
 fn set_at(order: Order, node: usize) -> usize {
     match order {
@@ -61,6 +87,13 @@ fn set_at(order: Order, node: usize) -> usize {
         Order::FarThenNear => {
             if node % 1100 == 0 || node > 2200 {
                 0
+            } else {
+                3 + node % 2
+            }
+        }
+        Order::Far => {
+            if node % 1100 == 0 {
+                node / 1100 % 5 / 4
             } else {
                 3 + node % 2
             }
@@ -98,10 +131,11 @@ fn last_set(order: Order, place: usize, depth: usize) -> usize {
 
 // Each key is looked up at depths up to the last.
 fn look_up<R: Abort>(rt: &R, session: &Session<Global>, alloc: Global, order: Order) {
+    let extent = extent_of(order);
     for place in 0..NAMES.len() {
         let key = key_of(rt, alloc, place);
-        for round in 0..SETS / STEP + 1 {
-            let depth = round.saturating_mul(STEP);
+        for round in 0..extent.depths {
+            let depth = round.saturating_mul(extent.step);
             let found = session.last_mention(&key, depth);
             let wanted = last_set(order, place, depth);
             assert!(rt;
@@ -118,7 +152,7 @@ fn mentions_are_found(rt: HostRuntime) {
     for order in ORDERS {
         let store = Store::open(alloc, DEFAULTS).expect(&rt, "no store");
         let mut session = session_over(&rt, alloc, store);
-        for node in 1..SETS + 1 {
+        for node in 1..extent_of(order).sets.saturating_add(1) {
             set(&rt, &mut session, alloc, set_at(order, node));
         }
         look_up(&rt, &session, alloc, order);

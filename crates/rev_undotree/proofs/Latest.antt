@@ -6,9 +6,10 @@ use Rattle.std.proofs.lemmas.Bool.{cases_lt}
 use Rattle.std.proofs.lemmas.Option.{get_or_from_slice_get, slice_get_within, slice_get-get_or}
 use Rattle.rev_undotree.specs.declared.mention.Mention.{Mention}
 use Rattle.rev_undotree.specs.declared.links.Entry.{Entry}
+use Rattle.rev_undotree.specs.declared.links.Head.{Head}
 use Rattle.rev_undotree.specs.Mentions.{Holds}
-use Rattle.rev_undotree.specs.Links.{mention_of, mentions_of, links_of, bucket_at, node_at, Linked, LeadsPast, IsSound, no_mention, Rises}
-use Rattle.rev_undotree.proofs.Linking.{no_entry}
+use Rattle.rev_undotree.specs.Links.{mention_of, mentions_of, links_of, lasts_of, bucket_at, node_at, Leads, Linked, LeadsPast, IsSound, no_mention, Rises}
+use Rattle.rev_undotree.proofs.Linking.{no_entry, no_head}
 
 -- the link c leads into the bucket of the hash h, and no mention of h up to node d lies past it
 pub record Seeks (ms : List Mention) (m h d c : ℕ) : Type 0 where
@@ -16,12 +17,25 @@ pub record Seeks (ms : List Mention) (m h d c : ℕ) : Type 0 where
   pub home : 0 < c → bucket_at ms m (c - 1) ≡ h % m
   pub last : (i : ℕ) → i < length ms → (get_or ms i no_mention).hash ≡ h → node_at ms i ≤ d → i < c
 
--- the mention that the walk stands at is another, or it is of a node past d
-seek_more : (heads : List ℕ) (ms : List Mention) (links : List ℕ) (h d c e : ℕ) → Linked heads ms links (length ms) → Seeks ms (length heads) h d c → 0 < c
-    → ((get_or ms (c - 1) no_mention).hash ≡ h → node_at ms (c - 1) ≤ d → ⊥) → e ≡ get_or links (c - 1) 0
-    → Seeks ms (length heads) h d e
-seek_more heads ms links h d c e l s p n f =
+-- the walk begins at the head of the hash's bucket
+pub begins : (heads : List Head) (es : List Entry) (h d b : ℕ) → IsSound heads es → b ≡ h % length heads → b < length heads → Seeks (mentions_of es) (length heads) h d (get_or heads b no_head).last
+begins heads es h d b s is w =
     let m = length heads in
+    let f : get_or (lasts_of heads) b 0 ≡ (get_or heads b no_head).last = get_or-map (λ (x : Head). x.last) heads b no_head in
+    let l : Leads (mentions_of es) m (length es) b (get_or heads b no_head).last = subst (λ c. Leads (mentions_of es) m (length es) b c) f (s.linked.at_head b w) in
+    let e : length (mentions_of es) ≡ length es = length-map es mention_of in
+    let lb : (get_or heads b no_head).last ≤ length es = l.below in
+    record {
+      below = omega arith;
+      home = λ p. l.home p ∙ is;
+      last = λ i k t _. let v : i < length es = omega arith in l.last i v (ap (λ x. x % m) t ∙ sym is);
+    }
+
+-- the mention that the walk stands at is another, or it is of a node past d
+seek_more : (m : ℕ) (lasts : List ℕ) (ms : List Mention) (links : List ℕ) (h d c e : ℕ) → Linked m lasts ms links (length ms) → Seeks ms m h d c → 0 < c
+    → ((get_or ms (c - 1) no_mention).hash ≡ h → node_at ms (c - 1) ≤ d → ⊥) → e ≡ get_or links (c - 1) 0
+    → Seeks ms m h d e
+seek_more m lasts ms links h d c e l s p n f =
     let sb : c ≤ length ms = s.below in
     let j : c - 1 < length ms = omega arith in
     let o = l.at_link (c - 1) j in
@@ -89,7 +103,7 @@ seek_end ms m h d c s z n k b =
     absurd (omega arith)
 
 -- the same at entries, where the walk stands at one
-module _ (heads : List ℕ) (es : List Entry) (sound : IsSound heads es) (h d c : ℕ) (s : Seeks (mentions_of es) (length heads) h d c) (p : 0 < c) where
+module _ (heads : List Head) (es : List Entry) (sound : IsSound heads es) (h d c : ℕ) (s : Seeks (mentions_of es) (length heads) h d c) (p : 0 < c) where
   stands_at : get_or (mentions_of es) (c - 1) no_mention ≡ mention_of (get_or es (c - 1) no_entry)
   stands_at = get_or-map mention_of es (c - 1) no_entry
 
@@ -100,8 +114,8 @@ module _ (heads : List ℕ) (es : List Entry) (sound : IsSound heads es) (h d c 
       let n : (get_or es (c - 1) no_entry).hash ≡ h → (get_or es (c - 1) no_entry).node ≤ d → ⊥ = λ a b. elim other [ inl (_, past) ↦ omega arith | inr ne ↦ ne a ] in
       let e = ap (λ (m : Mention). m.hash) stands_at in
       let f = ap (λ (m : Mention). m.node) stands_at in
-      let l = subst (Linked heads (mentions_of es) (links_of es)) (sym (length-map es mention_of)) sound.linked in
-      seek_more heads (mentions_of es) (links_of es) h d c (get_or es (c - 1) no_entry).earlier l s p
+      let l = subst (Linked (length heads) (lasts_of heads) (mentions_of es) (links_of es)) (sym (length-map es mention_of)) sound.linked in
+      seek_more (length heads) (lasts_of heads) (mentions_of es) (links_of es) h d c (get_or es (c - 1) no_entry).earlier l s p
       (λ a b. n (sym e ∙ a) (subst (λ x. x ≤ d) f b)) (sym (get_or-map (λ (x : Entry). x.earlier) es (c - 1) no_entry))
 
   -- it says what is asked for

@@ -1,12 +1,13 @@
 -- Links when a mention comes behind the others, and when an entry is linked.
-use Rattle.std.proofs.Common.{◌≡◌, ◌≢◌, ℕ, ◌+◌, ◌-◌, ◌%◌, ◌<◌, ◌≤◌, List, length, inl, inr, refl, sym, ◌∙◌, ap, subst, arith, get_or}
+use Rattle.std.proofs.Common.{◌≡◌, ◌≢◌, ℕ, zero, suc, ◌+◌, ◌-◌, ◌%◌, ◌<◌, ◌≤◌, List, length, replicate, inl, inr, refl, sym, ◌∙◌, ap, subst, arith, get_or}
 use Rattle.std.proofs.lemmas.Bool.{cases_eq, cases_lt}
 use Rattle.std.proofs.Math.ListN.{set, get_or-map}
 use Rattle.std.proofs.Math.Seq.{map-set_same}
 use Rattle.std.proofs.lemmas.List.{get_or-set_same, get_or-set_other, length-set, length-map, map-set}
 use Rattle.rev_undotree.specs.declared.mention.Mention.{Mention}
 use Rattle.rev_undotree.specs.declared.links.Entry.{Entry}
-use Rattle.rev_undotree.specs.Links.{mention_of, mentions_of, links_of, bucket_at, Leads, Linked, IsLinked, no_mention}
+use Rattle.rev_undotree.specs.declared.links.Head.{Head}
+use Rattle.rev_undotree.specs.Links.{mention_of, mentions_of, links_of, lasts_of, bucket_at, Leads, Linked, IsLinked, no_mention}
 
 -- a link below k rests on the buckets of the first k alone
 pub leads_same : (ms ns : List Mention) (m k b d c : ℕ) → ((i : ℕ) → i < k → bucket_at ns m i ≡ bucket_at ms m i) → d ≡ b → Leads ms m k b c → Leads ns m k d c
@@ -37,69 +38,82 @@ leads_more ms m n b c ne l =
       ];
     }
 
--- the entry n is linked in front of its bucket, which is p
-module _ (heads : List ℕ) (ms : List Mention) (links : List ℕ) (n p : ℕ) (l : Linked heads ms links n) (is : bucket_at ms (length heads) n ≡ p) (w : p < length heads) (v : n < length links) where
-  pub head_more : (b : ℕ) → b < length heads → Leads ms (length heads) (n + 1) b (get_or (set heads p (n + 1)) b 0)
+-- the entry n is linked in front of its bucket, which is p of m
+module _ (m : ℕ) (lasts : List ℕ) (ms : List Mention) (links : List ℕ) (n p : ℕ) (l : Linked m lasts ms links n) (is : bucket_at ms m n ≡ p) (w : p < m) (u : p < length lasts) (v : n < length links) where
+  pub head_more : (b : ℕ) → b < m → Leads ms m (n + 1) b (get_or (set lasts p (n + 1)) b 0)
   head_more b h = elim (cases_eq b p) [
-    | inl e ↦ subst (λ a. Leads ms (length heads) (n + 1) a (get_or (set heads p (n + 1)) a 0)) (sym e)
-        (subst (λ c. Leads ms (length heads) (n + 1) p c) (sym (get_or-set_same heads p (n + 1) 0 w)) (leads_here ms (length heads) n p is))
-    | inr e ↦ subst (λ c. Leads ms (length heads) (n + 1) b c) (sym (get_or-set_other heads p b (n + 1) 0 e))
-        (leads_more ms (length heads) n b (get_or heads b 0) (λ f. e (sym f ∙ is)) (l.at_head b h))
+    | inl e ↦ subst (λ a. Leads ms m (n + 1) a (get_or (set lasts p (n + 1)) a 0)) (sym e)
+        (subst (λ c. Leads ms m (n + 1) p c) (sym (get_or-set_same lasts p (n + 1) 0 u)) (leads_here ms m n p is))
+    | inr e ↦ subst (λ c. Leads ms m (n + 1) b c) (sym (get_or-set_other lasts p b (n + 1) 0 e))
+        (leads_more ms m n b (get_or lasts b 0) (λ f. e (sym f ∙ is)) (l.at_head b h))
   ]
 
-  pub link_more : (j : ℕ) → j < n + 1 → Leads ms (length heads) j (bucket_at ms (length heads) j) (get_or (set links n (get_or heads p 0)) j 0)
+  pub link_more : (j : ℕ) → j < n + 1 → Leads ms m j (bucket_at ms m j) (get_or (set links n (get_or lasts p 0)) j 0)
   link_more j h = elim (cases_eq j n) [
-    | inl e ↦ subst (λ a. Leads ms (length heads) a (bucket_at ms (length heads) a) (get_or (set links n (get_or heads p 0)) a 0)) (sym e)
-        (subst (λ c. Leads ms (length heads) n (bucket_at ms (length heads) n) c) (sym (get_or-set_same links n (get_or heads p 0) 0 v))
-        (subst (λ b. Leads ms (length heads) n b (get_or heads p 0)) (sym is) (l.at_head p w)))
+    | inl e ↦ subst (λ a. Leads ms m a (bucket_at ms m a) (get_or (set links n (get_or lasts p 0)) a 0)) (sym e)
+        (subst (λ c. Leads ms m n (bucket_at ms m n) c) (sym (get_or-set_same links n (get_or lasts p 0) 0 v))
+        (subst (λ b. Leads ms m n b (get_or lasts p 0)) (sym is) (l.at_head p w)))
     | inr e ↦ let k : j < n = omega arith in
-        subst (λ c. Leads ms (length heads) j (bucket_at ms (length heads) j) c) (sym (get_or-set_other links n j (get_or heads p 0) 0 e)) (l.at_link j k)
+        subst (λ c. Leads ms m j (bucket_at ms m j) c) (sym (get_or-set_other links n j (get_or lasts p 0) 0 e)) (l.at_link j k)
   ]
 
-  pub linked_more : Linked (set heads p (n + 1)) ms (set links n (get_or heads p 0)) (n + 1)
-  linked_more =
-      let e : length (set heads p (n + 1)) ≡ length heads = length-set heads p (n + 1) in
-      record {
-        some = omega arith;
-        at_head = λ b h. subst (λ m. Leads ms m (n + 1) b (get_or (set heads p (n + 1)) b 0)) (sym e) (head_more b (omega arith));
-        at_link = λ j h. subst (λ m. Leads ms m j (bucket_at ms m j) (get_or (set links n (get_or heads p 0)) j 0)) (sym e) (link_more j h);
-      }
+  pub linked_more : Linked m (set lasts p (n + 1)) ms (set links n (get_or lasts p 0)) (n + 1)
+  linked_more = record { some = l.some; at_head = head_more; at_link = link_more }
 
 -- nothing is linked yet
-pub linked_none : (heads : List ℕ) (ms : List Mention) (links : List ℕ) → 0 < length heads → ((b : ℕ) → b < length heads → get_or heads b 0 ≡ 0) → Linked heads ms links 0
-linked_none heads ms links s z = record {
+pub linked_none : (m : ℕ) (lasts : List ℕ) (ms : List Mention) (links : List ℕ) → 0 < m → ((b : ℕ) → b < m → get_or lasts b 0 ≡ 0) → Linked m lasts ms links 0
+linked_none m lasts ms links s z = record {
   some = s;
-  at_head = λ b h. subst (λ c. Leads ms (length heads) 0 b c) (sym (z b h)) (record { below = omega arith; home = λ p. absurd (omega arith); last = λ i k _. absurd (omega arith) });
+  at_head = λ b h. subst (λ c. Leads ms m 0 b c) (sym (z b h)) (record { below = omega arith; home = λ p. absurd (omega arith); last = λ i k _. absurd (omega arith) });
   at_link = λ j h. absurd (omega arith);
 }
 
 -- the links of the first n rest on the first n mentions and links alone
-pub linked_same : (heads : List ℕ) (ms ns : List Mention) (links links' : List ℕ) (n : ℕ)
+pub linked_same : (m : ℕ) (lasts : List ℕ) (ms ns : List Mention) (links links' : List ℕ) (n : ℕ)
     → ((i : ℕ) → i < n → get_or ns i no_mention ≡ get_or ms i no_mention) → ((i : ℕ) → i < n → get_or links' i 0 ≡ get_or links i 0)
-    → Linked heads ms links n → Linked heads ns links' n
-linked_same heads ms ns links links' n s t l =
-    let u : (i : ℕ) → i < n → bucket_at ns (length heads) i ≡ bucket_at ms (length heads) i = λ i h. ap (λ (x : Mention). x.hash % length heads) (s i h) in
+    → Linked m lasts ms links n → Linked m lasts ns links' n
+linked_same m lasts ms ns links links' n s t l =
+    let u : (i : ℕ) → i < n → bucket_at ns m i ≡ bucket_at ms m i = λ i h. ap (λ (x : Mention). x.hash % m) (s i h) in
     record {
       some = l.some;
-      at_head = λ b h. leads_same ms ns (length heads) n b b (get_or heads b 0) u refl (l.at_head b h);
-      at_link = λ j h. subst (λ c. Leads ns (length heads) j (bucket_at ns (length heads) j) c) (sym (t j h))
-          (leads_same ms ns (length heads) j (bucket_at ms (length heads) j) (bucket_at ns (length heads) j) (get_or links j 0) (λ i k. u i (omega arith)) (u j h) (l.at_link j h));
+      at_head = λ b h. leads_same ms ns m n b b (get_or lasts b 0) u refl (l.at_head b h);
+      at_link = λ j h. subst (λ c. Leads ns m j (bucket_at ns m j) c) (sym (t j h))
+          (leads_same ms ns m j (bucket_at ms m j) (bucket_at ns m j) (get_or links j 0) (λ i k. u i (omega arith)) (u j h) (l.at_link j h));
     }
 
 abbrev pub no_entry : Entry
-no_entry = record { hash = 0; node = 0; earlier = 0; skip = 0; height = 0 }
+no_entry = record { hash = 0; node = 0; earlier = 0; skip = record { bits = 0 } }
+
+abbrev pub no_head : Head
+no_head = record { last = 0; root = record { bits = 0 } }
 
 -- the entry n gets the link of its bucket's head, and becomes the head
-module _ (heads : List ℕ) (es : List Entry) (n p : ℕ) (e : Entry) (same : mention_of e ≡ mention_of (get_or es n no_entry)) where
+module _ (heads : List Head) (es : List Entry) (n p : ℕ) (e : Entry) (same : mention_of e ≡ mention_of (get_or es n no_entry)) where
   pub mentions_kept : mentions_of (set es n e) ≡ mentions_of es
   mentions_kept = map-set_same mention_of es n e no_entry same
 
-  pub entry_linked : IsLinked heads es n → n < length es → p ≡ (get_or es n no_entry).hash % length heads → p < length heads → e.earlier ≡ get_or heads p 0
-      → IsLinked (set heads p (n + 1)) (set es n e) (n + 1)
-  entry_linked l w is v f =
-      let b : bucket_at (mentions_of es) (length heads) n ≡ p = ap (λ (m : Mention). m.hash % length heads) (get_or-map mention_of es n no_entry) ∙ sym is in
+  pub entry_linked : (h : Head) → IsLinked heads es n → n < length es → p ≡ (get_or es n no_entry).hash % length heads → p < length heads → e.earlier ≡ (get_or heads p no_head).last
+      → h.last ≡ n + 1 → IsLinked (set heads p h) (set es n e) (n + 1)
+  entry_linked h l w is v f g =
+      let m = length heads in
+      let b : bucket_at (mentions_of es) m n ≡ p = ap (λ (x : Mention). x.hash % m) (get_or-map mention_of es n no_entry) ∙ sym is in
       let k : n < length (links_of es) = let z = length-map es (λ (x : Entry). x.earlier) in omega arith in
-      let r = linked_more heads (mentions_of es) (links_of es) n p l b v k in
-      let u : set (links_of es) n (get_or heads p 0) ≡ links_of (set es n e) = ap (set (links_of es) n) (sym f) ∙ sym (map-set (λ (x : Entry). x.earlier) es n e) in
-      subst (λ ms. Linked (set heads p (n + 1)) ms (links_of (set es n e)) (n + 1)) (sym mentions_kept)
-      (subst (λ ls. Linked (set heads p (n + 1)) (mentions_of es) ls (n + 1)) u r)
+      let c : p < length (lasts_of heads) = let z = length-map heads (λ (x : Head). x.last) in omega arith in
+      let r = linked_more m (lasts_of heads) (mentions_of es) (links_of es) n p l b v c k in
+      let q : get_or (lasts_of heads) p 0 ≡ e.earlier = get_or-map (λ (x : Head). x.last) heads p no_head ∙ sym f in
+      let u : set (links_of es) n (get_or (lasts_of heads) p 0) ≡ links_of (set es n e) = ap (set (links_of es) n) q ∙ sym (map-set (λ (x : Entry). x.earlier) es n e) in
+      let t : set (lasts_of heads) p (n + 1) ≡ lasts_of (set heads p h) = ap (set (lasts_of heads) p) (sym g) ∙ sym (map-set (λ (x : Head). x.last) heads p h) in
+      subst (λ z. Linked z (lasts_of (set heads p h)) (mentions_of (set es n e)) (links_of (set es n e)) (n + 1)) (sym (length-set heads p h))
+      (subst (λ ls. Linked m ls (mentions_of (set es n e)) (links_of (set es n e)) (n + 1)) t
+      (subst (λ ns. Linked m (set (lasts_of heads) p (n + 1)) ns (links_of (set es n e)) (n + 1)) (sym mentions_kept)
+      (subst (λ ls. Linked m (set (lasts_of heads) p (n + 1)) (mentions_of es) ls (n + 1)) u r)))
+
+-- heads that lead to no entry
+empty_heads : (m b : ℕ) (h : Head) → h.last ≡ 0 → get_or (lasts_of (replicate m h)) b 0 ≡ 0
+empty_heads zero zero h e = refl
+empty_heads zero (suc b) h e = refl
+empty_heads (suc m) zero h e = e
+empty_heads (suc m) (suc b) h e = empty_heads m b h e
+
+pub unlinked : (heads : List Head) (es : List Entry) (m : ℕ) (h : Head) → 0 < length heads → heads ≡ replicate m h → h.last ≡ 0 → IsLinked heads es 0
+unlinked heads es m h s e z = linked_none (length heads) (lasts_of heads) (mentions_of es) (links_of es) s (λ b _. ap (λ hs. get_or (lasts_of hs) b 0) e ∙ empty_heads m b h z)

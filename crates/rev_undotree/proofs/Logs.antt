@@ -12,7 +12,8 @@ use Rattle.std.proofs.lemmas.Option.{get_or_from_slice_get, slice_get_within, sl
 use Rattle.rev_undotree.specs.declared.mention.Mention.{Mention}
 use Rattle.rev_undotree.specs.Mentions.{Holds, Within}
 use Rattle.rev_undotree.specs.declared.links.Entry.{Entry}
-use Rattle.rev_undotree.specs.Links.{mention_of, mentions_of, links_of, node_at, no_mention, Rises, IsLinked, IsSound}
+use Rattle.rev_undotree.specs.declared.links.Head.{Head}
+use Rattle.rev_undotree.specs.Links.{mention_of, mentions_of, links_of, lasts_of, node_at, no_mention, Rises, IsLinked, IsSound}
 use Rattle.rev_undotree.proofs.Linking.{linked_same}
 
 module _ (ms : List Mention) (x : Mention) where
@@ -83,7 +84,7 @@ module _ (ms : List Mention) (x : Mention) where
       ]
 
 -- an entry comes behind the others
-module _ (heads : List ℕ) (es : List Entry) (x : Entry) where
+module _ (heads : List Head) (es : List Entry) (x : Entry) where
   mentions_more : mentions_of (es ++ x ∷ []) ≡ mentions_of es ++ mention_of x ∷ []
   mentions_more = map-append mention_of es (x ∷ [])
 
@@ -92,13 +93,13 @@ module _ (heads : List ℕ) (es : List Entry) (x : Entry) where
   linked_before n e l =
       let a = length-map es mention_of in
       let b = length-map es (λ (y : Entry). y.earlier) in
-      rw e (linked_same heads (mentions_of es) (mentions_of (es ++ x ∷ [])) (links_of es) (links_of (es ++ x ∷ [])) (length es)
+      rw e (linked_same (length heads) (lasts_of heads) (mentions_of es) (mentions_of (es ++ x ∷ [])) (links_of es) (links_of (es ++ x ∷ [])) (length es)
       (λ i h. let w : i < length (mentions_of es) = omega arith in rw mentions_more (before_it (mentions_of es) (mention_of x) i w))
       (λ i h. let w : i < length (links_of es) = omega arith in rw (map-append (λ (y : Entry). y.earlier) es (x ∷ [])) (get_or_append_left (links_of es) (x.earlier ∷ []) 0 i w))
       l)
 
   -- once all are linked again
-  sound_more : (hs : List ℕ) (ws : List Entry) (n : ℕ) → n ≡ length es → n < 2 ^ 32 - 1 → Within (mentions_of es) x.node → IsSound heads es
+  sound_more : (hs : List Head) (ws : List Entry) (n : ℕ) → n ≡ length es → n < 2 ^ 32 - 1 → Within (mentions_of es) x.node → IsSound heads es
       → mentions_of ws ≡ mentions_of es ++ mention_of x ∷ [] → IsLinked hs ws (n + 1) → IsSound hs ws
   sound_more hs ws n e f w s v l =
       let a = length-map es mention_of in
@@ -112,7 +113,7 @@ module _ (heads : List ℕ) (es : List Entry) (x : Entry) where
       }
 
 -- the same for a list in another's place
-pub ready : (heads cs : List ℕ) (es vs ds : List Entry) (x : Entry) (n : ℕ) → cs ≡ heads → vs ≡ es ++ x ∷ [] → ds ≡ vs → n ≡ length es → IsLinked heads es (length es) → IsLinked cs ds n
+pub ready : (heads cs : List Head) (es vs ds : List Entry) (x : Entry) (n : ℕ) → cs ≡ heads → vs ≡ es ++ x ∷ [] → ds ≡ vs → n ≡ length es → IsLinked heads es (length es) → IsLinked cs ds n
 ready heads cs es vs ds x n a b d e l =
     subst (λ hs. IsLinked hs ds n) (sym a) (subst (λ ws. IsLinked heads ws n) (sym (d ∙ b)) (linked_before heads es x n e l))
 
@@ -128,7 +129,7 @@ module _ {Z : Type 0} (v : Vec Entry Z) (es ds ws : List Entry) (x : Entry) (pus
   noted ms a = ap mentions_of written ∙ (noted_behind ∙ ap (λ ns. ns ++ mention_of x ∷ []) a)
 
   -- all are linked again
-  pub sound_noted : {Y : Type 0} (u : Vec ℕ Y) (cs hs : List ℕ) (ms : List Mention) (n : ℕ) → cs ≡ u.items → length hs ≡ length cs → mentions_of es ≡ ms → n ≡ length es → n < 2 ^ 32 - 1
+  pub sound_noted : {Y : Type 0} (u : Vec Head Y) (cs hs : List Head) (ms : List Mention) (n : ℕ) → cs ≡ u.items → length hs ≡ length cs → mentions_of es ≡ ms → n ≡ length es → n < 2 ^ 32 - 1
       → Within ms x.node → IsSound u.items es → IsLinked hs ws (n + 1) → IsSound (with_items u hs).items (with_items v ws).items
   sound_noted u cs hs ms n lent_heads as_many_heads view e f w s l =
       let a : (with_items u hs).items ≡ hs = with_items_is u hs (as_many_heads ∙ (ap length lent_heads ∙ sym u.ok.0)) in
@@ -136,7 +137,7 @@ module _ {Z : Type 0} (v : Vec Entry Z) (es ds ws : List Entry) (x : Entry) (pus
       rw (a, written) (sound_more u.items es x hs ws n e f w' s noted_behind l)
 
 -- the same entries, all linked anew
-pub sound_again : {Y Z : Type 0} (u : Vec ℕ Y) (v : Vec Entry Z) (old cs hs : List ℕ) (ds ws : List Entry) → cs ≡ u.items → length hs ≡ length cs → ds ≡ v.items → length ws ≡ length ds
+pub sound_again : {Y Z : Type 0} (u : Vec Head Y) (v : Vec Entry Z) (old cs hs : List Head) (ds ws : List Entry) → cs ≡ u.items → length hs ≡ length cs → ds ≡ v.items → length ws ≡ length ds
     → mentions_of ws ≡ mentions_of ds → IsSound old v.items → IsLinked hs ws (length ws) → IsSound (with_items u hs).items (with_items v ws).items
 sound_again u v old cs hs ds ws a b d e f s l =
     let heads_are : (with_items u hs).items ≡ hs = with_items_is u hs (b ∙ (ap length a ∙ sym u.ok.0)) in

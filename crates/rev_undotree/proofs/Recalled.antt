@@ -1,5 +1,5 @@
 -- A step and its record, by the states at its two ends: what the record tells of a key, and that a key which it does not name stays as it was.
-use Rattle.std.specs.Prelude.{ℕ, ◌≡◌, Bool, true, false, cond, nat_eq, ◌&&◌, List, [], ◌∷◌, ◌++◌, Option, None, Some, is_some, refl}
+use Rattle.std.specs.Prelude.{ℕ, ◌≡◌, Bool, true, false, cond, nat_eq, List, [], ◌∷◌, ◌++◌, Option, None, Some, is_some, refl}
 use Rattle.std.specs.Option.{option_map}
 use Rattle.std.proofs.Common.{sym, ◌∙◌, ap, subst, inl, inr, eq-eqb}
 use Rattle.std.proofs.lemmas.Bool.{cases_Bool, false≢true, true≢false}
@@ -10,8 +10,7 @@ use Rattle.rev_model.specs.Lists.{has}
 use Rattle.rev_model.specs.State.{State, item_at, find, owner_of, queue_number}
 use Rattle.rev_model.specs.Words.{queue_with}
 use Rattle.rev_model.specs.Move.{Move, Takes, Puts, Fills, Touches, Binds, Unbinds, Lays, Lifts, Counts, Sets, BumpsIn, BumpsBack, BumpsOut, BumpsFront, Shifts, MarksIn, MarksOut, LeadsBack}
-use Rattle.rev_model.specs.Client as client
-use Rattle.rev_model.specs.Actor.{Step, Client, Pull, Bump, CrawlStart, Crawl, Schedule, Advance, Clock, Tune, TempTtl, step}
+use Rattle.rev_model.specs.Actor.{Step, step}
 use Rattle.rev_model.specs.Causes.{step_removals}
 use Rattle.rev_model.specs.Sound.{Sound}
 use Rattle.rev_model.specs.Track.{held, same_key, has_key, is_chunk, keyed, first_note, more_notes, shift_change, class_queue_in, key_place_at, key_place_of, chunk_of, class_queue_before, key_change, leads_or, key_place_from, key_place_before, removals}

@@ -3,6 +3,7 @@
 use Rattle.std.specs.Prelude.{◌≡◌, ℕ, ◌-◌, ◌^◌, ◌%◌, ◌<◌, ◌≤◌, List, length, map, get_or}
 use Rattle.rev_undotree.specs.declared.mention.Mention.{Mention}
 use Rattle.rev_undotree.specs.declared.links.Entry.{Entry}
+use Rattle.rev_undotree.specs.declared.links.Head.{Head}
 
 -- what an entry notes
 abbrev pub mention_of : Entry → Mention
@@ -15,6 +16,10 @@ mentions_of es = map mention_of es
 -- the links of a list of entries
 abbrev pub links_of : List Entry → List ℕ
 links_of es = map (λ e. e.earlier) es
+
+-- the links of a list of heads
+abbrev pub lasts_of : List Head → List ℕ
+lasts_of heads = map (λ h. h.last) heads
 
 -- stands in where there is no mention
 abbrev pub no_mention : Mention
@@ -34,11 +39,12 @@ pub record Leads (ms : List Mention) (m k b c : ℕ) : Type 0 where
   pub home : 0 < c → bucket_at ms m (c - 1) ≡ b
   pub last : (i : ℕ) → i < k → bucket_at ms m i ≡ b → i < c
 
--- heads lead to the last of the first k mentions in each bucket, and the link of each of these to the one before it
-pub record Linked (heads : List ℕ) (ms : List Mention) (links : List ℕ) (k : ℕ) : Type 0 where
-  pub some : 0 < length heads
-  pub at_head : (b : ℕ) → b < length heads → Leads ms (length heads) k b (get_or heads b 0)
-  pub at_link : (j : ℕ) → j < k → Leads ms (length heads) j (bucket_at ms (length heads) j) (get_or links j 0)
+-- of m buckets, the links in `lasts` lead to the last of the first k mentions in each, and the link of each of these to
+-- the one before it
+pub record Linked (m : ℕ) (lasts : List ℕ) (ms : List Mention) (links : List ℕ) (k : ℕ) : Type 0 where
+  pub some : 0 < m
+  pub at_head : (b : ℕ) → b < m → Leads ms m k b (get_or lasts b 0)
+  pub at_link : (j : ℕ) → j < k → Leads ms m j (bucket_at ms m j) (get_or links j 0)
 
 -- the link c leads into bucket b, of m, to a mention of a node past d, before the one that the link a leads to
 pub record LeadsPast (ms : List Mention) (m b d a c : ℕ) : Type 0 where
@@ -48,15 +54,15 @@ pub record LeadsPast (ms : List Mention) (m b d a c : ℕ) : Type 0 where
   pub past : d < node_at ms (c - 1)
 
 -- the first k entries are linked
-abbrev pub IsLinked : List ℕ → List Entry → ℕ → Type 0
-IsLinked heads es k = Linked heads (mentions_of es) (links_of es) k
+abbrev pub IsLinked : List Head → List Entry → ℕ → Type 0
+IsLinked heads es k = Linked (length heads) (lasts_of heads) (mentions_of es) (links_of es) k
 
 -- the nodes of mentions do not fall
 abbrev pub Rises : List Mention → Type 0
 Rises ms = (i j : ℕ) → i ≤ j → j < length ms → node_at ms i ≤ node_at ms j
 
 -- all entries are linked, their nodes do not fall, and links can tell them apart
-pub record IsSound (heads : List ℕ) (es : List Entry) : Type 0 where
+pub record IsSound (heads : List Head) (es : List Entry) : Type 0 where
   pub linked : IsLinked heads es (length es)
   pub rises : Rises (mentions_of es)
   pub few : length es < 2 ^ 32

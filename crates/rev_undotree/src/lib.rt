@@ -3,6 +3,7 @@
 #![tactic(auto)]
 
 mod branch;
+mod hint;
 mod index;
 mod junction;
 mod links;

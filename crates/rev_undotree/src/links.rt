@@ -1,33 +1,34 @@
 //! Entries in buckets by their hashes. A link is the number of an entry and one more, or 0 for none: a bucket's head
 //! leads to its last entry, and each entry to the one before it in its bucket, and by its skip to an earlier one there.
+//!
+//! Skips are hints, on which nothing that is promised rests. The entries of a bucket are a stack of trees as for a
+//! skew-binary number (Myers, "An applicative random-access stack", 1983), with loose entries in between. A tree's last
+//! entry is its root, and a root's skip leads to the first root behind its tree. To make a root, two behind it are
+//! read, and a play would wait for the memory of far ones. So an entry is loose where the one behind it is far or no
+//! root: its skip leads to the last root, which the head knows. Of 16 such entries in a row the last one is a root all
+//! the same. So a walk by skips and links comes past n entries in O(log n) steps, and 15 more at most.
 ghost use Rattle.std.specs.Prelude.{◌≡◌, ℕ, ◌+◌, ◌-◌, ◌^◌, ◌%◌, ◌<◌, ◌≤◌, IfSome, IsTrue, Some, length, slice_get};
 ghost use Rattle.rev_undotree.specs.Mentions.{Holds};
 ghost use Rattle.rev_undotree.specs.Links.{mention_of, mentions_of, IsLinked, IsSound, LeadsPast};
 
+use crate::hint::{Hint, NO_HINT};
 use crate::mention::Mention;
 use rev_items::bucket;
 
-// An entry that is so many back, or more, is far. A play of a key that is seldom mentioned would wait for the memory of
-// far entries, and so looks at none.
+// An entry that is so many back, or more, is far.
 const FAR: u32 = 1024;
 
-// A tree that is so high takes in no more. Without far entries it would have more entries than there are links: it took
-// in lone entries one after another, and a walk would pass as many of its own one by one.
-const TALLEST: u8 = 32;
+// How many entries in a row are loose, at most.
+const MOST_LOOSE: u32 = 15;
 
-/// A mention, with the link to the entry before it in its bucket.
-///
-/// The skip is a link to an earlier entry, or 0: a hint, on which nothing that is promised rests. The entries of a
-/// bucket are a stack of trees as for a skew-binary number (Myers, "An applicative random-access stack", 1983): each
-/// entry is the root of a tree, and its skip leads to the first entry behind that tree. So a walk by skips and links
-/// comes past n entries in O(log n) steps, and at most three more for each of them that is far from the one before it.
+/// A mention, with the link to the entry before it in its bucket. Beside a root's skip stands how high its tree is, and
+/// beside that of a loose entry 0.
 #[derive(Clone, Copy)]
 pub struct Entry {
     pub hash: u32,
     pub node: u32,
     pub earlier: u32,
-    pub skip: u32,
-    pub height: u8,
+    pub skip: Hint,
 }
 
 impl Entry {
@@ -42,6 +43,20 @@ impl Entry {
     }
 }
 
+/// The link to the last entry of a bucket, and that to its last root. Beside the latter stands how many loose entries
+/// have come since.
+#[derive(Clone, Copy)]
+pub struct Head {
+    pub last: u32,
+    pub root: Hint,
+}
+
+/// The head of a bucket with no entry.
+pub const EMPTY: Head = Head {
+    last: 0,
+    root: NO_HINT,
+};
+
 // The entry that the link leads to, if there is one.
 fn follow(entries: &[Entry], link: u32) -> Option<Entry>
     ensures { IfSome result (λ e. (0 < link) × (slice_get entries.now (link - 1) ≡ Some e)) }
@@ -50,49 +65,52 @@ fn follow(entries: &[Entry], link: u32) -> Option<Entry>
     entries.get(at).copied()
 }
 
-// Whether one link leads to an entry that is far from the later one which the other leads to.
-fn is_far(later: u32, earlier: u32) -> bool {
-    later.saturating_sub(earlier) >= FAR
-}
-
-// The skip and the height of the entry that `own` leads to, where `earlier` leads to the last entry of its bucket. Its
-// tree takes in the two trees in front where the second is not the higher one. Behind a far entry it takes in none, and
-// a lone entry in front of a far one is taken in alone: so no far entry of a key that is seldom mentioned is looked at.
-fn skip_of(entries: &[Entry], own: u32, earlier: u32) -> (u32, u8) {
-    if is_far(own, earlier) {
-        return (earlier, 0);
-    }
-    let Some(first) = follow(entries, earlier) else {
-        return (earlier, 0);
+// The skip of a root that comes in front of the one which `root` leads to, with its height. Its tree takes in the two
+// trees behind it where they are equally high.
+fn skip_of_root(entries: &[Entry], root: u32) -> Hint {
+    let Some(first) = follow(entries, root) else {
+        return NO_HINT;
     };
-    if first.height == 0 && is_far(earlier, first.skip) {
-        return (first.skip, 1);
-    }
-    match follow(entries, first.skip) {
-        Some(second) if second.height <= first.height && first.height < TALLEST => {
-            (second.skip, first.height.saturating_add(1))
-        }
-        _ => (earlier, 0),
+    match follow(entries, first.skip.link()) {
+        Some(second) if second.skip.number() == first.skip.number() => Hint::new(
+            second.skip.link(),
+            first.skip.number().saturating_add(1),
+        ),
+        _ => Hint::new(root, 0),
     }
 }
 
-// The mention as the entry that the link `own` leads to, the last of a bucket whose last one `earlier` led to.
-fn behind(entries: &[Entry], own: u32, earlier: u32, mention: Mention) -> Entry
-    ensures mention { mention_of result ≡ mention }
-    ensures earlier { result.earlier ≡ earlier }
+// The skip of the entry that the link `own` leads to, which comes in front of the others of its bucket, and the
+// bucket's last root then.
+fn place_in_front(entries: &[Entry], own: u32, head: Head) -> (Hint, Hint) {
+    let root = head.root.link();
+    let loose = head.root.number();
+    let follows_root = head.last == root && own.saturating_sub(root) < FAR;
+    if follows_root || loose >= MOST_LOOSE {
+        (skip_of_root(entries, root), Hint::new(own, 0))
+    } else {
+        (Hint::new(root, 0), Hint::new(root, loose.saturating_add(1)))
+    }
+}
+
+// The mention as the entry that the link `own` leads to, in front of others of its bucket, and the bucket's head then.
+fn in_front(entries: &[Entry], own: u32, head: Head, mention: Mention) -> (Entry, Head)
+    ensures mention { mention_of result.0 ≡ mention }
+    ensures earlier { result.0.earlier ≡ head.last }
+    ensures last { result.1.last ≡ own }
 {
-    let (skip, height) = skip_of(entries, own, earlier);
-    Entry {
+    let (skip, root) = place_in_front(entries, own, head);
+    let entry = Entry {
         hash: mention.hash,
         node: mention.node,
-        earlier,
+        earlier: head.last,
         skip,
-        height,
-    }
+    };
+    (entry, Head { last: own, root })
 }
 
 /// Links the entry `at`, where those before it are linked: it becomes the last one of its bucket.
-pub fn link(heads: &mut [u32], entries: &mut [Entry], at: usize)
+pub fn link(heads: &mut [Head], entries: &mut [Entry], at: usize)
     requires within { at < length entries.old }
     requires few { length entries.old < 2 ^ 32 }
     requires linked { IsLinked heads.old entries.old at }
@@ -102,18 +120,19 @@ pub fn link(heads: &mut [u32], entries: &mut [Entry], at: usize)
     let mention = entries[at].mention();
     let place = bucket(mention.hash, heads.len());
     let own = at as u32 + 1;
-    entries[at] = behind(entries, own, heads[place], mention);
-    heads[place] = own;
+    let (entry, head) = in_front(entries, own, heads[place], mention);
+    entries[at] = entry;
+    heads[place] = head;
 }
 
 /// Links every entry anew.
-pub fn relink(heads: &mut [u32], entries: &mut [Entry])
+pub fn relink(heads: &mut [Head], entries: &mut [Entry])
     requires some { 0 < length heads.old }
     requires few { length entries.old < 2 ^ 32 }
     ensures mentions { mentions_of entries.new ≡ mentions_of entries.old }
     ensures linked { IsLinked heads.new entries.new (length entries.new) }
 {
-    heads.fill(0);
+    heads.fill(EMPTY);
     for at in 0..entries.len() {
         link(heads, entries, at);
     }
@@ -142,24 +161,29 @@ fn leads_past(
 ///
 /// Entries of nodes over the bound are passed by along skips, the others of the bucket one by one.
 #[inline(always)]
-pub fn seek(heads: &[u32], entries: &[Entry], hash: u32, bound: u32) -> u32
+pub fn seek(heads: &[Head], entries: &[Entry], hash: u32, bound: u32) -> u32
     requires { IsSound heads.now entries.now }
     ensures bound { result ≤ bound }
     ensures latest { (n : ℕ) → Holds (mentions_of entries.now) hash n → n ≤ bound → n ≤ result }
     ensures held { 0 < result → Holds (mentions_of entries.now) hash result }
 {
     let place = bucket(hash, heads.len());
-    let mut cursor = heads[place];
+    let mut cursor = heads[place].last;
+    // how far back no skip needs to be tried: one that led there led to a node up to the bound
+    let mut tried = 0;
     'walk: while cursor > 0 {
         let entry = entries[cursor as usize - 1];
         if entry.hash == hash && entry.node <= bound {
             return entry.node;
         }
-        cursor = if entry.node > bound
-            && entry.skip != entry.earlier
-            && leads_past(entries, entry.skip, cursor, bound, place, heads.len())
-        {
-            entry.skip
+        let skip = entry.skip.link();
+        cursor = if entry.node > bound && tried < skip && skip != entry.earlier {
+            if leads_past(entries, skip, cursor, bound, place, heads.len()) {
+                skip
+            } else {
+                tried = skip;
+                entry.earlier
+            }
         } else {
             entry.earlier
         };

@@ -2,7 +2,8 @@
 ghost use Rattle.std.specs.Prelude.{◌≡◌, ◌⊎◌, ℕ, ◌<◌, ◌≤◌, [], IsTrue, IfOk, OnOk, OnErr, length};
 ghost use Rattle.rev_undotree.specs.Mentions.{Holds, Within};
 
-use crate::links::{Entry, link, relink, seek};
+use crate::hint::NO_HINT;
+use crate::links::{EMPTY, Entry, Head, link, relink, seek};
 use crate::mention::Mention;
 use std::alloc::{AllocError, Allocator};
 use std::marker::Model;
@@ -40,9 +41,9 @@ fn eighth_more(entries: usize) -> usize {
 /// on average, where there is memory for so many buckets.
 #[derive(Drop)]
 pub struct Mentions<A: Allocator> {
-    heads: Vec<u32, A>,
+    heads: Vec<Head, A>,
     // the heads that the log began with, while there are more in their place: for `narrow` alone
-    first_heads: Option<Vec<u32, A>>,
+    first_heads: Option<Vec<Head, A>>,
     // at how many entries more buckets are asked for: for `make_room` alone
     enough_below: usize,
     entries: Vec<Entry, A>,
@@ -70,7 +71,7 @@ impl<A: Allocator> Mentions<A> {
         ensures { IfOk result (λ m. m ≡ []) }
     {
         let mut heads = Vec::new(alloc.clone()?);
-        heads.resize(FIRST_BUCKETS, 0)?;
+        heads.resize(FIRST_BUCKETS, EMPTY)?;
         Ok(Mentions {
             heads,
             first_heads: None,
@@ -162,7 +163,7 @@ impl<A: Allocator> Mentions<A> {
         requires { 0 < buckets }
         ensures { self.new ≡ self.old }
     {
-        let heads = vec![in self.heads.allocator().clone()?; 0; buckets]?;
+        let heads = vec![in self.heads.allocator().clone()?; EMPTY; buckets]?;
         let old = self.replace_heads(heads);
         if self.first_heads.is_none() {
             self.first_heads = Some(old);
@@ -171,7 +172,7 @@ impl<A: Allocator> Mentions<A> {
     }
 
     // Puts heads in the place of those of the log, links each entry anew, and gives the old heads.
-    fn replace_heads(&mut self, heads: Vec<u32, A>) -> Vec<u32, A>
+    fn replace_heads(&mut self, heads: Vec<Head, A>) -> Vec<Head, A>
         requires { 0 < length heads.items }
         ensures { self.new ≡ self.old }
     {
@@ -214,8 +215,7 @@ impl<A: Allocator> Mentions<A> {
             hash,
             node,
             earlier: 0,
-            skip: 0,
-            height: 0,
+            skip: NO_HINT,
         })?;
         link(&mut self.heads, &mut self.entries, at);
         Ok(())

@@ -1,6 +1,8 @@
 pub mod WordLemmas
+mod Behind
 pub mod Ordered
 pub mod ReaderLemmas
 pub mod ReadLemmas
 pub mod Order
+mod HeldLemmas
 pub mod Written

@@ -6,4 +6,5 @@ pub mod Kinds
 pub mod Line
 pub mod Reader
 pub mod Window
+pub mod Held
 pub mod Settings

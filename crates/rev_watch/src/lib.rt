@@ -9,6 +9,7 @@
 pub mod event;
 pub mod fault;
 mod fields;
+mod held;
 mod key;
 mod kind;
 pub mod parse;

@@ -37,13 +37,14 @@ pub fn is_word(word: &[u8], name: &[u8]) -> bool
 }
 
 /// What stands behind a name and a sign, in a text that begins with them.
-#[tactic(auto, unfolding(crate::specs::Words::value_behind))]
 pub fn value_behind<'a>(name: &[u8], sign: u8, text: &'a [u8]) -> Option<&'a [u8]>
     ensures { option_copied result ≡ value_behind name.now sign text.now }
 {
-    let rest = text.strip_prefix(name)?;
-    match rest.split_first() {
-        Some((first, value)) if *first == sign => Some(value),
-        _ => None,
+    let end = name.len();
+    // The sign stands elsewhere behind most other names, and one byte tells it.
+    if end < text.len() && text[end] == sign && is_word(&text[..end], name) {
+        Some(&text[end + 1..])
+    } else {
+        None
     }
 }

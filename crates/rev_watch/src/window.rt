@@ -2,8 +2,8 @@
 ghost use Rattle.std.specs.Prelude.{◌≡◌, IfOk, OnErr, None};
 ghost use Rattle.rev_watch.specs.Window.{put_of, pop_of, empty_window, is_late};
 
+use crate::held::HeldLines;
 use std::alloc::{AllocError, Allocator};
-use std::collections::BTreeMap;
 use std::marker::Model;
 
 /// The most lines that are held back.
@@ -26,7 +26,7 @@ pub enum Put<T> {
 /// their lines side by side, so a line may come long after those of higher numbers.
 #[derive(Drop)]
 pub struct Window<T, A: Allocator> {
-    held: BTreeMap<u64, T, A>,
+    held: HeldLines<T, A>,
     last: Option<u64>,
 }
 
@@ -35,16 +35,16 @@ impl<T, A: Allocator> Model for Window<T, A> {
 
     ghost Value = { PlainWindow T };
 
-    ghost view = { λ w. record { held = w.held.entries; last = w.last } };
+    ghost view = { λ w. record { held = w.held; last = w.last } };
 }
 
-impl<T: Drop, A: Allocator + Clone> Window<T, A> {
+impl<T: Drop, A: Allocator + Copy> Window<T, A> {
     /// A window that holds nothing. No memory is taken.
     pub fn new(alloc: A) -> Window<T, A>
         ensures { result ≡ empty_window }
     {
         Window {
-            held: BTreeMap::new(alloc),
+            held: HeldLines::new(alloc),
             last: None,
         }
     }
@@ -70,7 +70,7 @@ impl<T: Drop, A: Allocator + Clone> Window<T, A> {
         if self.is_late(gid) {
             return Ok(Put::Late);
         }
-        if self.held.insert(gid, line)?.is_some() {
+        if self.held.insert(gid, line)? {
             return Ok(Put::Repeated);
         }
         if self.held.len() <= MOST_HELD {

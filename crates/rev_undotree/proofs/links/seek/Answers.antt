@@ -1,7 +1,11 @@
 use Rattle.std.proofs.Common.{length, refl}
 use Rattle.rev_undotree.specs.Links.{mentions_of}
-use Rattle.rev_undotree.proofs.Latest.{goes_on, seek_past, finds, holds_found, seek_end}
+use Rattle.rev_undotree.proofs.Latest.{begins, goes_on, seek_past, finds, holds_found, seek_end}
 use Rattle.rev_undotree.proofs.links.seek.Goals as goal
+
+pub walk-init : goal.walk-init
+walk-init c =
+    begins c.args.heads.now c.args.entries.now c.args.hash c.args.bound c.bucket-place.result c.requires c.bucket-place.ensures.value c.bucket-place.ensures.within
 
 pub walk-preserved : goal.walk-preserved
 walk-preserved c =

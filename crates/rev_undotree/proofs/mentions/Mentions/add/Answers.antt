@@ -6,7 +6,7 @@ use Rattle.rev_undotree.proofs.Logs.{ready, noted, sound_noted, holds_it, held_m
 use Rattle.rev_undotree.proofs.mentions.Mentions.add.Goals as goal
 
 abbrev entry : ℕ → ℕ → Entry
-entry h n = record { hash = h; node = n; earlier = 0; skip = 0; height = 0 }
+entry h n = record { hash = h; node = n; earlier = 0; skip = record { bits = 0 } }
 
 pub link-requires-clause-linked : goal.link-requires-clause-linked
 link-requires-clause-linked g c =
