@@ -7,3 +7,4 @@ mod Parts
 mod Stops
 mod Tallies
 mod Feeds
+mod Reports

@@ -498,20 +498,17 @@ fn check_of(alloc: Global, is_asked: bool, config: &Config) -> Result<Option<Che
     }
 }
 
-// Opens the logs, and makes their script where it is asked for.
-fn import_logs<R: Files + AllocGlobal, I: Read + Drop, O: Write, C: Clock, W: Sink>(
+// Makes the script of these logs where it is asked for.
+fn send_logs<R: Files + AllocGlobal, F: Read + Drop, O: Write>(
     rt: &R,
     asked: &WatchImport,
     words: &[u8],
     intake: &mut Intake<Global>,
     check: &mut Option<Check>,
-    reader: I,
+    logs: Vec<F>,
     writer: &mut O,
-    progress: &Progress<C, W>,
 ) -> Result<(), Stop> {
     let names = asked.logs.as_slice();
-    progress.expect(rt, names);
-    let logs = all_opened(rt, rt.alloc(), names, reader, progress)?;
     match check {
         None => {
             let making = Logs {
@@ -534,6 +531,23 @@ fn import_logs<R: Files + AllocGlobal, I: Read + Drop, O: Write, C: Clock, W: Si
             send(rt, asked.out.as_str(), words, making, writer)
         }
     }
+}
+
+// Opens the logs, and makes their script where it is asked for.
+fn import_logs<R: Files + AllocGlobal, I: Read + Drop, O: Write, C: Clock, W: Sink>(
+    rt: &R,
+    asked: &WatchImport,
+    words: &[u8],
+    intake: &mut Intake<Global>,
+    check: &mut Option<Check>,
+    reader: I,
+    writer: &mut O,
+    progress: &Progress<C, W>,
+) -> Result<(), Stop> {
+    let names = asked.logs.as_slice();
+    progress.expect(rt, names);
+    let logs = all_opened(rt, rt.alloc(), names, reader, progress)?;
+    send_logs(rt, asked, words, intake, check, logs, writer)
 }
 
 // Adds the words for a run of the script, where it goes to the standard output.
@@ -624,7 +638,10 @@ fn add_report(
     add_words(notes, asked, words)?;
     add_counts(notes, asked, intake, stats)?;
     add_check(notes, check)?;
-    add_run(notes, asked, intake, setup_lines)
+    match add_run(notes, asked, intake, setup_lines) {
+        Ok(()) => Ok(()),
+        Err(error) => Err(error),
+    }
 }
 
 // Makes the script that is asked for, and adds what is told of it to the notes.

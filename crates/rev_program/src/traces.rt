@@ -132,6 +132,23 @@ fn add_report(
     put_run(notes, asked.out.as_bytes())
 }
 
+// Makes the script of these traces where it is asked for.
+fn send_rows<R: Files + AllocGlobal, F: Read + Drop, O: Write>(
+    rt: &R,
+    asked: &CsvImport,
+    words: &[u8],
+    intake: &mut RowIntake,
+    files: Vec<F>,
+    writer: &mut O,
+) -> Result<(), Stop> {
+    let making = Traces {
+        intake,
+        names: asked.traces.as_slice(),
+        files,
+    };
+    send(rt, asked.out.as_str(), words, making, writer)
+}
+
 // Makes the script that is asked for, and adds what is told of it to the notes.
 fn import<R: Files + AllocGlobal, I: Read + Drop, O: Write, C: Clock, W: Sink>(
     rt: &R,
@@ -147,13 +164,9 @@ fn import<R: Files + AllocGlobal, I: Read + Drop, O: Write, C: Clock, W: Sink>(
     let names = asked.traces.as_slice();
     progress.expect(rt, names);
     let files = all_opened(rt, rt.alloc(), names, reader, progress)?;
-    let making = Traces {
-        intake: &mut intake,
-        names,
-        files,
-    };
-    send(rt, asked.out.as_str(), words.as_slice(), making, writer)?;
-    match add_report(notes, asked, words.as_slice(), &intake) {
+    let words = words.as_slice();
+    send_rows(rt, asked, words, &mut intake, files, writer)?;
+    match add_report(notes, asked, words, &intake) {
         Ok(()) => Ok(()),
         Err(_) => Err(Stop::Memory),
     }
