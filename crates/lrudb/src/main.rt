@@ -32,6 +32,7 @@ fn main(rt: HostRuntime) -> ExitCode {
         rt.stdin(),
         rt.stdout(),
         &mut ToWrite::new(rt.stderr()),
+        &mut rt.stderr(),
     );
     ExitCode::from(status)
 }

@@ -3,6 +3,7 @@ ghost use Rattle.std.specs.Prelude.{◌≡◌, ◌≤◌, length, true, IfOk};
 ghost use Rattle.rev_options.specs.Request.{is_temp_ttl};
 
 use crate::import::{MOST_LOGS, STANDARD, number, required, rhythm_of, text};
+use crate::opening::progress;
 use crate::{config_of, fault, with_config};
 use clap::error::ErrorKind;
 use clap::{Arg, ArgAction, ArgMatches, Command, Error};
@@ -41,6 +42,7 @@ pub fn csv_command<'a>(alloc: Global) -> Result<Command<'a>, AllocError> {
     let csv = Command::new(alloc, "csv")
         .about("Makes a script of the published trace of a cache")
         .arg(traces(alloc))?
+        .arg(progress(alloc))?
         .arg(text(
             alloc,
             "out",

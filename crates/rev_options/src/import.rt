@@ -3,6 +3,7 @@ ghost use Rattle.std.specs.Prelude.{◌≡◌, ◌≤◌, length, map, true, fal
 ghost use Rattle.rev_options.specs.Request.{IsInRange, IsOfWords, OpensBy, BringsBy, RunsBy, asks_import};
 
 use crate::csv::{csv_command, csv_import, sample_of};
+use crate::opening::progress;
 use crate::state::{state_command, state_import};
 use crate::{Request, fault};
 use clap::error::ErrorKind;
@@ -75,6 +76,7 @@ fn watch_command<'a>(alloc: Global) -> Result<Command<'a>, AllocError> {
             "Makes a script of logs that `watch fetchers mutations evictions sysevents deletions` sent",
         )
         .arg(logs(alloc))?
+        .arg(progress(alloc))?
         .arg(text(
             alloc,
             "settings",

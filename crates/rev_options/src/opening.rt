@@ -160,6 +160,14 @@ fn prompt<'a>(alloc: Global) -> Arg<'a> {
         .hide(true)
 }
 
+/// Where it is given by the launcher, at a terminal.
+pub(crate) fn progress<'a>(alloc: Global) -> Arg<'a> {
+    Arg::new(alloc, "progress")
+        .long("progress")
+        .action(ArgAction::SetTrue)
+        .hide(true)
+}
+
 /// The subcommand `open`.
 pub fn open_command<'a>(alloc: Global) -> Result<Command<'a>, AllocError> {
     let command = Command::new(alloc, "open").about(
@@ -168,6 +176,7 @@ pub fn open_command<'a>(alloc: Global) -> Result<Command<'a>, AllocError> {
     let command = with_config(alloc, command)?
         .arg(line_feed(alloc))?
         .arg(prompt(alloc))?
+        .arg(progress(alloc))?
         .arg(start(alloc))?
         .arg(traces(alloc))?
         .arg(json(alloc))?;

@@ -6,3 +6,5 @@ mod Traced
 mod Parts
 mod Stops
 mod Tallies
+mod Feeds
+mod Reports

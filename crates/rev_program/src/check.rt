@@ -1,4 +1,5 @@
 //! `lrudb import watch --check`: the script is played as it is made, and compared with what the log says.
+ghost use Rattle.std.specs.Prelude.{◌≡◌, ◌++◌, ℕ, List, OnOk};
 
 use crate::import::Making;
 use crate::imported::stop_in;
@@ -380,8 +381,12 @@ impl Check {
     }
 
     /// Adds how many gets and evictions are alike, a line each.
-    pub(crate) fn put(&self, out: &mut Vec<u8>) -> Result<(), AllocError> {
-        self.comparison.tally.put(out)
+    pub(crate) fn put(&self, out: &mut Vec<u8>) -> Result<(), AllocError>
+        ensures { OnOk result ((told : List ℕ) × (out.new.items ≡ out.old.items ++ told)) }
+    {
+        let mut told = Vec::new(self.alloc);
+        self.comparison.tally.put(&mut told)?;
+        out.extend_from_slice(told.as_slice())
     }
 }
 

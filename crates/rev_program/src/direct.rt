@@ -7,8 +7,9 @@ ghost use Rattle.rev_program.specs.Stop.{stop_of_config};
 
 use crate::import::{all_opened as all_imported, copied, setup_of};
 use crate::imported::{Feed, ImportedScript, NamedLogs, NamedTraces};
-use crate::opening::{Full, answer};
-use crate::program::{all_opened, ended};
+use crate::opening::{Full, answer, told_files};
+use crate::program::ended;
+use crate::progress::Progress;
 use crate::starts::started;
 use crate::stop::Stop;
 use crate::telling::tell_bytes;
@@ -30,7 +31,7 @@ use std::alloc::{AllocError, Global};
 use std::io;
 use std::io::{Read, Write};
 use std::mem::ManuallyDrop;
-use std::rt::Files;
+use std::rt::{Clock, Files};
 
 /// All seconds.
 const ALL: Range = Range {
@@ -79,15 +80,16 @@ fn add_full(notes: &mut Vec<u8>, full: Option<Full>) -> Result<(), AllocError> {
 }
 
 // Plays what the logs become, and adds what is told of it.
-fn play_logs<R: Files + AllocGlobal>(
+fn play_logs<R: Files + AllocGlobal, C: Clock, W: Sink>(
     rt: &R,
     names: &[String],
     session: &mut Session<Global>,
     intake: &mut Intake<Global>,
     notes: &mut Vec<u8>,
+    progress: &Progress<C, W>,
 ) -> Result<(), Stop> {
     let alloc = rt.alloc();
-    let files = all_imported(rt, alloc, names, io::empty())?;
+    let files = all_imported(rt, alloc, names, io::empty(), progress)?;
     let logs = LogFeed::new(alloc, intake, files);
     let full = play_script(alloc, session, NamedLogs { alloc, names, logs })?;
     put_report(notes, &intake.counts(), &intake.figures(), None)?;
@@ -96,15 +98,16 @@ fn play_logs<R: Files + AllocGlobal>(
 }
 
 // Plays what the traces become, and adds what is told of it.
-fn play_rows<R: Files + AllocGlobal>(
+fn play_rows<R: Files + AllocGlobal, C: Clock, W: Sink>(
     rt: &R,
     names: &[String],
     session: &mut Session<Global>,
     intake: &mut RowIntake,
     notes: &mut Vec<u8>,
+    progress: &Progress<C, W>,
 ) -> Result<(), Stop> {
     let alloc = rt.alloc();
-    let files = all_imported(rt, alloc, names, io::empty())?;
+    let files = all_imported(rt, alloc, names, io::empty(), progress)?;
     let traces = RowFeed::new(alloc, intake, files);
     let full = play_script(
         alloc,
@@ -121,17 +124,18 @@ fn play_rows<R: Files + AllocGlobal>(
 }
 
 // The session behind the starts. A configuration at fault is told before a file is opened.
-fn begun<R: Files + AllocGlobal>(
+fn begun<R: Files + AllocGlobal, C: Clock, W: Sink>(
     rt: &R,
     config: &Config,
     dialect: Dialect,
     starts: Vec<String>,
+    progress: &Progress<C, W>,
 ) -> Result<Session<Global>, Stop> {
     if let Some(fault) = fault_of(config) {
         return Err(Stop::from(fault));
     }
     let alloc = rt.alloc();
-    let files = all_opened(rt, alloc, starts)?;
+    let files = told_files(rt, alloc, starts, progress)?;
     started(&alloc, config, dialect, files)
 }
 
@@ -148,10 +152,11 @@ fn kept(session: Session<Global>, played: Result<(), Stop>) -> Result<Session<Gl
 }
 
 // The session behind what the logs become.
-fn with_logs<R: Files + AllocGlobal>(
+fn with_logs<R: Files + AllocGlobal, C: Clock, W: Sink>(
     rt: &R,
     asked: WatchOpening,
     notes: &mut Vec<u8>,
+    progress: &Progress<C, W>,
 ) -> Result<Session<Global>, Stop> {
     let WatchOpening {
         manner,
@@ -165,20 +170,30 @@ fn with_logs<R: Files + AllocGlobal>(
     put_unfollowed(notes, &setup.unfollowed)?;
     let config = setup.config;
     let mut intake = Intake::open(rt.alloc(), setup, rhythm, ALL, None)?;
-    match begun(rt, &config, manner.dialect, starts) {
+    progress.expect(rt, starts.as_slice());
+    progress.expect(rt, logs.as_slice());
+    match begun(rt, &config, manner.dialect, starts, progress) {
         Err(stop) => Err(stop),
         Ok(mut session) => {
-            let played = play_logs(rt, logs.as_slice(), &mut session, &mut intake, notes);
+            let played = play_logs(
+                rt,
+                logs.as_slice(),
+                &mut session,
+                &mut intake,
+                notes,
+                progress,
+            );
             kept(session, played)
         }
     }
 }
 
 // The session behind what the traces become.
-fn with_rows<R: Files + AllocGlobal>(
+fn with_rows<R: Files + AllocGlobal, C: Clock, W: Sink>(
     rt: &R,
     asked: CsvOpening,
     notes: &mut Vec<u8>,
+    progress: &Progress<C, W>,
 ) -> Result<Session<Global>, Stop> {
     let CsvOpening {
         config,
@@ -190,10 +205,19 @@ fn with_rows<R: Files + AllocGlobal>(
     } = asked;
     let config = sampled(&config, sample, notes)?;
     let mut intake = intake_of(rt.alloc(), &config, rhythm, sample)?;
-    match begun(rt, &config, manner.dialect, starts) {
+    progress.expect(rt, starts.as_slice());
+    progress.expect(rt, traces.as_slice());
+    match begun(rt, &config, manner.dialect, starts, progress) {
         Err(stop) => Err(stop),
         Ok(mut session) => {
-            let played = play_rows(rt, traces.as_slice(), &mut session, &mut intake, notes);
+            let played = play_rows(
+                rt,
+                traces.as_slice(),
+                &mut session,
+                &mut intake,
+                notes,
+                progress,
+            );
             kept(session, played)
         }
     }
@@ -224,19 +248,28 @@ fn answered<I: Read + Drop, O: Write + Drop, E: Sink>(
 /// Plays what the logs become that are asked for, each step as a node, as they are read, and answers the session that the
 /// reader gives. What the import tells of itself, and where the tree is full, is told before the session is read. Answers
 /// the exit status, and tells why where it is not 0.
-pub fn open_watch<R: Files + AllocGlobal, I: Read + Drop, O: Write + Drop, E: Sink>(
+pub fn open_watch<
+    R: Files + AllocGlobal,
+    I: Read + Drop,
+    O: Write + Drop,
+    E: Sink,
+    C: Clock,
+    W: Sink,
+>(
     rt: &R,
     asked: WatchOpening,
     reader: I,
     writer: O,
     errors: &mut E,
+    progress: &Progress<C, W>,
 ) -> u8
     ensures status { IsStatus result }
     ensures ends { EndsNoted (E.contents errors.old) (E.contents errors.new) (E.failures errors.old) (E.failures errors.new) result }
 {
     let manner = asked.manner;
     let mut notes = Vec::new(rt.alloc());
-    let opened = with_logs(rt, asked, &mut notes);
+    let opened = with_logs(rt, asked, &mut notes, progress);
+    progress.end();
     answered(
         rt.alloc(),
         opened,
@@ -250,13 +283,14 @@ pub fn open_watch<R: Files + AllocGlobal, I: Read + Drop, O: Write + Drop, E: Si
 
 /// Plays what the published traces become that are asked for, in the same way. A configuration at fault is told before a
 /// file is opened.
-pub fn open_csv<R: Files + AllocGlobal, I: Read + Drop, O: Write + Drop, E: Sink>(
-    rt: &R,
-    asked: CsvOpening,
-    reader: I,
-    writer: O,
-    errors: &mut E,
-) -> u8
+pub fn open_csv<
+    R: Files + AllocGlobal,
+    I: Read + Drop,
+    O: Write + Drop,
+    E: Sink,
+    C: Clock,
+    W: Sink,
+>(rt: &R, asked: CsvOpening, reader: I, writer: O, errors: &mut E, progress: &Progress<C, W>) -> u8
     ensures config { IfSome (fault_of asked.config) (λ fault. StopsBy (E.contents errors.old) (E.contents errors.new) (E.failures errors.old) (E.failures errors.new) result (stop_of_config fault)) }
     ensures status { IsStatus result }
     ensures ends { EndsNoted (E.contents errors.old) (E.contents errors.new) (E.failures errors.old) (E.failures errors.new) result }
@@ -266,7 +300,8 @@ pub fn open_csv<R: Files + AllocGlobal, I: Read + Drop, O: Write + Drop, E: Sink
     }
     let manner = asked.manner;
     let mut notes = Vec::new(rt.alloc());
-    let opened = with_rows(rt, asked, &mut notes);
+    let opened = with_rows(rt, asked, &mut notes, progress);
+    progress.end();
     answered(
         rt.alloc(),
         opened,

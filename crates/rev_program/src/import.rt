@@ -1,15 +1,22 @@
 //! `lrudb import watch`: logs that become a script, from files to files.
-ghost use Rattle.std.specs.Prelude.{◌≡◌, ◌≢◌};
+ghost use Rattle.std.specs.Prelude.{◌≡◌, ◌≢◌, ◌++◌, ℕ, List, OnOk, string_bytes};
+ghost use Rattle.rev_import.specs.declared.figures.Figures.{Figures};
+ghost use Rattle.rev_intake.specs.declared.counts.LineCounts.{LineCounts};
+ghost use Rattle.rev_program.specs.Importing.{Reports, TellsLogs, counted, run_notes, sampled};
 ghost use Rattle.rev_program.specs.Program.{IsStatus, StopsBy};
 ghost use Rattle.rev_program.specs.declared.stop.Stop.{Stop};
 
 use crate::check::{Check, CheckedLogs};
 use crate::program::ended;
+use crate::progress::{Progress, ToldFile};
 use crate::stop::Stop;
+use crate::telling::tell_bytes;
 use either::Either;
 use rev_classes::{ClassTable, Config};
+use rev_import::figures::Figures;
 use rev_import::sample::{LEAST_PAGE, Sample};
 use rev_import::setup::{Factor, Setup, follow};
+use rev_intake::counts::LineCounts;
 use rev_intake::fault::IntakeFault;
 use rev_intake::intake::{Intake, Range};
 use rev_intake::logs::make_script;
@@ -19,11 +26,11 @@ use rev_intake::row_report::put_thin;
 use rev_intake::told::{put_run_behind, put_sample, put_split};
 use rev_intake::words::put_options;
 use rev_options::{STANDARD, WatchImport};
-use rev_output::{Sink, ToWrite, write_all};
+use rev_output::{Sink, ToWrite};
 use rev_watch::settings::{LogStats, Settings, StatFault, read_log_stats, read_settings};
 use std::alloc::{AllocError, Global};
 use std::io::{Read, Write};
-use std::rt::Files;
+use std::rt::{Clock, Files};
 use std::{fs, io};
 
 // The name of a start in front of a script, also as it is called until it is whole.
@@ -192,18 +199,19 @@ pub(crate) fn opened<R: Files, I: Read + Drop>(
     }
 }
 
-// All logs, opened in order. The first that cannot be opened ends it.
-pub(crate) fn all_opened<R: Files, I: Read + Drop>(
+// All logs, opened in order, whose progress is told as they are read. The first that cannot be opened ends it.
+pub(crate) fn all_opened<'p, R: Files, I: Read + Drop, C, W>(
     rt: &R,
     alloc: Global,
     names: &[String],
     reader: I,
-) -> Result<Vec<Either<R::File, I>>, Stop> {
+    progress: &'p Progress<C, W>,
+) -> Result<Vec<ToldFile<'p, Either<R::File, I>, C, W>>, Stop> {
     let mut reader = Some(reader);
     let mut logs = Vec::new(alloc);
     for name in names {
         let log = opened(rt, alloc, name.as_str(), &mut reader)?;
-        if logs.push(log).is_err() {
+        if logs.push(ToldFile::new(log, progress)).is_err() {
             return Err(Stop::Memory);
         }
     }
@@ -490,18 +498,17 @@ fn check_of(alloc: Global, is_asked: bool, config: &Config) -> Result<Option<Che
     }
 }
 
-// Opens the logs, and makes their script where it is asked for.
-fn import_logs<R: Files + AllocGlobal, I: Read + Drop, O: Write>(
+// Makes the script of these logs where it is asked for.
+fn send_logs<R: Files + AllocGlobal, F: Read + Drop, O: Write>(
     rt: &R,
     asked: &WatchImport,
     words: &[u8],
     intake: &mut Intake<Global>,
     check: &mut Option<Check>,
-    reader: I,
+    logs: Vec<F>,
     writer: &mut O,
 ) -> Result<(), Stop> {
     let names = asked.logs.as_slice();
-    let logs = all_opened(rt, rt.alloc(), names, reader)?;
     match check {
         None => {
             let making = Logs {
@@ -526,28 +533,90 @@ fn import_logs<R: Files + AllocGlobal, I: Read + Drop, O: Write>(
     }
 }
 
+// Opens the logs, and makes their script where it is asked for.
+fn import_logs<R: Files + AllocGlobal, I: Read + Drop, O: Write, C: Clock, W: Sink>(
+    rt: &R,
+    asked: &WatchImport,
+    words: &[u8],
+    intake: &mut Intake<Global>,
+    check: &mut Option<Check>,
+    reader: I,
+    writer: &mut O,
+    progress: &Progress<C, W>,
+) -> Result<(), Stop> {
+    let names = asked.logs.as_slice();
+    progress.expect(rt, names);
+    let logs = all_opened(rt, rt.alloc(), names, reader, progress)?;
+    send_logs(rt, asked, words, intake, check, logs, writer)
+}
+
+// Adds the words for a run of the script, where it goes to the standard output.
+fn add_words(notes: &mut Vec<u8>, asked: &WatchImport, words: &[u8]) -> Result<(), AllocError> {
+    if asked.out.as_str() == STANDARD {
+        notes.extend_from_slice(words)
+    } else {
+        Ok(())
+    }
+}
+
+// Adds what was counted of a sample of so many keys.
+fn add_sample(
+    notes: &mut Vec<u8>,
+    one_of: u32,
+    counts: &LineCounts,
+    figures: &Figures,
+) -> Result<(), AllocError>
+    ensures { OnOk result (notes.new.items ≡ sampled one_of notes.old.items counts.now figures.now) }
+{
+    if one_of > 1 {
+        put_sample(notes, counts, figures)
+    } else {
+        Ok(())
+    }
+}
+
 // Adds what was counted.
 fn add_counts(
     notes: &mut Vec<u8>,
     asked: &WatchImport,
     intake: &Intake<Global>,
     stats: Option<LogStats>,
-) -> Result<(), AllocError> {
+) -> Result<(), AllocError>
+    ensures { OnOk result ((counts : LineCounts) × (figures : Figures) × (notes.new.items ≡ counted asked.now.sample.one_of notes.old.items counts figures stats)) }
+{
     let (counts, figures) = (intake.counts(), intake.figures());
     put_report(notes, &counts, &figures, stats)?;
-    if asked.sample.one_of > 1 {
-        put_sample(notes, &counts, &figures)?;
+    match add_sample(notes, asked.sample.one_of, &counts, &figures) {
+        Ok(()) => Ok(()),
+        Err(error) => Err(error),
     }
-    Ok(())
 }
 
-// Adds how many steps start and script have, of which so many were written of the setup, and how they are run.
-fn add_split(
+// Adds what a replay beside the import tells, where there is one.
+fn add_check(notes: &mut Vec<u8>, check: &Option<Check>) -> Result<(), AllocError>
+    ensures { OnOk result ((checked : List ℕ) × (notes.new.items ≡ notes.old.items ++ checked)) }
+{
+    match check {
+        None => Ok(()),
+        Some(check) => check.put(notes),
+    }
+}
+
+// Adds how the script in files is run: with its start, where it has one, of which so many steps were written of the setup.
+fn add_run(
     notes: &mut Vec<u8>,
     asked: &WatchImport,
     intake: &Intake<Global>,
     setup_lines: u64,
-) -> Result<(), AllocError> {
+) -> Result<(), AllocError>
+    ensures { OnOk result ((start : ℕ) × (script : ℕ) × (notes.new.items ≡ run_notes (string_bytes asked.now.out) asked.now.split notes.old.items start script)) }
+{
+    if asked.out.as_str() == STANDARD {
+        return Ok(());
+    }
+    if asked.split.is_none() {
+        return put_run(notes, asked.out.as_bytes());
+    }
     let start = intake.start_lines();
     let script = intake.figures().lines.saturating_sub(start);
     put_split(notes, start.saturating_add(setup_lines), script)?;
@@ -563,32 +632,29 @@ fn add_report(
     check: &Option<Check>,
     setup_lines: u64,
     stats: Option<LogStats>,
-) -> Result<(), AllocError> {
-    let is_standard = asked.out.as_str() == STANDARD;
-    if is_standard {
-        notes.extend_from_slice(words)?;
-    }
+) -> Result<(), AllocError>
+    ensures { OnOk result (TellsLogs asked.now notes.new.items) }
+{
+    add_words(notes, asked, words)?;
     add_counts(notes, asked, intake, stats)?;
-    if let Some(check) = check {
-        check.put(notes)?;
-    }
-    if is_standard {
-        return Ok(());
-    }
-    match asked.split {
-        None => put_run(notes, asked.out.as_bytes()),
-        Some(_) => add_split(notes, asked, intake, setup_lines),
+    add_check(notes, check)?;
+    match add_run(notes, asked, intake, setup_lines) {
+        Ok(()) => Ok(()),
+        Err(error) => Err(error),
     }
 }
 
 // Makes the script that is asked for, and adds what is told of it to the notes.
-fn import<R: Files + AllocGlobal, I: Read + Drop, O: Write>(
+fn import<R: Files + AllocGlobal, I: Read + Drop, O: Write, C: Clock, W: Sink>(
     rt: &R,
     asked: &WatchImport,
     reader: I,
     writer: &mut O,
     notes: &mut Vec<u8>,
-) -> Result<(), Stop> {
+    progress: &Progress<C, W>,
+) -> Result<(), Stop>
+    ensures { OnOk result (TellsLogs asked.now notes.new.items) }
+{
     let stats = stats_if(rt, &asked.stats)?;
     let setup = setup_of(rt, asked.settings.as_str(), asked.factor)?;
     put_unfollowed(notes, &setup.unfollowed)?;
@@ -599,7 +665,16 @@ fn import<R: Files + AllocGlobal, I: Read + Drop, O: Write>(
     let mut check = check_of(rt.alloc(), asked.check, &setup.config)?;
     let mut intake = intake_of(rt.alloc(), setup, asked)?;
     let words = words.as_slice();
-    import_logs(rt, asked, words, &mut intake, &mut check, reader, writer)?;
+    import_logs(
+        rt,
+        asked,
+        words,
+        &mut intake,
+        &mut check,
+        reader,
+        writer,
+        progress,
+    )?;
     let told = add_report(notes, asked, words, &intake, &check, setup_lines, stats);
     match told {
         Ok(()) => Ok(()),
@@ -609,22 +684,25 @@ fn import<R: Files + AllocGlobal, I: Read + Drop, O: Write>(
 
 /// Makes the script that is asked for. Answers the exit status, 0, 3, 4 or 5. At status 0 what the import tells of itself
 /// goes to `errors`, at any other the text of the reason, whole where no write to it has failed.
-pub fn import_watch<R: Files + AllocGlobal, I: Read + Drop, O: Write, E: Sink>(
+pub fn import_watch<R: Files + AllocGlobal, I: Read + Drop, O: Write, E: Sink, C: Clock, W: Sink>(
     rt: &R,
     asked: WatchImport,
     reader: I,
     writer: &mut O,
     errors: &mut E,
+    progress: &Progress<C, W>,
 ) -> u8
     ensures status { IsStatus result }
+    ensures done { result ≡ 0 → Reports (E.contents errors.old) (E.contents errors.new) (E.failures errors.old) (E.failures errors.new) (TellsLogs asked) }
     ensures early { result ≢ 0 → (s : Stop) × StopsBy (E.contents errors.old) (E.contents errors.new) (E.failures errors.old) (E.failures errors.new) result s }
 {
     let mut notes = Vec::new(rt.alloc());
-    match import(rt, &asked, reader, writer, &mut notes) {
+    let done = import(rt, &asked, reader, writer, &mut notes, progress);
+    progress.end();
+    match done {
         Err(stop) => ended(Err(stop), errors),
         Ok(()) => {
-            // There is nobody left to tell that this cannot be written.
-            let _ = write_all(errors, notes.as_slice());
+            tell_bytes(errors, notes.as_slice());
             0
         }
     }

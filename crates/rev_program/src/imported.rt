@@ -1,4 +1,8 @@
 //! The script that an import would write, read while what it is made of is taken in.
+ghost use Rattle.std.specs.Prelude.{◌≡◌, ◌<◌, ◌+◌, ◌++◌, [], None, ℕ, List, Option, length, take, drop, true, false, OnOk, IfOk};
+ghost use Rattle.std.specs.Io.{ReadsAtMost};
+ghost use Rattle.std.specs.Io.KnownBytes.{Keeps, IsAtEnd, prepend_known};
+ghost use Rattle.rev_program.specs.Feeding.{Feeds};
 
 use crate::import::{name_in, stop_of as stop_of_log};
 use crate::stop::Stop;
@@ -9,11 +13,17 @@ use rev_intake::intake::PIECE;
 use std::alloc::Global;
 use std::io;
 use std::io::{ErrorKind, Read};
+use std::marker::Model;
 
 /// What a script is made of, taken in bit by bit.
 pub(crate) trait Feed {
+    // The bytes of the script that are not written yet, where they are known.
+    ghost script: { Self → Option (List ℕ) } = { λ _. None };
+
     /// Takes in a little more, and writes what it becomes behind `out`. The answer is whether there may be more.
-    fn feed(&mut self, out: &mut Vec<u8>) -> Result<bool, Stop>;
+    fn feed(&mut self, out: &mut Vec<u8>) -> Result<bool, Stop>
+        ensures bytes { Feeds (script self.old) (script self.new) out.old.items out.new.items }
+        ensures end { IfOk result (λ more. more ≡ false → IsAtEnd (script self.new)) };
 
     /// The name of the file that is read.
     fn name(&self) -> &str;
@@ -90,9 +100,77 @@ impl<'n, 'i, F: Read + Drop> Feed for NamedTraces<'n, 'i, F> {
     }
 }
 
+// Has the feed write what becomes the next piece, behind what stands there.
+fn refill<T: Feed>(feed: &mut T, piece: &mut Vec<u8>, has_more: &mut bool) -> Result<(), Stop>
+    ensures bytes { Feeds (T.script feed.old) (T.script feed.new) piece.old.items piece.new.items }
+    ensures end { (has_more.old ≡ false → IsAtEnd (T.script feed.old)) → has_more.new ≡ false → IsAtEnd (T.script feed.new) }
+    ensures full { OnOk result (has_more.new ≡ true → 0 < length piece.new.items) }
+{
+    for _ in 0..u64::MAX {
+        if !*has_more || piece.len() >= PIECE {
+            return Ok(());
+        }
+        match feed.feed(piece) {
+            Ok(more) => *has_more = more,
+            Err(stop) => return Err(stop),
+        }
+    }
+    Err(Stop::TooLong)
+}
+
+fn has_stopped() -> io::Error {
+    io::Error::from(ErrorKind::InvalidData)
+}
+
+// Sees that the piece has bytes behind the place, where there are more. What ends the script early ends each call behind it.
+fn refresh<T: Feed>(
+    feed: &mut T,
+    piece: &mut Vec<u8>,
+    from: &mut usize,
+    has_more: &mut bool,
+    stop: &mut Option<Stop>,
+) -> io::Result<()>
+    requires { has_more.now ≡ false → IsAtEnd (T.script feed.now) }
+    ensures bytes { Keeps (prepend_known (drop from.old piece.old.items) (T.script feed.old)) (prepend_known (drop from.new piece.new.items) (T.script feed.new)) }
+    ensures ended { has_more.new ≡ false → IsAtEnd (T.script feed.new) }
+    ensures end { OnOk result (drop from.new piece.new.items ≡ [] → IsAtEnd (T.script feed.new)) }
+{
+    if *from < piece.len() {
+        return Ok(());
+    }
+    if stop.is_some() {
+        return Err(has_stopped());
+    }
+    piece.clear();
+    *from = 0;
+    match refill(feed, piece, has_more) {
+        Ok(()) => Ok(()),
+        Err(why) => {
+            *stop = Some(why);
+            Err(has_stopped())
+        }
+    }
+}
+
+// Gives bytes of a piece, from a place on.
+fn give(piece: &[u8], from: usize, buf: &mut [u8]) -> io::Result<usize>
+    ensures bound { ReadsAtMost result buf.new }
+    ensures fits { IfOk result (λ n. from + n < 18446744073709551616) }
+    ensures bytes { IfOk result (λ n. drop from piece.now ≡ take n buf.new ++ drop (from + n) piece.now) }
+    ensures end { IfOk result (λ n. n ≡ 0 → 0 < length buf.new → drop from piece.now ≡ []) }
+{
+    match piece.get(from..) {
+        None => Ok(0),
+        Some(rest) => {
+            let mut rest = rest;
+            rest.read(buf)
+        }
+    }
+}
+
 /// A script as it is made: of it a piece is kept, and nothing else. What ends it early is remembered.
 #[derive(Drop)]
-pub(crate) struct ImportedScript<T> {
+pub(crate) struct ImportedScript<T: Feed + Drop> {
     feed: T,
     piece: Vec<u8>,
     // how many bytes of the piece were read
@@ -101,9 +179,20 @@ pub(crate) struct ImportedScript<T> {
     stop: Option<Stop>,
 }
 
+impl<T: Feed + Drop> Model for ImportedScript<T> {
+    // the bytes of the script that were not read yet, where they are known
+    ghost Value = { Option (List ℕ) };
+
+    ghost view = { λ s. prepend_known (drop s.from s.piece.items) (T.script s.feed) };
+
+    ghost invariant = { λ s. s.has_more ≡ false → IsAtEnd (T.script s.feed) };
+}
+
 impl<T: Feed + Drop> ImportedScript<T> {
     /// A script of which nothing was read.
-    pub(crate) fn new(alloc: Global, feed: T) -> ImportedScript<T> {
+    pub(crate) fn new(alloc: Global, feed: T) -> ImportedScript<T>
+        ensures { result ≡ T.script feed }
+    {
         ImportedScript {
             feed,
             piece: Vec::new(alloc),
@@ -111,19 +200,6 @@ impl<T: Feed + Drop> ImportedScript<T> {
             has_more: true,
             stop: None,
         }
-    }
-
-    // Takes in what becomes the next piece.
-    fn refill(&mut self) -> Result<(), Stop> {
-        self.piece.clear();
-        self.from = 0;
-        for _ in 0..u64::MAX {
-            if !self.has_more || self.piece.len() >= PIECE {
-                break;
-            }
-            self.has_more = self.feed.feed(&mut self.piece)?;
-        }
-        Ok(())
     }
 
     /// The name of the file that is read.
@@ -139,22 +215,24 @@ impl<T: Feed + Drop> ImportedScript<T> {
 }
 
 impl<T: Feed + Drop> Read for ImportedScript<T> {
+    ghost remaining = { λ s. s };
+
     fn read(&mut self, buf: &mut [u8]) -> io::Result<usize> {
-        if self.from >= self.piece.len() {
-            match self.refill() {
-                Ok(()) => {}
-                Err(stop) => {
-                    self.has_more = false;
-                    self.stop = Some(stop);
-                    return Err(io::Error::from(ErrorKind::InvalidData));
+        match refresh(
+            &mut self.feed,
+            &mut self.piece,
+            &mut self.from,
+            &mut self.has_more,
+            &mut self.stop,
+        ) {
+            Err(error) => Err(error),
+            Ok(()) => match give(self.piece.as_slice(), self.from, buf) {
+                Err(error) => Err(error),
+                Ok(n) => {
+                    self.from += n;
+                    Ok(n)
                 }
-            }
+            },
         }
-        let Some(mut rest) = self.piece.as_slice().get(self.from..) else {
-            return Ok(0);
-        };
-        let n = rest.read(buf)?;
-        self.from = self.from.saturating_add(n);
-        Ok(n)
     }
 }

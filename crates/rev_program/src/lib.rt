@@ -11,6 +11,7 @@ mod json;
 pub mod opening;
 pub mod play;
 pub mod program;
+pub mod progress;
 mod rows;
 mod starts;
 pub mod state;

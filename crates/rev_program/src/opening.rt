@@ -7,6 +7,7 @@ ghost use Rattle.rev_program.specs.Stop.{stop_of_config};
 
 use crate::json::run_as_json_on;
 use crate::program::{all_opened, ended, run_on};
+use crate::progress::{Progress, ToldFile};
 use crate::starts::started;
 use crate::stop::Stop;
 use crate::telling::tell_parts;
@@ -24,7 +25,7 @@ use std::alloc::{Allocator, Global};
 use std::collections::VecDeque;
 use std::io::{Read, Write};
 use std::mem::ManuallyDrop;
-use std::rt::Files;
+use std::rt::{Clock, Files};
 
 /// The place in the traces where the tree is full: the first line, from 1, of which it has no room for a step.
 #[derive(Debug, Drop)]
@@ -115,18 +116,38 @@ fn note<E: Sink>(full: &Option<Full>, errors: &mut E)
     }
 }
 
+/// The files of the names, opened in order, whose progress is told as they are read. The first that cannot be opened ends
+/// it.
+pub(crate) fn told_files<'p, R: Files, C, W>(
+    rt: &R,
+    alloc: Global,
+    names: Vec<String>,
+    progress: &'p Progress<C, W>,
+) -> Result<Vec<(String, ToldFile<'p, R::File, C, W>)>, Stop> {
+    let mut files = Vec::new(alloc);
+    for (name, file) in all_opened(rt, alloc, names)? {
+        if files.push((name, ToldFile::new(file, progress))).is_err() {
+            return Err(Stop::Memory);
+        }
+    }
+    Ok(files)
+}
+
 // The files, opened in order, those of the starts first, and what `with_traces` makes of them.
-fn opened_with_traces<R: Files + AllocGlobal>(
+fn opened_with_traces<R: Files + AllocGlobal, C: Clock, W: Sink>(
     rt: &R,
     config: &Config,
     dialect: Dialect,
     starts: Vec<String>,
     traces: Vec<String>,
+    progress: &Progress<C, W>,
 ) -> Result<(Session<Global>, Option<Full>), Stop>
     requires { IsWithinLimits config.now }
 {
-    let starts = all_opened(rt, rt.alloc(), starts)?;
-    let traces = all_opened(rt, rt.alloc(), traces)?;
+    progress.expect(rt, starts.as_slice());
+    progress.expect(rt, traces.as_slice());
+    let starts = told_files(rt, rt.alloc(), starts, progress)?;
+    let traces = told_files(rt, rt.alloc(), traces, progress)?;
     with_traces(&rt.alloc(), config, dialect, starts, traces)
 }
 
@@ -176,13 +197,14 @@ pub(crate) fn answer<I: Read + Drop, O: Write + Drop>(
 /// Plays the traces that are asked for, and answers the session that the reader gives. A configuration at fault is told
 /// before a file is opened, and a file that cannot be opened before one is read. Traces that fill the tree are told of
 /// before the session is read. Answers the exit status, and tells why where it is not 0.
-pub fn open_traces<R: Files + AllocGlobal, I: Read + Drop, O: Write + Drop, E: Sink>(
-    rt: &R,
-    asked: Opening,
-    reader: I,
-    writer: O,
-    errors: &mut E,
-) -> u8
+pub fn open_traces<
+    R: Files + AllocGlobal,
+    I: Read + Drop,
+    O: Write + Drop,
+    E: Sink,
+    C: Clock,
+    W: Sink,
+>(rt: &R, asked: Opening, reader: I, writer: O, errors: &mut E, progress: &Progress<C, W>) -> u8
     ensures config { IfSome (fault_of asked.config) (λ fault. StopsBy (E.contents errors.old) (E.contents errors.new) (E.failures errors.old) (E.failures errors.new) result (stop_of_config fault)) }
     ensures status { IsStatus result }
     ensures ends { EndsBehind (E.contents errors.old) (E.contents errors.new) (E.failures errors.old) (E.failures errors.new) result }
@@ -196,7 +218,9 @@ pub fn open_traces<R: Files + AllocGlobal, I: Read + Drop, O: Write + Drop, E: S
     if let Some(fault) = fault_of(&config) {
         return ended(Err(Stop::from(fault)), errors);
     }
-    match opened_with_traces(rt, &config, manner.dialect, starts, traces) {
+    let opened = opened_with_traces(rt, &config, manner.dialect, starts, traces, progress);
+    progress.end();
+    match opened {
         Err(stop) => ended(Err(stop), errors),
         Ok((session, full)) => {
             note(&full, errors);

@@ -3,6 +3,7 @@ ghost use Rattle.std.specs.Prelude.{◌≡◌, ◌≢◌, ◌≤◌, length, map
 ghost use Rattle.std.specs.Io.KnownBytes.{Keeps};
 ghost use Rattle.rev_classes.specs.Limits.{IsWithinLimits, fault_of};
 ghost use Rattle.rev_options.specs.Request.{asks_import, asks_open, asks_run, brings};
+ghost use Rattle.rev_program.specs.Progress.{asks_progress};
 ghost use Rattle.rev_program.specs.Program.{IsStatus, StopsBy, EndsEarly, EndsBehind, EndsNoted, EndsUnwritten, EndsRun, IsCounted, tally_text};
 ghost use Rattle.rev_program.specs.Stop.{status, text, stop_of_config};
 ghost use Rattle.rev_program.specs.Telling.{Told};
@@ -12,6 +13,7 @@ use crate::import::import_watch;
 use crate::json::run_script_as_json;
 use crate::opening::open_traces;
 use crate::play::play_files;
+use crate::progress::{Progress, asks_progress};
 use crate::starts::started;
 use crate::state::import_state;
 use crate::stop::Stop;
@@ -30,7 +32,7 @@ use rev_undotree::Session;
 use std::alloc::{Allocator, Global};
 use std::convert::AsStr;
 use std::io::{Read, Write};
-use std::rt::Files;
+use std::rt::{Clock, Files};
 use std::sync::Wait;
 use std::thread::Threads;
 use std::{fs, io};
@@ -329,18 +331,16 @@ fn record_files<R: Files + Threads + Wait + Sync + AllocGlobal, O: Write, E: Sin
     }
 }
 
-/// The whole program: does what the words behind its name ask for, and answers its exit status, 0 or 2 to 6.
-///
-/// Answers go to `writer`. At status 0 nothing goes to `errors`, but what an import tells of itself, that of `open` too, what is
-/// told of traces that fill the tree, and which commands of a run were malformed or refused; at any other the text of the
-/// reason does, whole where no write to `errors` has failed. The players of a recording wait for one another.
-pub fn program<
+// What `program` says, but for how it tells progress.
+fn program_with<
     R: Files + Threads + Wait + Sync + AllocGlobal,
     S: AsStr,
     I: Read + Drop,
     O: Write + Drop,
     E: Sink,
->(rt: &R, words: &[S], reader: I, mut writer: O, errors: &mut E) -> u8
+    C: Clock,
+    W: Sink,
+>(rt: &R, words: &[S], reader: I, mut writer: O, errors: &mut E, progress: &Progress<C, W>) -> u8
     ensures status { IsStatus result }
     ensures early { result ≢ 0 → asks_open (map S.text words.now) ≡ false → EndsEarly (E.contents errors.old) (E.contents errors.new) (E.failures errors.old) (E.failures errors.new) result }
     ensures quiet { result ≡ 0 → asks_import (map S.text words.now) ≡ false → asks_open (map S.text words.now) ≡ false → asks_run (map S.text words.now) ≡ false → Keeps (E.contents errors.old) (E.contents errors.new) }
@@ -370,11 +370,46 @@ pub fn program<
                 files,
             },
         ) => record_files(rt, config, dialect, starts, files, &mut writer, errors),
-        Ok(Request::ImportWatch(asked)) => import_watch(rt, asked, reader, &mut writer, errors),
-        Ok(Request::ImportCsv(asked)) => import_csv(rt, asked, reader, &mut writer, errors),
+        Ok(Request::ImportWatch(asked)) => {
+            import_watch(rt, asked, reader, &mut writer, errors, progress)
+        }
+        Ok(Request::ImportCsv(asked)) => {
+            import_csv(rt, asked, reader, &mut writer, errors, progress)
+        }
         Ok(Request::ImportState(asked)) => import_state(rt, asked, errors),
-        Ok(Request::Open(asked)) => open_traces(rt, asked, reader, writer, errors),
-        Ok(Request::OpenWatch(asked)) => open_watch(rt, asked, reader, writer, errors),
-        Ok(Request::OpenCsv(asked)) => open_csv(rt, asked, reader, writer, errors),
+        Ok(Request::Open(asked)) => open_traces(rt, asked, reader, writer, errors, progress),
+        Ok(Request::OpenWatch(asked)) => open_watch(rt, asked, reader, writer, errors, progress),
+        Ok(Request::OpenCsv(asked)) => open_csv(rt, asked, reader, writer, errors, progress),
+    }
+}
+
+/// The whole program: does what the words behind its name ask for, and answers its exit status, 0 or 2 to 6.
+///
+/// Answers go to `writer`. At status 0 nothing goes to `errors`, but what an import tells of itself, that of `open` too, what is
+/// told of traces that fill the tree, and which commands of a run were malformed or refused; at any other the text of the
+/// reason does, whole where no write to `errors` has failed. How far traces and imports have come goes to `progress`, and
+/// nothing does where no word asks for it. The players of a recording wait for one another.
+pub fn program<
+    R: Files + Threads + Wait + Clock + Sync + AllocGlobal,
+    S: AsStr,
+    I: Read + Drop,
+    O: Write + Drop,
+    E: Sink,
+    P: Write,
+>(rt: &R, words: &[S], reader: I, writer: O, errors: &mut E, progress: &mut P) -> u8
+    ensures status { IsStatus result }
+    ensures early { result ≢ 0 → asks_open (map S.text words.now) ≡ false → EndsEarly (E.contents errors.old) (E.contents errors.new) (E.failures errors.old) (E.failures errors.new) result }
+    ensures quiet { result ≡ 0 → asks_import (map S.text words.now) ≡ false → asks_open (map S.text words.now) ≡ false → asks_run (map S.text words.now) ≡ false → Keeps (E.contents errors.old) (E.contents errors.new) }
+    ensures run { asks_run (map S.text words.now) ≡ true → EndsRun (E.contents errors.old) (E.contents errors.new) (E.failures errors.old) (E.failures errors.new) result }
+    ensures noted { asks_import (map S.text words.now) ≡ false → asks_run (map S.text words.now) ≡ false → EndsNoted (E.contents errors.old) (E.contents errors.new) (E.failures errors.old) (E.failures errors.new) result }
+    ensures behind { asks_import (map S.text words.now) ≡ false → asks_run (map S.text words.now) ≡ false → brings (map S.text words.now) ≡ false → EndsBehind (E.contents errors.old) (E.contents errors.new) (E.failures errors.old) (E.failures errors.new) result }
+    ensures progress { asks_progress (map S.text words.now) ≡ false → Keeps (P.contents progress.old) (P.contents progress.new) }
+{
+    if asks_progress(words) {
+        let shown = Progress::shown(rt, ToWrite::new(progress));
+        program_with(rt, words, reader, writer, errors, &shown)
+    } else {
+        let hidden = Progress::<&R, ToWrite<&mut P>>::hidden();
+        program_with(rt, words, reader, writer, errors, &hidden)
     }
 }

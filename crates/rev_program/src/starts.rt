@@ -1,8 +1,9 @@
 //! Files whose steps are played before anything else.
-ghost use Rattle.std.specs.Prelude.{OnOk, IfOk};
+ghost use Rattle.std.specs.Prelude.{◌≡◌, ◌⊎◌, OnOk, IfOk, IfErr};
 ghost use Rattle.rev_classes.specs.Limits.{IsWithinLimits};
 ghost use Rattle.rev_shell.specs.Run.{opened};
-ghost use Rattle.rev_program.specs.Starts.{IsStart, AreStarts};
+ghost use Rattle.rev_program.specs.Starts.{IsStart, AreStarts, Halts, DoHalt};
+ghost use Rattle.rev_program.specs.declared.stop.Stop.{Stop};
 
 use crate::stop::Stop;
 use rev_classes::Config;
@@ -24,7 +25,8 @@ fn play_file<A: Allocator + Clone, F: Read + Drop>(
     name: String,
     reader: F,
 ) -> Result<(), Stop>
-    ensures { OnOk result (IsStart dialect (F.remaining reader) session.old session.new) }
+    ensures ok { OnOk result (IsStart dialect (F.remaining reader) session.old session.new) }
+    ensures err { IfErr result (λ stop. Halts dialect (F.remaining reader) name stop) }
 {
     let mut source = FromRead::new(reader);
     match play_start(alloc, session, dialect, &mut source) {
@@ -40,7 +42,8 @@ fn play_files<A: Allocator + Clone, F: Read + Drop>(
     dialect: Dialect,
     files: Vec<(String, F)>,
 ) -> Result<(), Stop>
-    ensures { OnOk result (AreStarts dialect F.remaining files.items session.old session.new) }
+    ensures ok { OnOk result (AreStarts dialect F.remaining files.items session.old session.new) }
+    ensures err { IfErr result (λ stop. DoHalt dialect F.remaining files.items session.old stop) }
 {
     let mut rest = VecDeque::from_vec(files);
     while let Some((name, reader)) = rest.pop_front() {
@@ -53,7 +56,8 @@ fn play_files<A: Allocator + Clone, F: Read + Drop>(
 }
 
 /// The session that a program begins with: the steps of the files, each a name and a reader, were read in the dialect and
-/// played in order on an empty store, and no node stands but the root.
+/// played in order on an empty store, and no node stands but the root. Or memory was refused, or it is told why the first
+/// file that is at fault is no start.
 pub fn started<A: Allocator + Clone, F: Read + Drop>(
     alloc: &A,
     config: &Config,
@@ -61,7 +65,8 @@ pub fn started<A: Allocator + Clone, F: Read + Drop>(
     files: Vec<(String, F)>,
 ) -> Result<Session<A>, Stop>
     requires { IsWithinLimits config.now }
-    ensures { IfOk result (λ session. AreStarts dialect F.remaining files.items (opened config.entry.now) session) }
+    ensures ok { IfOk result (λ session. AreStarts dialect F.remaining files.items (opened config.entry.now) session) }
+    ensures err { IfErr result (λ stop. (stop ≡ Stop.Memory) ⊎ DoHalt dialect F.remaining files.items (opened config.entry.now) stop) }
 {
     let Some(mut session) = open_session(alloc, config) else {
         return Err(Stop::Memory);

@@ -1,11 +1,14 @@
 //! `lrudb import csv`: traces that become a script, from files to files.
-ghost use Rattle.std.specs.Prelude.{◌≡◌, ◌≢◌};
+ghost use Rattle.std.specs.Prelude.{◌≡◌, ◌≢◌, OnOk};
+ghost use Rattle.rev_program.specs.Importing.{Reports, TellsRows};
 ghost use Rattle.rev_program.specs.Program.{IsStatus, StopsBy};
 ghost use Rattle.rev_program.specs.declared.stop.Stop.{Stop};
 
 use crate::import::{Making, all_opened, copied, name_in, send};
 use crate::program::ended;
+use crate::progress::Progress;
 use crate::stop::Stop;
+use crate::telling::tell_bytes;
 use rev_classes::{ClassTable, Config, fault_of};
 use rev_import::policy::Rhythm;
 use rev_import::sample::{LEAST_PAGE, Sample};
@@ -17,10 +20,10 @@ use rev_intake::rows::RowIntake;
 use rev_intake::traces::make_row_script;
 use rev_intake::words::put_all_options;
 use rev_options::{CsvImport, STANDARD};
-use rev_output::{Sink, write_all};
+use rev_output::Sink;
 use std::alloc::{AllocError, Global};
 use std::io::{Read, Write};
-use std::rt::Files;
+use std::rt::{Clock, Files};
 
 /// Why an import ends, at a trace of this name.
 pub(crate) fn stop_of(alloc: Global, fault: RowsFault, trace: &str) -> Result<Stop, Stop> {
@@ -118,7 +121,9 @@ fn add_report(
     asked: &CsvImport,
     words: &[u8],
     intake: &RowIntake,
-) -> Result<(), AllocError> {
+) -> Result<(), AllocError>
+    ensures { OnOk result (TellsRows asked.now notes.new.items) }
+{
     if asked.out.as_str() == STANDARD {
         notes.extend_from_slice(words)?;
         return put_row_report(notes, &intake.counts(), &intake.figures());
@@ -127,45 +132,67 @@ fn add_report(
     put_run(notes, asked.out.as_bytes())
 }
 
+// Makes the script of these traces where it is asked for.
+fn send_rows<R: Files + AllocGlobal, F: Read + Drop, O: Write>(
+    rt: &R,
+    asked: &CsvImport,
+    words: &[u8],
+    intake: &mut RowIntake,
+    files: Vec<F>,
+    writer: &mut O,
+) -> Result<(), Stop> {
+    let making = Traces {
+        intake,
+        names: asked.traces.as_slice(),
+        files,
+    };
+    send(rt, asked.out.as_str(), words, making, writer)
+}
+
 // Makes the script that is asked for, and adds what is told of it to the notes.
-fn import<R: Files + AllocGlobal, I: Read + Drop, O: Write>(
+fn import<R: Files + AllocGlobal, I: Read + Drop, O: Write, C: Clock, W: Sink>(
     rt: &R,
     asked: &CsvImport,
     reader: I,
     writer: &mut O,
     notes: &mut Vec<u8>,
-) -> Result<(), Stop> {
+    progress: &Progress<C, W>,
+) -> Result<(), Stop>
+    ensures { OnOk result (TellsRows asked.now notes.new.items) }
+{
     let (mut intake, words) = opened(rt.alloc(), asked, notes)?;
     let names = asked.traces.as_slice();
-    let files = all_opened(rt, rt.alloc(), names, reader)?;
-    let making = Traces {
-        intake: &mut intake,
-        names,
-        files,
-    };
-    send(rt, asked.out.as_str(), words.as_slice(), making, writer)?;
-    add_report(notes, asked, words.as_slice(), &intake)?;
-    Ok(())
+    progress.expect(rt, names);
+    let files = all_opened(rt, rt.alloc(), names, reader, progress)?;
+    let words = words.as_slice();
+    send_rows(rt, asked, words, &mut intake, files, writer)?;
+    match add_report(notes, asked, words, &intake) {
+        Ok(()) => Ok(()),
+        Err(_) => Err(Stop::Memory),
+    }
 }
 
 /// Makes the script that is asked for. Answers the exit status, 0 or 2 to 5. At status 0 what the import tells of itself
 /// goes to `errors`, at any other the text of the reason, whole where no write to it has failed.
-pub fn import_csv<R: Files + AllocGlobal, I: Read + Drop, O: Write, E: Sink>(
+pub fn import_csv<R: Files + AllocGlobal, I: Read + Drop, O: Write, E: Sink, C: Clock, W: Sink>(
     rt: &R,
     asked: CsvImport,
     reader: I,
     writer: &mut O,
     errors: &mut E,
+    progress: &Progress<C, W>,
 ) -> u8
     ensures status { IsStatus result }
+    ensures done { result ≡ 0 → Reports (E.contents errors.old) (E.contents errors.new) (E.failures errors.old) (E.failures errors.new) (TellsRows asked) }
     ensures early { result ≢ 0 → (s : Stop) × StopsBy (E.contents errors.old) (E.contents errors.new) (E.failures errors.old) (E.failures errors.new) result s }
 {
     let mut notes = Vec::new(rt.alloc());
-    match import(rt, &asked, reader, writer, &mut notes) {
+    let done = import(rt, &asked, reader, writer, &mut notes, progress);
+    progress.end();
+    match done {
         Err(stop) => ended(Err(stop), errors),
         Ok(()) => {
-            // There is nobody left to tell that this cannot be written.
-            let _ = write_all(errors, notes.as_slice());
+            tell_bytes(errors, notes.as_slice());
             0
         }
     }

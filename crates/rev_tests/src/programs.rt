@@ -2,6 +2,7 @@
 use crate::streams::{Narrow, Stutter};
 use rev_output::ToWrite;
 use rev_program::program::program;
+use std::io;
 
 struct Faulty {
     fails: bool,
@@ -64,6 +65,7 @@ fn faulty_streams(rt: HostRuntime) {
             reader,
             &mut writer,
             &mut ToWrite::new(&mut errors),
+            &mut io::sink(),
         );
         assert!(rt;
             status == case.status

@@ -10,6 +10,7 @@ use rev_shell::run::{Prompts, open_session, run_session};
 use rev_shell::start::play_start;
 use rev_undotree::Session;
 use std::alloc::{Allocator, Global};
+use std::io;
 use std::process::Abort;
 
 const CONFIG: Config = Config {
@@ -316,6 +317,7 @@ fn words(rt: HostRuntime) {
             b":at\r\n".as_slice(),
             &mut output,
             &mut ToWrite::new(&mut errors),
+            &mut io::sink(),
         );
         let told = std::str::from_utf8(errors.as_slice()).unwrap_or("");
         assert!(rt;

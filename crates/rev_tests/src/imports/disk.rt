@@ -222,8 +222,8 @@ impl<'a> Files for Disk<'a> {
         Err(none())
     }
 
-    fn metadata(&self, _path: &str) -> io::Result<Metadata> {
-        Err(none())
+    fn metadata(&self, path: &str) -> io::Result<Metadata> {
+        Ok(Metadata::of_file(self.room.bytes(path)?.len() as u64))
     }
 
     fn symlink_metadata(&self, _path: &str) -> io::Result<Metadata> {

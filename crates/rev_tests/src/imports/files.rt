@@ -1,16 +1,42 @@
-//! From files to files, and no half file.
+//! From files to files, and no half file; and what is told meanwhile.
 use crate::imports::disk::{Disk, Room};
 use crate::imports::{LOG, SETTINGS};
 use crate::streams::Stutter;
+use rev_classes::Config;
 use rev_import::policy::Rhythm;
 use rev_import::sample::Sample;
-use rev_options::WatchImport;
+use rev_options::{CsvOpening, Manner, WatchImport, WatchOpening};
 use rev_output::ToWrite;
+use rev_program::direct::{open_csv, open_watch};
 use rev_program::import::import_watch;
+use rev_program::progress::Progress;
+use rev_script::dialect::Dialect;
 use std::alloc::Global;
+use std::cell::Cell;
+use std::io;
 use std::process::Abort;
+use std::rt::Clock;
+use std::time::Duration;
 
 const STATS: &[u8] = b"STAT log_worker_dropped 3\r\nSTAT log_watcher_skipped 9\r\nEND\r\n";
+
+/// A clock that goes on by a second each time it is read.
+#[derive(Drop)]
+struct Seconds {
+    read: Cell<u64>,
+}
+
+impl Clock for Seconds {
+    fn monotonic(&self) -> io::Result<Duration> {
+        let now = self.read.get();
+        self.read.set(now.saturating_add(1));
+        Ok(Duration::from_secs(now))
+    }
+
+    fn since_1970(&self) -> io::Result<Duration> {
+        self.monotonic()
+    }
+}
 
 fn text(rt: &impl Abort, alloc: Global, text: &str) -> String {
     String::from_str(alloc, text).expect(rt, "no memory")
@@ -60,6 +86,7 @@ fn status_in(
         Stutter::new(b""),
         output,
         &mut ToWrite::new(errors),
+        &Progress::<Seconds, ToWrite<Vec<u8>>>::hidden(),
     )
 }
 
@@ -91,4 +118,138 @@ fn fail_in_turn(rt: &impl Abort, alloc: Global, split: Option<u32>, whole: usize
 fn each_call_fails(rt: HostRuntime) {
     fail_in_turn(&rt, rt.alloc(), None, 5);
     fail_in_turn(&rt, rt.alloc(), Some(102), 6);
+}
+
+const MANNER: Manner = Manner {
+    dialect: Dialect::CrLf,
+    has_prompt: false,
+    json: false,
+};
+
+const TABLE: &[u8] = b"5,k,1,1,1,set,0\n5,k,1,1,1,get,0\n";
+
+// A list of this name.
+fn named(rt: &impl Abort, alloc: Global, name: &str) -> Vec<String> {
+    let mut names = Vec::new(alloc);
+    names.push(text(rt, alloc, name)).expect(rt, "no memory");
+    names
+}
+
+// The status of a session on the log in a room, behind a start, of which this is read.
+fn opened_log(
+    rt: &impl Abort,
+    alloc: Global,
+    room: &Room,
+    output: &mut Vec<u8>,
+    errors: &mut Vec<u8>,
+) -> u8 {
+    let asked = WatchOpening {
+        manner: MANNER,
+        starts: named(rt, alloc, "start"),
+        logs: named(rt, alloc, "log"),
+        settings: text(rt, alloc, "settings"),
+        factor: None,
+        rhythm: Rhythm::Lean,
+    };
+    open_watch(
+        &Disk { room },
+        asked,
+        Stutter::new(b":at\n"),
+        output,
+        &mut ToWrite::new(errors),
+        &Progress::<Seconds, ToWrite<Vec<u8>>>::hidden(),
+    )
+}
+
+// The same on the table.
+fn opened_table(
+    rt: &impl Abort,
+    alloc: Global,
+    room: &Room,
+    output: &mut Vec<u8>,
+    errors: &mut Vec<u8>,
+) -> u8 {
+    let asked = CsvOpening {
+        config: Config {
+            page_size: 1024,
+            pages: 64,
+            num: 5,
+            den: 4,
+            bump: 64,
+            hash_power: 4,
+            temp_ttl: -1,
+            now: 1,
+        },
+        manner: MANNER,
+        starts: named(rt, alloc, "start"),
+        traces: named(rt, alloc, "table"),
+        rhythm: Rhythm::None,
+        sample: Sample { one_of: 1 },
+    };
+    open_csv(
+        &Disk { room },
+        asked,
+        Stutter::new(b":at\n"),
+        output,
+        &mut ToWrite::new(errors),
+        &Progress::<Seconds, ToWrite<Vec<u8>>>::hidden(),
+    )
+}
+
+// A session behind each call on a file that fails in turn: it is told, and nothing is answered. Else this is answered.
+fn fail_open_in_turn(rt: &impl Abort, alloc: Global, is_log: bool, answer: &str) {
+    for turn in 1..20 {
+        let room = room(rt, alloc, turn);
+        room.put("start", b"set s 0 0 1\r\nx\r\n")
+            .expect(rt, "no memory");
+        room.put("table", TABLE).expect(rt, "no memory");
+        let mut output: Vec<u8> = Vec::new(alloc);
+        let mut errors: Vec<u8> = Vec::new(alloc);
+        let status = if is_log {
+            opened_log(rt, alloc, &room, &mut output, &mut errors)
+        } else {
+            opened_table(rt, alloc, &room, &mut output, &mut errors)
+        };
+        let told = std::str::from_utf8(errors.as_slice()).unwrap_or("");
+        if room.waits() {
+            assert!(rt;
+                turn > 6 && status == 0 && output.as_slice() == answer.as_bytes(),
+                "{turn}: {status} {told}"
+            );
+            return;
+        }
+        assert!(rt;
+            status == 4 && output.is_empty() && told.ends_with(": cannot read\n"),
+            "{turn}: {status} {told}"
+        );
+    }
+    panic!(rt; "there was always one call more")
+}
+
+#[test]
+fn each_call_of_open_fails(rt: HostRuntime) {
+    fail_open_in_turn(&rt, rt.alloc(), true, "NODE 22\r\n");
+    fail_open_in_turn(&rt, rt.alloc(), false, "NODE 3\r\n");
+}
+
+// How far an import has come is told with each read of its log, and then it is taken off the terminal.
+#[test]
+fn progress_by_the_second(rt: HostRuntime) {
+    let room = room(&rt, rt.alloc(), 0);
+    let clock = Seconds { read: Cell::new(7) };
+    let mut told: Vec<u8> = Vec::new(rt.alloc());
+    let mut output: Vec<u8> = Vec::new(rt.alloc());
+    let status = import_watch(
+        &Disk { room: &room },
+        asked(&rt, rt.alloc(), None),
+        Stutter::new(b""),
+        &mut output,
+        &mut ToWrite::new(io::sink()),
+        &Progress::shown(&clock, ToWrite::new(&mut told)),
+    );
+    assert!(rt; status == 0);
+    assert_eq!(rt;
+        std::str::from_utf8(told.as_slice()).unwrap_or(""),
+        "\rlrudb: 22 lines, 100%, 22 a second\x1b[K\rlrudb: 22 lines, 100%, 11 a second\x1b[K\r\x1b[K"
+    );
 }

@@ -1,7 +1,7 @@
 use Rattle.std.proofs.Common.{◌≡◌, true, false, inl, rules, sym, ◌∙◌, Err}
 use Rattle.rev_program.proofs.Ends.{stopped_of, plainly, unnoted, noted_of, early_of}
 use Rattle.rev_program.proofs.Tallies.{run_stopped}
-use Rattle.rev_program.proofs.program.program.Goals as goal
+use Rattle.rev_program.proofs.program.program_with.Goals as goal
 
 pub returns-in-Err-clause-status : goal.returns-in-Err-clause-status
 returns-in-Err-clause-status c = search rules steps 4000000
