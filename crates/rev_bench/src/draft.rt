@@ -124,7 +124,8 @@ impl Draft {
         self.end()
     }
 
-    // Puts what follows the key of a storage line, but for what `cas` and `noreply` add. Most lines have two zeros there.
+    // Puts what follows the key of a storage line, but for what `cas` and `noreply` add. Most lines have two zeros
+    // there.
     fn size(&mut self, storage: Storage, size: u64) -> Result<(), AllocError> {
         if storage.flags == 0 && storage.exptime == 0 {
             self.put(b" 0 0 ")?;

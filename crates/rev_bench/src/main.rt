@@ -1,5 +1,5 @@
-//! The program `rev_bench`: a job's script is made from a seed, run as `lrudb run` runs one, and what was answered is kept as a
-//! digest. It is given the job, the seed and how many plays or commands the script has.
+//! The program `rev_bench`: a job's script is made from a seed, run as `lrudb run` runs one, and what was answered is
+//! kept as a digest. It is given the job, the seed and how many plays or commands the script has.
 #![tactic(auto)]
 
 mod draft;

@@ -30,8 +30,8 @@ impl Random {
         self.below(count) == 0
     }
 
-    /// A number of `width` bits at most, 1 to 31, each width as often as the others: a number comes about as often as one over
-    /// its size, so that the first few make up much of all.
+    /// A number of `width` bits at most, 1 to 31, each width as often as the others: a number comes about as often as
+    /// one over its size, so that the first few make up much of all.
     pub fn rank(&mut self, width: u64) -> u64 {
         let bits = self.below(width).wrapping_add(1);
         self.below(1 << (bits & 31))

@@ -1,4 +1,5 @@
--- A turn in place: from the last change on, each is played and its reverse put where it stood; at the end the record is turned over.
+-- A turn in place: from the last change on, each is played and its reverse put where it stood; at the end the record is
+-- turned over.
 use Rattle.std.specs.Prelude.{ℕ, ◌≡◌, ◌+◌, ◌-◌, ◌<◌, ◌≤◌, List, [], ◌∷◌, ◌++◌, length, slice_index_or, slice_set, take, drop, reverse, zero, suc, refl}
 use Rattle.std.proofs.Common.{sym, ◌∙◌, ap, subst, arith}
 use Rattle.std.proofs.lemmas.List.{reverse-append, reverse-reverse, length-append, append-nil, append_assoc}

@@ -35,7 +35,8 @@ abbrev pub place_in : Bool → ℕ → ℕ → ℕ
 place_in false i n = i
 place_in true i n = n - 1 - i
 
--- the moves in the order made, the note beside each, how many moves there is room for, and in which changes they are kept
+-- the moves in the order made, the note beside each, how many moves there is room for, and in which changes they are
+-- kept
 pub record PlainRecord : Type 0 where
   pub moves : List Move
   pub notes : List (Option Cause)

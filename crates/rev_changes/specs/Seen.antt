@@ -10,7 +10,8 @@ use Rattle.rev_model.specs.declared.Placed.TheVariants.{ToFree, ToQueue}
 use Rattle.rev_changes.specs.declared.changes.Change.{Change}
 use Rattle.rev_changes.specs.declared.changes.Change.TheVariants.{Enter, Leave, Link, Unlink, Revive, Free, Requeue, Take, Put, Touch, Shift, Lay, Lift, Count, LastCas, Timing, Mover, Settings, BumpIn, BumpBack, BumpOut, BumpFront, Marks, Unmarks}
 
--- the plain moves of which it is made, of which the last is played first: an item without its allocator, and the number of slots for a page's parts
+-- the plain moves of which it is made, of which the last is played first: an item without its allocator, and the number
+-- of slots for a page's parts
 abbrev pub plain_moves : {A : Type 0} → Change A → List plain.Move
 plain_moves (Enter q n x c i a) = plain.Puts (ToQueue c q (entry.Chunk x) a) ∷ plain.Binds x ∷ plain.Fills x (Some i) ∷ []
 plain_moves (Leave q n x c o) = plain.Fills x o ∷ plain.Unbinds x ∷ plain.Takes (InQueue c q (entry.Chunk x)) ∷ []

@@ -19,8 +19,8 @@ use rev_items::Bits;
 use rev_model::{BumpEntry, ChunkRef, ItemHeader, Queue, Touched, is_dead};
 use std::alloc::Allocator;
 
-/// A hit of an item of COLD that was hit before: ACTIVE is set, and the item enters the bump queue, where that has room.
-/// At most two moves.
+/// A hit of an item of COLD that was hit before: ACTIVE is set, and the item enters the bump queue, where that has
+/// room. At most two moves.
 fn ask_bump<A: Allocator>(
     store: &mut Store<A>,
     chunk: ChunkRef,

@@ -73,8 +73,9 @@ fn look_at<A: Allocator>(
     }
 }
 
-/// The chunk of the key's item, if it is alive; a dead one is removed: four moves, else none. A caller who has asked for
-/// the chunk that the key leads to hands it on as `found`. It may hold no item any more: then the key leads nowhere.
+/// The chunk of the key's item, if it is alive; a dead one is removed: four moves, else none. A caller who has asked
+/// for the chunk that the key leads to hands it on as `found`. It may hold no item any more: then the key leads
+/// nowhere.
 pub fn lookup_at<A: Allocator>(
     store: &mut Store<A>,
     key: &Key<A>,

@@ -66,9 +66,9 @@ fn settle<A: Allocator>(
     }
 }
 
-/// A chunk is had for the new item, and the item stored there, where the verb allows it by what a lookup of its key then
-/// finds (protocol.txt): at most 50 moves. `page` is the one that `plan_room` planned, and `found` the chunk that the key
-/// leads to before. NoChunk: no chunk was had, and a set takes the old item out.
+/// A chunk is had for the new item, and the item stored there, where the verb allows it by what a lookup of its key
+/// then finds (protocol.txt): at most 50 moves. `page` is the one that `plan_room` planned, and `found` the chunk that
+/// the key leads to before. NoChunk: no chunk was had, and a set takes the old item out.
 pub fn place<A: Allocator>(
     store: &mut Store<A>,
     verb: StoreVerb,

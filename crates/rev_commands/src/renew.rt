@@ -22,8 +22,8 @@ use rev_items::Item;
 use rev_model::ChunkRef;
 use std::alloc::Allocator;
 
-/// The item that a lookup found leaves without a cause, since its key is stored again: four moves, or none where it found
-/// none.
+/// The item that a lookup found leaves without a cause, since its key is stored again: four moves, or none where it
+/// found none.
 fn make_way<A: Allocator>(store: &mut Store<A>, old: Option<ChunkRef>, undo: &mut Record<A>)
     requires sound { (h : Option ChunkRefOf) × SoundBut h store.old }
     requires old { (k : List ℕ) × (find store.old k ≡ old) }

@@ -109,8 +109,8 @@ fn refuse<A: Allocator + Clone>(
     Ok((outcome, undo))
 }
 
-/// Carries the plan out for the item in the chunk `found`, to which the key leads; `missing` is answered where the key has
-/// no live item, or loses it to room.
+/// Carries the plan out for the item in the chunk `found`, to which the key leads; `missing` is answered where the key
+/// has no live item, or loses it to room.
 ///
 /// Err: a growth was refused, and the store is as it was.
 pub fn carry_out<A: Allocator + Clone>(

@@ -16,8 +16,8 @@ use rev_model::Outcome;
 use rev_requests::{Arithmetic, JoinSide, Payload};
 use std::alloc::{AllocError, Allocator};
 
-/// append and prepend (protocol.txt): the data are joined to those of the key's live item, which keeps its flags and its
-/// moment. The rest is this project's own: NotStored where the key has no live item, or loses it when room is made;
+/// append and prepend (protocol.txt): the data are joined to those of the key's live item, which keeps its flags and
+/// its moment. The rest is this project's own: NotStored where the key has no live item, or loses it when room is made;
 /// TooLarge where no slab class holds the joined data, NoChunk where no chunk is had for them, and then the old item
 /// stays, if it was not evicted.
 ///
@@ -42,9 +42,10 @@ pub fn join<A: Allocator + Clone>(
 }
 
 /// incr and decr (protocol.txt): the number that the key's live item holds grows, and wraps past 64 bits, or falls, and
-/// stops at 0; its decimal digits are the new data of the item, which keeps its flags and its moment. NotFound where the
-/// key has no live item; NotNumber where its data are not 1 to 20 digits of at most 64 bits. The rest is this project's
-/// own: NotFound also where the item is lost when room is made, and NoChunk where no chunk is had for the new data.
+/// stops at 0; its decimal digits are the new data of the item, which keeps its flags and its moment. NotFound where
+/// the key has no live item; NotNumber where its data are not 1 to 20 digits of at most 64 bits. The rest is this
+/// project's own: NotFound also where the item is lost when room is made, and NoChunk where no chunk is had for the new
+/// data.
 ///
 /// Err: a growth was refused, and the store is as it was.
 pub fn count<A: Allocator + Clone>(

@@ -92,9 +92,9 @@ fn refuse<A: Allocator + Clone>(
     Ok((Outcome::TooLarge, undo))
 }
 
-/// A storage command (protocol.txt): set stores the item, add where the key has none, replace where it has one, cas where
-/// it has one of this cas number. A dead item is removed, and is none. Where no class holds the new item (TooLarge), or
-/// no chunk is had for it (NoChunk), a set takes the old item out all the same (memcached's rule).
+/// A storage command (protocol.txt): set stores the item, add where the key has none, replace where it has one, cas
+/// where it has one of this cas number. A dead item is removed, and is none. Where no class holds the new item
+/// (TooLarge), or no chunk is had for it (NoChunk), a set takes the old item out all the same (memcached's rule).
 ///
 /// Err: a growth was refused, and the store is as it was.
 pub fn store_item<A: Allocator + Clone>(

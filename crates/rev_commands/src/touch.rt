@@ -96,8 +96,8 @@ fn touch_in<A: Allocator>(
     }
 }
 
-/// Reads the key's item, if it is alive, which is a hit of it, and gives it a new time to live (protocol.txt). A dead one
-/// is removed, and the answer is NotFound.
+/// Reads the key's item, if it is alive, which is a hit of it, and gives it a new time to live (protocol.txt). A dead
+/// one is removed, and the answer is NotFound.
 ///
 /// Err: a growth was refused, and the store is as it was.
 pub fn touch<A: Allocator + Clone>(

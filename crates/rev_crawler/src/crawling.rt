@@ -138,10 +138,11 @@ fn crawl_item<A: Allocator + Clone>(
     }
 }
 
-/// The mark of a class's queue takes one step towards the head (protocol.txt, `lru_crawler crawl`; this project's own in
-/// that a step handles one entry). BadClass where the class is none of the store, from 1 to the last; Idle where the queue
-/// has no mark. A mark at the head is taken out: Ended. Else the entry in front of it is looked at: a dead item is
-/// reclaimed, and crawler_reclaimed raised: Reclaimed; in front of a live one goes the mark: Passed. At most five moves.
+/// The mark of a class's queue takes one step towards the head (protocol.txt, `lru_crawler crawl`; this project's own
+/// in that a step handles one entry). BadClass where the class is none of the store, from 1 to the last; Idle where the
+/// queue has no mark. A mark at the head is taken out: Ended. Else the entry in front of it is looked at: a dead item
+/// is reclaimed, and crawler_reclaimed raised: Reclaimed; in front of a live one goes the mark: Passed. At most five
+/// moves.
 ///
 /// Err: a growth was refused, and the store is as it was.
 pub fn crawl<A: Allocator + Clone>(

@@ -1,5 +1,5 @@
-//! The crawler (protocol.txt, `lru_crawler crawl`): marks enter queues at their tails and walk to the heads, one entry a
-//! step, and each dead item that they come to is reclaimed.
+//! The crawler (protocol.txt, `lru_crawler crawl`): marks enter queues at their tails and walk to the heads, one entry
+//! a step, and each dead item that they come to is reclaimed.
 #![tactic(auto)]
 
 mod crawling;

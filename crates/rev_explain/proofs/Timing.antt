@@ -461,7 +461,8 @@ no_nodes (x ∷ xs) e = absurd (omega (arith, e))
 pub clock_root : (v : SessionState) (d clock : ℕ) → Clocked v d clock → d ≡ 0 → clock ≡ v.root.globals.clock
 clock_root v d clock w z = w.told ∙ ap (λ s. s.globals.clock) (root_state v.root v.rows w.climb.node (no_nodes (lineage v.rows w.climb.node) (w.climb.deep ∙ z)))
 
--- ---- the way up from any node: at most `left` nodes up from `above`, the later of `clock` and the clock there is that of the node
+-- ---- the way up from any node: at most `left` nodes up from `above`, the later of `clock` and the clock there is that
+-- of the node
 abbrev pub Sought : State → List (Option Row) → ℕ → ℕ → ℕ → ℕ → Type 0
 Sought root rows n clock above left = clock_at root rows n ≡ later clock (at_within left root rows above).globals.clock
 

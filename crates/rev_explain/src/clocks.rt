@@ -69,9 +69,9 @@ fn later(time: u32, other: u32) -> u32
     if time < other { other } else { time }
 }
 
-/// The clock after the step of a node that is held, in seconds, or at the root. It is the latest time that a step on the way
-/// to the node set, or the root's clock: so it takes time in the node's depth, and in the records on the way to the current
-/// node. None is turned, and no memory is taken.
+/// The clock after the step of a node that is held, in seconds, or at the root. It is the latest time that a step on
+/// the way to the node set, or the root's clock: so it takes time in the node's depth, and in the records on the way to
+/// the current node. None is turned, and no memory is taken.
 pub fn clock_at<A: Allocator + Clone>(session: &Session<A>, node: NodeId) -> u32
     ensures { result ≡ clock_of session.now.root session.now.rows node.0 }
 {
@@ -91,9 +91,9 @@ pub fn clock_at<A: Allocator + Clone>(session: &Session<A>, node: NodeId) -> u32
     later(clock, root_clock(session))
 }
 
-/// The last node on the way to the current one, itself and the root included, whose clock is at most `time`, in seconds;
-/// none where the root's is later. The records on the way are read from the current node up to the node that is found;
-/// none is turned, and no memory is taken.
+/// The last node on the way to the current one, itself and the root included, whose clock is at most `time`, in
+/// seconds; none where the root's is later. The records on the way are read from the current node up to the node that
+/// is found; none is turned, and no memory is taken.
 pub fn node_by_time<A: Allocator + Clone>(session: &Session<A>, time: u32) -> Option<NodeId>
     ensures { option_map (λ n. n.0) result ≡ node_by session.now.root session.now.rows session.now.current time }
 {

@@ -66,9 +66,9 @@ fn find_departure<A: Allocator + Clone>(session: &Session<A>, key: &Key<A>) -> W
     Why::Never
 }
 
-/// Why a key is not held at the current node: the node on the way from the root at which it last left the index, and the
-/// cause. A key whose item is dead is held until something unlinks it. Nodes that cannot matter to the key are passed by,
-/// the others are visited at most once; no record is turned, and no memory is taken.
+/// Why a key is not held at the current node: the node on the way from the root at which it last left the index, and
+/// the cause. A key whose item is dead is held until something unlinks it. Nodes that cannot matter to the key are
+/// passed by, the others are visited at most once; no record is turned, and no memory is taken.
 pub fn why<A: Allocator + Clone>(session: &Session<A>, key: &Key<A>) -> Why
     ensures { result ≡ why_of session.now.root session.now.rows session.now.current key.now }
 {

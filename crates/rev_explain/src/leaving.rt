@@ -103,8 +103,8 @@ fn keep<'a, A: Allocator>(departures: &mut Vec<Departure<'a, A>, A>, limit: Opti
 
 /// The keys that left on the way from the root to the current node, the last `limit` of them or all: oldest first, and
 /// within a node in the order in which they left. A key that its own step stored in the place of the old one has not
-/// left. Of each key they are those that its story tells, with their nodes and causes and in the same order: all of them,
-/// or the last where there is a limit. So a key stands at most once a node.
+/// left. Of each key they are those that its story tells, with their nodes and causes and in the same order: all of
+/// them, or the last where there is a limit. So a key stands at most once a node.
 ///
 /// Each record on the way is read once, from the current node up until there are as many as are wanted; none is turned.
 /// The list is the store's allocator's.

@@ -1,6 +1,6 @@
-//! What the record of a step tells of a key: where the key was before the step, from where it is after it.
-//! A record's first undone is the last that is played. So the search goes from the front, and the first undone that concerns
-//! the key decides.
+//! What the record of a step tells of a key: where the key was before the step, from where it is after it. A record's
+//! first undone is the last that is played. So the search goes from the front, and the first undone that concerns the
+//! key decides.
 ghost use Rattle.std.specs.Prelude.{◌≡◌, drop, Some, None};
 ghost use Rattle.rev_model.specs.Chunk.{same_chunk};
 ghost use Rattle.rev_model.specs.Track.{same_key, has_key, is_chunk, keyed, key_change, class_queue_before, key_place_before, chunk_of};
@@ -139,8 +139,8 @@ fn queue_after<A: Allocator>(
     }
 }
 
-/// Whether a chunk's item has the key once the changes from `start` on were played, where `home` is the key's chunk before
-/// them.
+/// Whether a chunk's item has the key once the changes from `start` on were played, where `home` is the key's chunk
+/// before them.
 fn is_keyed<A: Allocator>(
     trace: &RecordRef<A>,
     start: usize,

@@ -37,8 +37,8 @@ pub fn enter<A: Allocator>(chains: &mut Chains<A>, items: &ItemTable<A>, chunk: 
     chains.insert(chunk, RingPlace::End(bucket));
 }
 
-// Enters each chunk of the chains that these ends have over the same links, one bucket after another. It takes no memory:
-// the links lead to the next chunk until it is entered.
+// Enters each chunk of the chains that these ends have over the same links, one bucket after another. It takes no
+// memory: the links lead to the next chunk until it is entered.
 fn enter_all<A: Allocator>(chains: &mut Chains<A>, items: &ItemTable<A>, ends: &[ChainLink])
     requires kept { IsChained chains.old.ends.items chains.old.links items.now }
     requires from { IsChained ends.now chains.old.links items.now }
@@ -114,8 +114,9 @@ fn grow<A: Allocator + Clone>(
 }
 
 /// Gives the chains as many buckets as their keys want, of which `keys` says how many there are, and tells for how many
-/// keys those are enough. The ends that the chains have before they grow are put aside where there are none aside. Where
-/// memory is refused the chains are as they were, which is to be enough until an eighth of the keys has come or gone.
+/// keys those are enough. The ends that the chains have before they grow are put aside where there are none aside.
+/// Where memory is refused the chains are as they were, which is to be enough until an eighth of the keys has come or
+/// gone.
 pub fn fit_buckets<A: Allocator + Clone>(
     chains: &mut Chains<A>,
     items: &ItemTable<A>,

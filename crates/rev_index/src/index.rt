@@ -195,9 +195,9 @@ impl<A: Allocator + Clone> Index<A> {
     }
 
     /// Gives the index four times as many buckets where they hold more than two keys each, on average, and 2^20 are not
-    /// exceeded. Those that it began with are kept aside. Where memory is refused it stays as it is until an eighth of the
-    /// keys has come or gone; a growth that was put off so is made at once, however many times four are wanted by then.
-    /// Nothing that is seen of the index depends on its buckets.
+    /// exceeded. Those that it began with are kept aside. Where memory is refused it stays as it is until an eighth of
+    /// the keys has come or gone; a growth that was put off so is made at once, however many times four are wanted by
+    /// then. Nothing that is seen of the index depends on its buckets.
     pub fn widen(&mut self, alloc: &A)
         ensures { self.new ≡ self.old }
     {

@@ -59,8 +59,8 @@ fn is_crowded(keys: usize, buckets: usize) -> bool
     buckets <= MAX_GROWING && keys > KEYS_PER_BUCKET * buckets
 }
 
-/// How many buckets so many keys want: as many as there are, or `GROWTH` times more until they are enough or there cannot
-/// be more.
+/// How many buckets so many keys want: as many as there are, or `GROWTH` times more until they are enough or there
+/// cannot be more.
 pub fn wanted(keys: usize, buckets: usize) -> usize
     requires some { 0 < buckets }
     requires few { buckets ≤ 2 ^ 20 }

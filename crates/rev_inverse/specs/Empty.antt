@@ -8,8 +8,8 @@ use Rattle.rev_classes.specs.declared.Config.{Config}
 use Rattle.rev_model.specs.State.{State}
 use Rattle.rev_model.specs.declared.Globals.{Globals}
 
--- the clock stands where the configuration says, no cas number is given, no flush and no page move is under way, and the
--- settings are memcached's own first ones but for the bound of TEMP, which the configuration gives
+-- the clock stands where the configuration says, no cas number is given, no flush and no page move is under way, and
+-- the settings are memcached's own first ones but for the bound of TEMP, which the configuration gives
 abbrev pub empty_globals : Config → Globals
 empty_globals c = record {
   clock = c.now;

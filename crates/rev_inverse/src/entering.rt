@@ -47,8 +47,8 @@ impl<A: Allocator> Store<A> {
         under
     }
 
-    // An item leaves its queue, the index and its chunk, which then holds `under`. The answer is what it stood behind, and
-    // the item.
+    // An item leaves its queue, the index and its chunk, which then holds `under`. The answer is what it stood behind,
+    // and the item.
     #[inline(always)]
     pub(crate) fn leave(
         &mut self,

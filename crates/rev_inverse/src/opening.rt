@@ -167,8 +167,8 @@ impl<A: Allocator + Clone> Store<A> {
     }
 
     /// Gives the memory back that more buckets took: the index has those that it began with. `widen` gives it more only
-    /// where an eighth of the keys has come or gone. The answer is whether there were more. It takes no memory. No value
-    /// and no answer of the store depends on how many there are.
+    /// where an eighth of the keys has come or gone. The answer is whether there were more. It takes no memory. No
+    /// value and no answer of the store depends on how many there are.
     pub fn narrow(&mut self) -> bool
         ensures { self.new ≡ self.old }
     {

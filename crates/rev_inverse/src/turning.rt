@@ -14,8 +14,8 @@ use rev_model::{Listed, Placed};
 use std::alloc::Allocator;
 use std::mem::{self, ManuallyDrop};
 
-// The change becomes another. What it was has nothing of its own left, so nothing of it is dropped: to ask which kind it
-// was would cost more than to write the new one.
+// The change becomes another. What it was has nothing of its own left, so nothing of it is dropped: to ask which kind
+// it was would cost more than to write the new one.
 #[inline(always)]
 fn set<A: Allocator>(change: &mut Change<A>, next: Change<A>)
     ensures { change.new ≡ next }
@@ -24,9 +24,9 @@ fn set<A: Allocator>(change: &mut Change<A>, next: Change<A>)
 }
 
 impl<A: Allocator> Store<A> {
-    // An item enters; the change becomes the one by which it leaves. What a change holds is taken out meanwhile, of each kind
-    // by a function of its own: a local that may be of two kinds is copied by single bytes where their fields lie across
-    // one another.
+    // An item enters; the change becomes the one by which it leaves. What a change holds is taken out meanwhile, of
+    // each kind by a function of its own: a local that may be of two kinds is copied by single bytes where their fields
+    // lie across one another.
     #[inline(always)]
     fn enter_in(&mut self, change: &mut Change<A>)
         requires kind { Enters change.old }
@@ -317,9 +317,9 @@ impl<A: Allocator> Store<A> {
         set(change, reverse);
     }
 
-    // Makes a change, which then is the one that undoes it. It is read and written where it stands.
-    // Who makes a change names its kind: inlined there, with all that it calls, one arm of the match is left. An arm that
-    // makes a change anew is a function of its own, since the parts of all arms are cleared where `exchange` begins.
+    // Makes a change, which then is the one that undoes it. It is read and written where it stands. Who makes a change
+    // names its kind: inlined there, with all that it calls, one arm of the match is left. An arm that makes a change
+    // anew is a function of its own, since the parts of all arms are cleared where `exchange` begins.
     #[inline(always)]
     fn turn_change(&mut self, change: &mut Change<A>)
         requires well { WellFormed self.old }
@@ -406,8 +406,9 @@ impl<A: Allocator> Store<A> {
         undo.push(change);
     }
 
-    /// Plays the changes of a record that stand in a list, or the other way round there, from the last to the first, each
-    /// where it stands. The list then holds the reverses, and what was their order is turned over. It takes no memory.
+    /// Plays the changes of a record that stand in a list, or the other way round there, from the last to the first,
+    /// each where it stands. The list then holds the reverses, and what was their order is turned over. It takes no
+    /// memory.
     pub fn turn_changes(&mut self, changes: &mut [Change<A>], is_turned: bool)
         requires well { WellFormed self.old }
         requires fits { Fits (moves_in (in_order is_turned (map plain_change changes.old))) self.old }

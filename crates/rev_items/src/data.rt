@@ -88,8 +88,8 @@ impl<A: Allocator> Data<A> {
     }
 }
 
-/// Keeps data whose bytes are all alike once for all of them: they share a block of the latest such byte, a power of two
-/// long, of which each takes as many bytes as it has. A block before it lives as long as data that lie in it.
+/// Keeps data whose bytes are all alike once for all of them: they share a block of the latest such byte, a power of
+/// two long, of which each takes as many bytes as it has. A block before it lives as long as data that lie in it.
 #[derive(Drop)]
 pub struct Filler<A: Allocator> {
     block: Option<Block<A>>,
@@ -154,9 +154,9 @@ impl<A: Allocator + Clone> Filler<A> {
         Ok(data)
     }
 
-    /// The data of these bytes. Where all of them are alike, they lie in the block that all such data share; where it has
-    /// another byte or is too short, a new block takes its place. Where the memory for it is refused, and for other bytes,
-    /// the data have a block of their own, for which the bytes are not copied.
+    /// The data of these bytes. Where all of them are alike, they lie in the block that all such data share; where it
+    /// has another byte or is too short, a new block takes its place. Where the memory for it is refused, and for other
+    /// bytes, the data have a block of their own, for which the bytes are not copied.
     ///
     /// Err: a growth was refused that the data want for themselves.
     pub fn data(&mut self, bytes: Vec<u8, A>) -> Result<Data<A>, AllocError>

@@ -20,8 +20,8 @@ pub fn hash(bytes: &[u8]) -> u32
     hash
 }
 
-/// In which of `count` buckets a hash is. Where their count is a power of two it takes no division, for which the look-up
-/// would wait.
+/// In which of `count` buckets a hash is. Where their count is a power of two it takes no division, for which the
+/// look-up would wait.
 pub fn bucket(hash: u32, count: usize) -> usize
     requires { 0 < count }
     ensures value { result ≡ hash % count }

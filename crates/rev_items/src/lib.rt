@@ -122,8 +122,8 @@ pub fn is_key(bytes: &[u8]) -> bool
     some && few && clean
 }
 
-/// The bytes that an item takes of its chunk, from its key and from how many bytes its data are (this project's own rule,
-/// in memcached's layout): a header of 56, the key and a byte, four bytes where flags are not 0, the data, CR LF.
+/// The bytes that an item takes of its chunk, from its key and from how many bytes its data are (this project's own
+/// rule, in memcached's layout): a header of 56, the key and a byte, four bytes where flags are not 0, the data, CR LF.
 pub fn footprint<A: Allocator>(key: &Key<A>, flags: u32, data_length: u64) -> u64
     requires { data_length ≤ 2 ^ 32 }
     ensures { result ≡ footprint (length key.now) flags data_length }
@@ -175,7 +175,8 @@ impl<A: Allocator> Key<A> {
         }
     }
 
-    /// The key of these bytes, which are known to be one and are copied. Err: they are many, and their memory was refused.
+    /// The key of these bytes, which are known to be one and are copied. Err: they are many, and their memory was
+    /// refused.
     pub fn of(alloc: A, bytes: &[u8]) -> Result<Key<A>, AllocError>
         requires rule { is_key bytes.now ≡ true }
         ensures ok { IfOk result (λ key. key ≡ bytes.now) }

@@ -1,6 +1,5 @@
--- What a run does that tells its lines as JSON.
--- Rule of this project: it reads, plays and ends as `run` does, and tells each line in a line of JSON. Which text stands
--- for an answer is not said.
+-- What a run does that tells its lines as JSON. Rule of this project: it reads, plays and ends as `run` does, and tells
+-- each line in a line of JSON. Which text stands for an answer is not said.
 use Rattle.std.specs.Prelude.{None}
 use Rattle.rev_script.specs.Source.{Told}
 use Rattle.rev_script.specs.declared.dialect.Dialect.{Dialect}

@@ -85,7 +85,8 @@ fn tell_lines<S: Source, K: Sink>(
 /// that name its command, or null where it is malformed; and `answer`, an object for each line of its answer but the
 /// `END` of a list. It is written once all steps of the line are done. The session keeps all that was played.
 ///
-/// Memory is also taken for each line's JSON. Where there is none, the line's steps are done, and nothing is told of it.
+/// Memory is also taken for each line's JSON. Where there is none, the line's steps are done, and nothing is told of
+/// it.
 pub fn run_as_json<S: Source, K: Sink>(
     alloc: Global,
     session: &mut Session<Global>,

@@ -20,8 +20,8 @@ fn present<T>(value: &mut Option<T>) -> &mut T
     }
 }
 
-/// Cells by page and slot, where nobody counts reads and writes. The table of pages is made once, and a page is there or
-/// away.
+/// Cells by page and slot, where nobody counts reads and writes. The table of pages is made once, and a page is there
+/// or away.
 #[derive(Drop)]
 pub struct Grid<T, A: Allocator> {
     pages: Vec<Option<Vec<T, A>>, A>,

@@ -109,9 +109,9 @@ fn bump_in<A: Allocator>(store: &mut Store<A>, undo: &mut Record<A>) -> Outcome
     }
 }
 
-/// Takes the bump queue's first entry (new_lru.txt; that an entry names a chunk and a cas number is this project's own).
-/// Where its chunk still holds that cas number, in COLD and ACTIVE, the bit is cleared, the item's time is now, and it
-/// goes to WARM's head: Moved. Else Idle, with the item as it was and the entry gone all the same.
+/// Takes the bump queue's first entry (new_lru.txt; that an entry names a chunk and a cas number is this project's
+/// own). Where its chunk still holds that cas number, in COLD and ACTIVE, the bit is cleared, the item's time is now,
+/// and it goes to WARM's head: Moved. Else Idle, with the item as it was and the entry gone all the same.
 ///
 /// Err: a growth was refused, and the store is as it was.
 pub fn bump<A: Allocator + Clone>(store: &mut Store<A>) -> Result<(Outcome, Record<A>), AllocError>

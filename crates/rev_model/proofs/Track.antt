@@ -9,7 +9,8 @@ use Rattle.rev_model.specs.declared.Queue.{Queue}
 use Rattle.rev_model.specs.declared.Cause.{Cause}
 use Rattle.rev_model.specs.Track.{sits_in, same_key, Removal}
 
--- a store between steps: the index has exactly each item's key, and a chunk has an item exactly where it stands in a queue
+-- a store between steps: the index has exactly each item's key, and a chunk has an item exactly where it stands in a
+-- queue
 pub record SoundKeys (s : State) : Type 0 where
   pub well : WellFormed s
   pub indexed : (x : ChunkRef) (i : PlainItem) → item_at s x ≡ Some i → find s i.key ≡ Some x

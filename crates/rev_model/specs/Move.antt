@@ -171,7 +171,8 @@ abbrev pub names_other : ℕ → State → ClassSet → Bool
 names_other zero s set = false
 names_other (suc n) s set = (names s set n && not (is_class s n)) || names_other n s set
 
--- `named` says which classes: a mark enters at the tail of the four queues of each, where p is the place of the first queue
+-- `named` says which classes: a mark enters at the tail of the four queues of each, where p is the place of the first
+-- queue
 abbrev pub marked : (ℕ → Bool) → ℕ → List (List Entry) → List (List Entry)
 marked named p [] = []
 marked named p (l ∷ ls) = cond (named (p / 4)) (l ++ Mark ∷ []) l ∷ marked named (suc p) ls

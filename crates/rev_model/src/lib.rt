@@ -109,8 +109,8 @@ pub struct Timing {
     pub flush: Option<u64>,
 }
 
-/// What stands once in a store: the clock (seconds), the last cas number, the flush limit (items up to it are dead), the
-/// moment of a pending flush, the page move under way and the settings.
+/// What stands once in a store: the clock (seconds), the last cas number, the flush limit (items up to it are dead),
+/// the moment of a pending flush, the page move under way and the settings.
 #[derive(Clone, Copy, Debug, PartialEq, Eq)]
 pub struct Globals {
     pub clock: u32,

@@ -99,9 +99,9 @@ fn slots_of<A: Allocator>(store: &Store<A>, mover: Mover) -> u32
     store.table().per_page(usize::from(mover.src))
 }
 
-/// One step of the page move under way; Idle where there is none. While slots are left it clears one, whose chunk is then
-/// in no list: a free chunk leaves its list (Withdrawn), a dead item leaves (Reclaimed), a live one goes to the first
-/// free chunk of another page, and keeps its place in its queue (Rescued), or leaves where there is no such chunk
+/// One step of the page move under way; Idle where there is none. While slots are left it clears one, whose chunk is
+/// then in no list: a free chunk leaves its list (Withdrawn), a dead item leaves (Reclaimed), a live one goes to the
+/// first free chunk of another page, and keeps its place in its queue (Rescued), or leaves where there is no such chunk
 /// (Evicted). After the last slot the page goes to the class that asked for it, or to the pool (Finished). The counters
 /// reclaimed and evicted are those of the class that the page is taken from. (memcached's slab page mover; the place
 /// kept and the counters are this project's own.)

@@ -126,8 +126,8 @@ fn remove<A: Allocator>(
     raise(store, class, counter, undo);
 }
 
-/// The item of a chunk goes to a free chunk of the class, with its place in the queue; its own chunk is then held by the
-/// step: two moves.
+/// The item of a chunk goes to a free chunk of the class, with its place in the queue; its own chunk is then held by
+/// the step: two moves.
 fn rescue<A: Allocator>(
     store: &mut Store<A>,
     class: usize,

@@ -62,8 +62,8 @@ fn page_moves<A: Allocator>(parts: &Option<Parts<A>>) -> usize
     }
 }
 
-/// The page of a move whose slots are done goes to the class that asked for it, whose free chunks its slots then are, or
-/// to the pool: two moves, or three.
+/// The page of a move whose slots are done goes to the class that asked for it, whose free chunks its slots then are,
+/// or to the pool: two moves, or three.
 fn hand_over<A: Allocator>(
     store: &mut Store<A>,
     mover: Mover,

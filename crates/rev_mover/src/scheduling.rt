@@ -63,10 +63,10 @@ fn first_move<A: Allocator>(
     }
 }
 
-/// Starts to move the lowest page of a class to another, or to the pool (class 0). The answer is the first of these that
-/// holds: Busy, a move is under way; Same, source and target are one; BadClass, one is unknown, or the source is the
-/// pool; NoSpare, the source owns fewer than two pages; else Okay. (protocol.txt, `slabs reassign`; which page moves, and
-/// that the pool is no source, are this project's own.)
+/// Starts to move the lowest page of a class to another, or to the pool (class 0). The answer is the first of these
+/// that holds: Busy, a move is under way; Same, source and target are one; BadClass, one is unknown, or the source is
+/// the pool; NoSpare, the source owns fewer than two pages; else Okay. (protocol.txt, `slabs reassign`; which page
+/// moves, and that the pool is no source, are this project's own.)
 ///
 /// Err: a growth was refused, and the store is as it was.
 pub fn schedule<A: Allocator + Clone>(

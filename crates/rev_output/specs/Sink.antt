@@ -3,8 +3,8 @@
 use Rattle.std.specs.Prelude.{◌≡◌, ℕ, ◌+◌, ◌%◌, Bool, true, false, ◌==◌, ◌&&◌, nat_lt, List, ◌++◌, Option, Result, Ok, Err}
 use Rattle.std.specs.Io.KnownBytes.{Appends}
 
--- what a contract sees of a writer: the bytes that it holds, where they are known, and how many writes and flushes failed,
--- counted modulo 2 ^ 64
+-- what a contract sees of a writer: the bytes that it holds, where they are known, and how many writes and flushes
+-- failed, counted modulo 2 ^ 64
 pub record PlainSink : Type 0 where
   pub contents : Option (List ℕ)
   pub failures : ℕ

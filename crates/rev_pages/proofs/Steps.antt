@@ -1,4 +1,5 @@
--- What the links tell of the free lists, and what taking and putting a chunk makes of them, at the value that callers see.
+-- What the links tell of the free lists, and what taking and putting a chunk makes of them, at the value that callers
+-- see.
 use Rattle.std.proofs.Common.{◌≡◌, ◌≢◌, ℕ, ◌<◌, true, false, Option, Some, None, IsSome, IfSome, List, [], ◌∷◌, length, get_or, slice_get, refl, sym, ◌∙◌, ap, subst, arith, option_map}
 use Rattle.rev_links.specs.declared.places.RingPlace.TheVariants.{End, At}
 use Rattle.rev_links.specs.Rings.{member_of, In, Between, Gap}

@@ -1,4 +1,5 @@
--- What is left after a page's slots, in which no member stands, were exchanged; and the tables of a store without pages.
+-- What is left after a page's slots, in which no member stands, were exchanged; and the tables of a store without
+-- pages.
 use Rattle.std.proofs.Common.{◌≡◌, ◌≢◌, ℕ, suc, zero, ◌+◌, ◌*◌, ◌<◌, ◌≤◌, false, Some, None, List, [], length, get_or, set, slice_get, inl, inr, refl, sym, ◌∙◌, ap, subst, arith, map, option_map, replicate}
 use Rattle.std.proofs.lemmas.Bool.{cases_eq, cases_lt, false≢true}
 use Rattle.std.proofs.lemmas.List.{get_or-set_same, get_or-set_other, same_lists, length-set, length-map, length-replicate, map-set, set_past}

@@ -115,8 +115,8 @@ tally_of slots xs = record { bytes = sum_by (told slots) xs; count = length xs; 
 abbrev pub queue_in : Option Standing → Option QueueId
 queue_in s = option_map (λ t. t.queue) s
 
--- every queue runs through the slots in both directions, no queue has another's mark, each chunk's slot names its queue,
--- and each tally counts its queue
+-- every queue runs through the slots in both directions, no queue has another's mark, each chunk's slot names its
+-- queue, and each tally counts its queue
 pub record IsLinked (ends marks : List PositionLink) (slots : List (List QueueSlot)) (tallies : List Tally) : Type 0 where
   pub ring : (q : QueueId) → q.number < length ends → Path (next_in ends marks slots) (previous_in ends marks slots) (End q) (chain ends marks slots q) (End q)
   pub home : (q r : QueueId) → q.number < length ends → In (Mark r) (chain ends marks slots q) → r ≡ q

@@ -155,7 +155,8 @@ agrees-at : (log : List LogRow) (session : SessionState) (hands : List PlainHand
 agrees-at log session hands agree k hand found =
     subst (Agrees log session) (get_or_from_slice_get hands k hand hand found) (agree k hand (slice_get_within hands k hand found))
 
--- where every hand agrees, each row's player has a hand, and no second one has entries, the log is as long as the entries
+-- where every hand agrees, each row's player has a hand, and no second one has entries, the log is as long as the
+-- entries
 pub one-each : (hands : List PlainHand) (log : List LogRow) (session : SessionState) → All (Agrees log session) hands → HasPlayers hands log → HasOneEach hands
     → length log ≡ sum_by (λ (hand : PlainHand). length hand.entries) hands
 one-each hands log session agree has one =

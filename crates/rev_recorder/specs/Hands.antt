@@ -50,8 +50,8 @@ calls_of player log = calls_from player 0 log
 abbrev pub told : PlainEntry → ℕ × Call
 told entry = (entry.receipt.place, entry.receipt.call)
 
--- what an entry says of its call is true: for a play, the node's row has the step that was handed in, and the outcome is
--- what that step gives at the state of the node's parent; for any other call the outcome is Okay
+-- what an entry says of its call is true: for a play, the node's row has the step that was handed in, and the outcome
+-- is what that step gives at the state of the node's parent; for any other call the outcome is Okay
 abbrev pub IsTrueOf : SessionState → Call → Option Step → Outcome → Type 0
 IsTrueOf session (Play n) copy outcome =
     (row : Row) × (row_of session.rows n.0 ≡ Some row) × (copy ≡ Some row.step) × (outcome ≡ outcome_of (at session.root session.rows row.parent) row.step)

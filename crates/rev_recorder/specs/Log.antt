@@ -14,9 +14,9 @@ pub record Opening : Type 0 where
   pub count : ℕ
   pub node : ℕ
 
--- the call may stand where the first count of the rows were played and node is the current one: a play makes the node of
--- the next number, below the current one; a go leads to a node that was held; and a refused call stands only where the
--- tree refuses it
+-- the call may stand where the first count of the rows were played and node is the current one: a play makes the node
+-- of the next number, below the current one; a go leads to a node that was held; and a refused call stands only where
+-- the tree refuses it
 abbrev pub MayStand : List (Option Row) → ℕ → ℕ → Call → Type 0
 MayStand rows count node (Play n) = (n.0 ≡ count + 1) × (parent_of rows n.0 ≡ Some node)
 MayStand rows count node (Go n) = is_held (take count rows) n.0 ≡ true

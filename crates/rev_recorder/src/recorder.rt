@@ -57,8 +57,8 @@ impl Model for Recorder {
 }
 
 impl Recorder {
-    /// A recorder of a session, and a hand for each of its players, in order. Give each recorder a seal of its own: by it
-    /// a recorder knows its hands. The log begins where the session stands.
+    /// A recorder of a session, and a hand for each of its players, in order. Give each recorder a seal of its own: by
+    /// it a recorder knows its hands. The log begins where the session stands.
     ///
     /// Err: a growth was refused, and the session is handed back.
     pub fn open(
@@ -135,8 +135,8 @@ impl Recorder {
 
     /// Goes to a node that is held, or to the root, for a hand, and waits for the lock. The hand keeps the receipt.
     ///
-    /// Err: StrangerHand goes first, then Memory where the hand or the log cannot grow, then NoNode, which is logged and
-    /// enters the hand; the session is as before.
+    /// Err: StrangerHand goes first, then Memory where the hand or the log cannot grow, then NoNode, which is logged
+    /// and enters the hand; the session is as before.
     pub fn go<R: Wait>(&self, rt: &R, hand: &mut Hand, node: NodeId) -> Result<Receipt, RecordFault>
         ensures ok { IfOk result (λ r. (r.call ≡ Go node) × (r.outcome ≡ Okay) × (hand.new ≡ with_entry hand.old r None)) }
         ensures err { IfErr result (λ e. LeftByGo hand.old node e hand.new) }

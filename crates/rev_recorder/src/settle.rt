@@ -41,9 +41,9 @@ pub enum SettleFault {
 }
 
 impl Recorder {
-    /// Ends the recording, and compares the hands with the log: each hand must have been told just the calls of its player,
-    /// in order, with the node's own step and outcome for a play, and each row of the log must be one entry of one hand.
-    /// It waits for no lock.
+    /// Ends the recording, and compares the hands with the log: each hand must have been told just the calls of its
+    /// player, in order, with the node's own step and outcome for a play, and each row of the log must be one entry of
+    /// one hand. It waits for no lock.
     ///
     /// Err: MissingHand goes before StrangerHand, and that before Differs.
     pub fn settle(self, hands: Vec<Hand>) -> Result<Settled, SettleFault>

@@ -11,8 +11,8 @@ use rev_items::Key;
 use rev_model::Outcome;
 use std::alloc::{AllocError, Allocator};
 
-/// The key under which a step may store an item: that of `set`, `add`, `replace`, `cas`, `append`, `prepend`, `incr` and
-/// `decr`.
+/// The key under which a step may store an item: that of `set`, `add`, `replace`, `cas`, `append`, `prepend`, `incr`
+/// and `decr`.
 #[inline(always)]
 fn key_to_store<A: Allocator>(step: &Step<A>) -> Option<&Key<A>>
     ensures { option_copied result ≡ key_to_store (plain_step step.now) }

@@ -101,7 +101,8 @@ delete_command ws =
     else Bad BadFormat)
     else Bad DeleteUsage)
 
--- ---- touch <key> <exptime> [noreply]; incr, decr <key> <number> [noreply]: a bad number beside a good key has a text of its own
+-- ---- touch <key> <exptime> [noreply]; incr, decr <key> <number> [noreply]: a bad number beside a good key has a text
+-- of its own
 
 abbrev pub touch_of : Option ℤ → Bool → Command
 touch_of None noreply = Bad BadExptime
@@ -311,7 +312,8 @@ debug_command ws =
     else (if (length ws == 4) && bytes_eq (word ws 0) (codes ":queue") then queue_limited ws (number_u32 (word ws 3))
     else Bad BadCommand)))
 
--- ---- all of them: by the first word's first byte, where it is one that no command of a client has (58 is `:`, 64 is `@`, 126 is `~`), and else by that word
+-- ---- all of them: by the first word's first byte, where it is one that no command of a client has (58 is `:`, 64 is
+-- `@`, 126 is `~`), and else by that word
 
 abbrev pub begins : ℕ → List ℕ → Bool
 begins b [] = false

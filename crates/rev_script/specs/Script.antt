@@ -165,7 +165,8 @@ whole_lines d bytes = count_by (λ c. c.whole) (cuts d bytes)
 
 -- ---- the next line
 
--- the bytes are this line, whole, whatever follows them; before and behind it the rest of a line may have to be passed over
+-- the bytes are this line, whole, whatever follows them; before and behind it the rest of a line may have to be passed
+-- over
 pub record IsWhole (d : Dialect) (before after : Bool) (taken : List ℕ) (line : ScriptLine) : Type 0 where
   pub cut : (more : List ℕ) → cuts d (onwards before (taken ++ more)) ≡ record { line = line; whole = true } ∷ cuts d (onwards after more)
 

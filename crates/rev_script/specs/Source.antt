@@ -25,7 +25,8 @@ told_of bytes last failures = record { remaining = left_of last bytes; last = la
 abbrev pub told_by : Told → ℕ → Told
 told_by t name = record { remaining = t.remaining; last = t.last; failures = t.failures; identity = name }
 
--- what a read did, by its answer and the room in its buffer: after the end, the end; none where there was room is the end
+-- what a read did, by its answer and the room in its buffer: after the end, the end; none where there was room is the
+-- end
 abbrev pub last_of : {E : Type 0} → LastRead → Result ℕ E → ℕ → LastRead
 last_of Ended result room = Ended
 last_of Gave (Ok n) room = if (n == 0) && nat_lt 0 room then Ended else Gave

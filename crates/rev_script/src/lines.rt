@@ -65,8 +65,8 @@ fn retrieval_keys<A: Allocator + Clone>(
     keys_of(alloc, behind_first(words))
 }
 
-// A retrieval line. (Like the other kinds of lines with parts of their own it is made in a function of its own: a line is large,
-// and where all kinds were made in one place, each cleared what only the others have.)
+// A retrieval line. (Like the other kinds of lines with parts of their own it is made in a function of its own: a line
+// is large, and where all kinds were made in one place, each cleared what only the others have.)
 #[inline(always)]
 fn retrieval_line<A: Allocator + Clone>(
     alloc: A,
@@ -327,7 +327,8 @@ fn copied_line<S: Source, A: Allocator + Clone>(
     }
 }
 
-// Takes a line whose LF stands at this place of the bytes at the front, and its data block: a line of any number of words.
+// Takes a line whose LF stands at this place of the bytes at the front, and its data block: a line of any number of
+// words.
 fn many_at_hand<S: Source, A: Allocator + Clone>(
     input: &mut Input<S, A>,
     text: &Vec<u8, A>,
@@ -362,8 +363,8 @@ fn many_at_hand<S: Source, A: Allocator + Clone>(
     }
 }
 
-// Takes a line whose LF stands at this place of the bytes at the front, and its data block. A line of few words is looked at
-// where it lies.
+// Takes a line whose LF stands at this place of the bytes at the front, and its data block. A line of few words is
+// looked at where it lies.
 fn line_at_hand<S: Source, A: Allocator + Clone>(
     input: &mut Input<S, A>,
     text: &Vec<u8, A>,
@@ -402,7 +403,8 @@ fn line_at_hand<S: Source, A: Allocator + Clone>(
             };
             storage_line(input, other, command, key, flags, exptime, size, noreply)
         }
-        // (the two kinds that most lines are have ways out of their own, where nothing of another kind is cleared or copied)
+        // (the two kinds that most lines are have ways out of their own, where nothing of another kind is cleared or
+        // copied)
         Command::Retrieval { with_cas } => {
             let keys = retrieval_keys(alloc, parts);
             input.bytes.pass(i + 1);
@@ -430,7 +432,8 @@ fn line_at_hand<S: Source, A: Allocator + Clone>(
     }
 }
 
-// Reads a line that begins at the next byte, through its data block. One that was read whole, as most are, is not copied.
+// Reads a line that begins at the next byte, through its data block. One that was read whole, as most are, is not
+// copied.
 #[inline(always)]
 fn line_here<S: Source, A: Allocator + Clone>(
     input: &mut Input<S, A>,
@@ -537,8 +540,8 @@ impl<S: Source, A: Allocator + Clone> Lines<S, A> {
 
     /// The next line; none only at the end. After a fault each call answers it again, and nothing is read.
     ///
-    /// No byte is waited for behind those that tell the line: the rest of a line that a bad data block is followed by is
-    /// passed over by the next call.
+    /// No byte is waited for behind those that tell the line: the rest of a line that a bad data block is followed by
+    /// is passed over by the next call.
     pub fn next(&mut self) -> Result<Option<Line<A>>, LineFault>
         ensures ok { IfOk result (λ line. IsNext self.old.input self.new.input (option_map view line)) }
         ensures err { self.old.fault ≡ None → IfErr result (λ e. IsFault self.old.input self.new.input e) }

@@ -11,7 +11,8 @@ use crate::mask::{MASK_BYTES, first_place, space_mask, without};
 use arrayvec::ArrayVec;
 use std::alloc::{AllocError, Allocator};
 
-/// For how many words a list has room at first (this project's own figure): a line that stores an item has at most seven.
+/// For how many words a list has room at first (this project's own figure): a line that stores an item has at most
+/// seven.
 const USUAL_WORDS: usize = 8;
 
 /// The words of a text, parted by runs of spaces. Only the list takes memory.
@@ -23,8 +24,8 @@ pub fn words<A: Allocator>(alloc: A, text: &[u8]) -> Result<Vec<&[u8], A>, Alloc
     Ok(words)
 }
 
-/// Puts the words of a text into an empty list that has room for eight of them, and takes no memory. At `false` they are not
-/// all there. That this is so only where the text has more than eight is speed, and not promised.
+/// Puts the words of a text into an empty list that has room for eight of them, and takes no memory. At `false` they
+/// are not all there. That this is so only where the text has more than eight is speed, and not promised.
 pub fn few_words<'a>(few: &mut ArrayVec<&'a [u8], USUAL_WORDS>, text: &'a [u8]) -> bool
     requires { few.old.items ≡ [] }
     ensures { IsTrue result → map (λ x. x.now) few.new.items ≡ words text.now }
@@ -72,8 +73,8 @@ fn few_words_by<'a>(few: &mut ArrayVec<&'a [u8], USUAL_WORDS>, text: &'a [u8], m
     }
 }
 
-/// The same as `few_words`, for a text that more bytes may stand behind: where there are enough of them, its spaces are told
-/// all at once.
+/// The same as `few_words`, for a text that more bytes may stand behind: where there are enough of them, its spaces are
+/// told all at once.
 #[inline(always)]
 pub fn few_words_in<'a>(
     few: &mut ArrayVec<&'a [u8], USUAL_WORDS>,
@@ -100,7 +101,8 @@ pub fn word<'a>(words: &[&'a [u8]], i: usize) -> &'a [u8]
     }
 }
 
-/// Whether a word is this one. Two words differ in their first bytes as a rule, and no other is read then (speed, and not promised).
+/// Whether a word is this one. Two words differ in their first bytes as a rule, and no other is read then (speed, and
+/// not promised).
 #[inline(always)]
 pub fn is_word(w: &[u8], name: &[u8]) -> bool
     ensures { result ≡ bytes_eq w.now name.now }

@@ -1,6 +1,5 @@
--- What a trace leaves that is played in a tree that is kept.
--- Rule of this project: each step of a trace is a node, as each step of a run is, and the first step that a limit of the
--- tree refuses ends it.
+-- What a trace leaves that is played in a tree that is kept. Rule of this project: each step of a trace is a node, as
+-- each step of a run is, and the first step that a limit of the tree refuses ends it.
 use Rattle.std.specs.Prelude.{◌≡◌, ◌≢◌, ◌+◌, ◌⊎◌, ℕ, List, [], ◌∷◌, ◌++◌, take, None, Some, slice_get}
 use Rattle.std.specs.Io.KnownBytes.{Consumes}
 use Rattle.rev_model.specs.Actor.{Step}
@@ -56,7 +55,8 @@ pub record IsFilled (number : ℕ) (d : Dialect) (old new : Told) (m t : Session
   pub took : Consumes old.remaining new.remaining read
   pub full : IsFull number (lines d read) m t
 
--- how a trace went: all was read, each line makes steps, and all of them are played; or up to a line of which a step does not fit
+-- how a trace went: all was read, each line makes steps, and all of them are played; or up to a line of which a step
+-- does not fit
 abbrev pub IsTraced : TraceEnd → Dialect → Told → Told → SessionState → SessionState → Type 0
 IsTraced Whole d old new m t = IsThrough d old new (λ steps. Plays m steps t)
 IsTraced (Full line) d old new m t = IsFilled line d old new m t

@@ -50,8 +50,8 @@ end_text Hidden = []
 
 -- ---- answers
 
--- what is written of the lines, from a session on: where prompts are shown one before each line, and one behind the last; and
--- each line's answer
+-- what is written of the lines, from a session on: where prompts are shown one before each line, and one behind the
+-- last; and each line's answer
 abbrev pub answers : Prompts → BookmarkedSession → List ScriptLine → List ℕ
 answers p m [] = prompt_text p m.session.current
 answers p m (l ∷ ls) = prompt_text p m.session.current ++ (answer m l ++ answers p (after m l) ls)
@@ -123,14 +123,16 @@ Wrote Read d p m read old new = Appends old new (text d p m read (whole_lines d 
 Wrote TooLong d p m read old new = Appends old new (text d p m read (whole_lines d (take 4294967296 read)))
 Wrote Write d p m read old new = WroteFront old new (out d p m read)
 
--- why a run stopped: one of its reads failed, the last; more bytes were read than may be; one of its writes failed, the last
+-- why a run stopped: one of its reads failed, the last; more bytes were read than may be; one of its writes failed, the
+-- last
 abbrev pub Because : RunFault → List ℕ → Told → Told → PlainSink → PlainSink → Type 0
 Because (Memory line) read reader_old reader_new old new = Unit {0}
 Because Read read reader_old reader_new old new = (reader_new.last ≡ Failed) × (reader_new.failures ≡ one_more reader_old.failures)
 Because TooLong read reader_old reader_new old new = 4294967296 < length read
 Because Write read reader_old reader_new old new = new.failures ≡ sink.one_more old.failures
 
--- at the end: all was read (the last read, with room, gave none), and the answers of all its lines were written; nothing failed
+-- at the end: all was read (the last read, with room, gave none), and the answers of all its lines were written;
+-- nothing failed
 pub record IsDone (d : Dialect) (p : Prompts) (reader_old reader_new : Told) (old new : PlainSink) (start : BookmarkedSession) (sum : Summary) : Type 0 where
   pub read : List ℕ
   pub took : Consumes reader_old.remaining reader_new.remaining read

@@ -11,7 +11,8 @@ use Rattle.rev_script.specs.declared.source.LastRead.TheVariants.{Failed, Ended}
 use Rattle.rev_shell.specs.declared.quiet.TraceFault.{TraceFault}
 use Rattle.rev_shell.specs.declared.quiet.TraceFault.TheVariants.{NotAStep, Memory, Read, TooLong}
 
--- all was read (the last read, with room, gave none, and none failed), each line makes steps, and this is so of all of them
+-- all was read (the last read, with room, gave none, and none failed), each line makes steps, and this is so of all of
+-- them
 pub record IsThrough (d : Dialect) (old new : Told) (P : List Step → Type 0) : Type 0 where
   pub read : List ℕ
   pub took : Consumes old.remaining new.remaining read
@@ -28,9 +29,9 @@ pub record StepsBefore (d : Dialect) (read rest : List ℕ) : Type 0 where
   pub read_is : read ≡ front ++ rest
   pub steps : AreSteps (lines d front)
 
--- why the bytes read did not all become steps: the first line that makes none; or one read failed, the last, and all lines
--- that lie whole in the bytes make steps; or a line with its data is longer than a script may be, or more lines were read
--- than can be counted
+-- why the bytes read did not all become steps: the first line that makes none; or one read failed, the last, and all
+-- lines that lie whole in the bytes make steps; or a line with its data is longer than a script may be, or more lines
+-- were read than can be counted
 abbrev pub Because : TraceFault → Dialect → List ℕ → Told → Told → Type 0
 Because (NotAStep line) d read old new = IsFirstOther line (lines d read)
 Because Memory d read old new = Unit {0}

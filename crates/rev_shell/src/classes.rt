@@ -149,8 +149,9 @@ fn put_class<A: Allocator + Clone>(
     out.extend_from_slice(b"\r\n")
 }
 
-/// Writes a line for each class that owns pages, and `END`: the size of its chunks in bytes, its pages, its free chunks, and
-/// of each queue how many items it has and their bytes. It takes time in the number of pages, of free chunks and of items.
+/// Writes a line for each class that owns pages, and `END`: the size of its chunks in bytes, its pages, its free
+/// chunks, and of each queue how many items it has and their bytes. It takes time in the number of pages, of free
+/// chunks and of items.
 pub fn put_classes<A: Allocator + Clone>(
     store: &Store<A>,
     out: &mut Vec<u8, A>,

@@ -364,7 +364,8 @@ fn is_known(topics: &[Topic], word: &[u8]) -> bool
     topics.iter().any(|topic| topic.word.as_bytes() == word)
 }
 
-/// Writes all there is to say of the command of this word, each form of it, and `END`; or `NOHELP`, where there is none.
+/// Writes all there is to say of the command of this word, each form of it, and `END`; or `NOHELP`, where there is
+/// none.
 pub fn put_help_on<A: Allocator>(out: &mut Vec<u8, A>, word: &[u8]) -> Result<(), AllocError>
     ensures { OnOk result (out.new.items ≡ out.old.items ++ help_on_text word.now) }
 {

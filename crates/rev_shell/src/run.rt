@@ -155,8 +155,8 @@ fn put_prompt<A: Allocator>(
     }
 }
 
-/// Does what a line asks for; the answer, and the prompt for the next line, are then in `text` and nothing else. Answers
-/// whether the tree refused a step of the line. At an error the text is of no use.
+/// Does what a line asks for; the answer, and the prompt for the next line, are then in `text` and nothing else.
+/// Answers whether the tree refused a step of the line. At an error the text is of no use.
 #[inline(always)]
 pub fn answer_line<A: Allocator + Clone>(
     prompts: Prompts,
@@ -304,9 +304,9 @@ pub fn open_session<A: Allocator + Clone>(alloc: &A, config: &Config) -> Option<
     }
 }
 
-/// Runs the script that the reader gives, in a dialect, on a session, with no bookmark at first, and writes its answers,
-/// with a prompt before each line where these are shown. The answer of a line is written once all its steps are done. The
-/// session keeps all that was played.
+/// Runs the script that the reader gives, in a dialect, on a session, with no bookmark at first, and writes its
+/// answers, with a prompt before each line where these are shown. The answer of a line is written once all its steps
+/// are done. The session keeps all that was played.
 pub fn run_session<S: Source, K: Sink, A: Allocator + Clone>(
     alloc: &A,
     session: &mut Session<A>,
@@ -369,8 +369,8 @@ pub fn run_at_last<S: Source, K: Sink, A: Allocator + Clone>(
     }
 }
 
-/// Runs the script that the reader gives, in a dialect, on an empty store, and writes its answers, as `run_session` does
-/// without prompts.
+/// Runs the script that the reader gives, in a dialect, on an empty store, and writes its answers, as `run_session`
+/// does without prompts.
 pub fn run<S: Source, K: Sink, A: Allocator + Clone>(
     alloc: &A,
     config: &Config,

@@ -20,8 +20,8 @@ use rev_steps::Step;
 use rev_undotree::Session;
 use std::alloc::{AllocError, Allocator};
 
-/// So many nodes of a start stand in the tree at most, before all are let go. (It is at most as many as forks may nest: so
-/// no step is refused.)
+/// So many nodes of a start stand in the tree at most, before all are let go. (It is at most as many as forks may nest:
+/// so no step is refused.)
 const MOST_NODES: u32 = 64;
 
 // Lets the tree go where it has so many nodes.
@@ -115,9 +115,9 @@ fn play_lines<S: Source, A: Allocator + Clone>(
 }
 
 /// Plays the steps of the script that the reader gives, in a dialect, where the session stands. Its tree is let go: the
-/// root is then the state that the steps leave, and no node, step or record of them is kept, so that the memory that this
-/// takes beside the store's own does not grow with the script. The first line that makes no step ends it, and so do a read
-/// that fails and a want of memory.
+/// root is then the state that the steps leave, and no node, step or record of them is kept, so that the memory that
+/// this takes beside the store's own does not grow with the script. The first line that makes no step ends it, and so
+/// do a read that fails and a want of memory.
 pub fn play_start<S: Source, A: Allocator + Clone>(
     alloc: &A,
     session: &mut Session<A>,

@@ -48,8 +48,8 @@ fn play_step<A: Allocator + Clone>(
     }
 }
 
-// Plays a get for each of the keys in order, and ends at one that the tree has no room for. The answer is whether it had
-// room for all.
+// Plays a get for each of the keys in order, and ends at one that the tree has no room for. The answer is whether it
+// had room for all.
 fn play_gets<A: Allocator + Clone>(
     session: &mut Session<A>,
     keys: Vec<Key<A>, A>,

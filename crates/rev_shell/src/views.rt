@@ -31,8 +31,8 @@ fn put_departure<A: Allocator, B: Allocator>(
     put_output(out, cause_word(departure.cause))
 }
 
-/// Writes a line for each key that left on the way from the root to the current node, the last `limit` of them or all, and
-/// `END`.
+/// Writes a line for each key that left on the way from the root to the current node, the last `limit` of them or all,
+/// and `END`.
 pub fn put_gone<A: Allocator + Clone>(
     session: &Session<A>,
     limit: Option<u32>,

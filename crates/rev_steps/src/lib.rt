@@ -28,8 +28,8 @@ pub use rev_requests::{
 use settings::{retune, set_temp_ttl};
 use std::alloc::{AllocError, Allocator};
 
-/// Does a step: it gives the outcome, and the record of at most 64 moves by which `Store::turn` leads back. The record has
-/// room for every move that the step might have made: who keeps it moves it to others (`rev_undotree` does).
+/// Does a step: it gives the outcome, and the record of at most 64 moves by which `Store::turn` leads back. The record
+/// has room for every move that the step might have made: who keeps it moves it to others (`rev_undotree` does).
 ///
 /// Err: a growth was refused, and the store is as it was.
 pub fn apply<A: Allocator + Clone>(

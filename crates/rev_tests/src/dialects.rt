@@ -1,5 +1,5 @@
-//! Data blocks in each dialect of the reader, worked by hand: what is answered while the next byte is waited for, and what
-//! where the input ends, after every byte.
+//! Data blocks in each dialect of the reader, worked by hand: what is answered while the next byte is waited for, and
+//! what where the input ends, after every byte.
 use crate::classes::DEFAULTS;
 use crate::scripts::{put, run_in};
 use crate::streams::Stutter;

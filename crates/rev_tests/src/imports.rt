@@ -1,5 +1,5 @@
-//! Logs of a cache, taken in and made into scripts, where a read is interrupted, or a write or a file's call fails. What
-//! becomes of other logs, and of traces, stands in `worked/imports`.
+//! Logs of a cache, taken in and made into scripts, where a read is interrupted, or a write or a file's call fails.
+//! What becomes of other logs, and of traces, stands in `worked/imports`.
 mod disk;
 mod files;
 

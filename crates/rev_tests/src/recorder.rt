@@ -1,4 +1,5 @@
-//! Recordings: several hands on one session, one after another and side by side, each refusal, and what a recording keeps.
+//! Recordings: several hands on one session, one after another and side by side, each refusal, and what a recording
+//! keeps.
 
 mod gates;
 mod hands;

@@ -1,5 +1,5 @@
-//! A script cut after every byte, from one piece and from a reader that is interrupted at each byte, and what a run tells
-//! of itself. Worked scripts of every step stand apart, and are run on the program.
+//! A script cut after every byte, from one piece and from a reader that is interrupted at each byte, and what a run
+//! tells of itself. Worked scripts of every step stand apart, and are run on the program.
 use crate::classes::DEFAULTS;
 use crate::streams::{Narrow, Stutter};
 use rev_classes::{Config, fault_of};

@@ -12,8 +12,8 @@ struct Case {
 
 const NONE: Tally = Tally { count: 0, first: 0 };
 
-// Nothing, a line without its ending, endings with LF alone, a data block that the input's end cuts, and one without its
-// ending with what follows.
+// Nothing, a line without its ending, endings with LF alone, a data block that the input's end cuts, and one without
+// its ending with what follows.
 static CASES: [Case; 5] = [
     Case {
         script: b"",

@@ -1,4 +1,5 @@
-//! A long path, and then questions about keys on it, each behind one more play: so no question is asked twice of one path.
+//! A long path, and then questions about keys on it, each behind one more play: so no question is asked twice of one
+//! path.
 
 use crate::draft::Draft;
 use crate::jobs::traffic::Traffic;

@@ -1,5 +1,6 @@
-//! A full cache: most sets evict, and the maintainer, the crawler and the page mover work in between. In a rush there are more sets
-//! than the maintainer moves items to COLD, so that COLD is empty; then comes a calm, in which it catches up.
+//! A full cache: most sets evict, and the maintainer, the crawler and the page mover work in between. In a rush there
+//! are more sets than the maintainer moves items to COLD, so that COLD is empty; then comes a calm, in which it catches
+//! up.
 
 use crate::draft::{Draft, Reply, Storage};
 use std::alloc::AllocError;

@@ -123,7 +123,8 @@ const FEW: usize = 65536;
 // More steps than it has memory for.
 const MANY: u32 = 100000;
 
-// At the end of its heap a session refuses each play, tells what it told before, and moves through its tree all the same.
+// At the end of its heap a session refuses each play, tells what it told before, and moves through its tree all the
+// same.
 #[test]
 fn end_of_heap(rt: HostRuntime) {
     let heap = LocalHeap::new(rt.alloc(), FEW).expect(&rt, "no memory");

@@ -35,8 +35,8 @@ pub fn fill<'a, R: Abort>(rt: &R, alloc: Global, heap: &'a LocalHeap, left: usiz
 
 /// What is tried on a heap of which fewer bytes are left than it may want.
 pub trait Trial {
-    /// Tries it on a heap of its own with so many bytes left, looks at what it leaves, and tells whether there was memory
-    /// for it.
+    /// Tries it on a heap of its own with so many bytes left, looks at what it leaves, and tells whether there was
+    /// memory for it.
     fn attempt<R: Abort>(&self, rt: &R, alloc: Global, heap: &LocalHeap, left: usize) -> bool;
 }
 
@@ -45,8 +45,8 @@ fn attempt_anew<R: Abort, T: Trial>(rt: &R, alloc: Global, trial: &T, left: usiz
     trial.attempt(rt, alloc, &heap, left)
 }
 
-/// Tries what has this name with no byte left, and then with more and more, up to where there is memory for it. Some attempt
-/// must have been refused.
+/// Tries what has this name with no byte left, and then with more and more, up to where there is memory for it. Some
+/// attempt must have been refused.
 pub fn refuse_in_turn<R: Abort, T: Trial>(rt: &R, alloc: Global, name: &str, trial: &T) {
     for units in 0..BYTES / UNIT {
         if attempt_anew(rt, alloc, trial, units * UNIT) {

@@ -86,7 +86,8 @@ fn parts(rt: HostRuntime) {
 #[derive(Clone, Copy)]
 struct Text(&'static str);
 
-// Lines whose reading takes memory: for its words, for its key and its data. A line that was read whole takes none of its own.
+// Lines whose reading takes memory: for its words, for its key and its data. A line that was read whole takes none of
+// its own.
 static LINES: [Text; 4] = [
     Text("set a 0 0 5\r\nabcde\r\n"),
     Text("get a b c d e f g h\r\n"),

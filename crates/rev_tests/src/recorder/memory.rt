@@ -1,6 +1,6 @@
 //! A request for memory that is refused: `tools/refusals` runs these tests with so little memory that each request of
-//! `open`, `go`, `play` and `run_actors` is refused in turn. What was refused is looked at, a ballast is given back, and the
-//! same call goes well. With memory enough no request is refused, and a recording is seen to its end.
+//! `open`, `go`, `play` and `run_actors` is refused in turn. What was refused is looked at, a ballast is given back,
+//! and the same call goes well. With memory enough no request is refused, and a recording is seen to its end.
 ghost use Rattle.std.specs.Prelude.{◌≤◌};
 
 use crate::recorder::gates::Open;
@@ -122,7 +122,8 @@ fn three_sets<R: Abort>(rt: &R, alloc: Global) -> Vec<Step<Global>> {
     steps
 }
 
-// Goes to the root before each of the steps and after them, and plays them, each call again where it was refused memory.
+// Goes to the root before each of the steps and after them, and plays them, each call again where it was refused
+// memory.
 fn call_again<R: Wait + Abort>(
     rt: &R,
     alloc: Global,

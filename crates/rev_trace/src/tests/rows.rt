@@ -6,7 +6,8 @@ use crate::row::{Operation, Row};
 use std::alloc::Global;
 use std::process::Abort;
 
-// Two of three rows are as they are published; the second has a key that is shorter than it was, and a CR in front of LF.
+// Two of three rows are as they are published; the second has a key that is shorter than it was, and a CR in front of
+// LF.
 const TRACE: &[u8] =
     b"0,q:q:1:8WTfjZU14ee,17,213,4,get,0\n7,a\"b,5,0,1,cas,3600\r\n\n8,k,1,4294967295,1,touch,0";
 
