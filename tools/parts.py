@@ -3,8 +3,8 @@
 Functions that are the same but for their names are made one first: what a generic function is for one type is often
 what it is for another. What only the reading of the command line uses is cold: it stands in a part of its own, which is
 compiled at once, with no optimization. The rest is for speed. A function on which much hangs, such as what one word of
-the command line does, stands in one part, and other parts call it there; so does one that is too large to be inlined
-where it is called. Whatever else a part uses it holds itself, so it is optimized as in the whole module.
+the command line does, stands in one part, and other parts call it there. Whatever else a part uses it holds itself, so
+it is optimized as in the whole module.
 
 What it knows of the text: a function's `define` ends with a line `}`, all else is a line; a name begins with `@`, and a
 function's begins with its crate's; what is called stands before a `(`; what no other module sees is `internal` or
@@ -25,8 +25,6 @@ COLD = {"clap", "rev_options", "strsim"}
 LEAST = 0.012
 # Where more than this is reached by way of a function, it is cut further.
 MOST = 0.5
-# A function of so many lines, or more, is hardly inlined where it is called from several places.
-LARGE = 200
 
 
 class Part(collections.namedtuple("Part", "text is_cold")):
@@ -163,10 +161,7 @@ class Module:
         for name in order[:-1]:
             held[above[name]] += held[name]
         least, most = LEAST * held["@main"], MOST * held["@main"]
-        much = {it for it in order if least <= held[it] <= most < held[above[it]]}
-        users = collections.Counter(it for name in order for it in self.used[name])
-        large = {it for it in order if users[it] > 1 and self.lines[it] >= LARGE}
-        return {it for it in much | large if self.defined[it].is_function}
+        return {it for it in order if self.defined[it].is_function and least <= held[it] <= most < held[above[it]]}
 
     def cut(self, count):
         """What is cold, what each of so many parts holds that are for speed, and the functions that stand apart."""
