@@ -1,52 +1,113 @@
 """Cuts a module, in LLVM's text, into parts that are compiled side by side, for tools/quick.
 
-A function on which much hangs, such as what one word of the command line does, stands in one part, and other parts call
-it there. Whatever else a part uses it holds itself, so it is optimized as in the whole module.
+Functions that are the same but for their names are made one first: what a generic function is for one type is often
+what it is for another. What only the reading of the command line uses is cold: it stands in a part of its own, which is
+compiled at once, with no optimization. The rest is for speed. A function on which much hangs, such as what one word of
+the command line does, stands in one part, and other parts call it there. Whatever else a part uses it holds itself, so
+it is optimized as in the whole module.
 
-What it knows of the text: a function's `define` ends with a line `}`, all else is a line; a name begins with `@`; what
-no other module sees is `internal` or `private`.
+What it knows of the text: a function's `define` ends with a line `}`, all else is a line; a name begins with `@`, and a
+function's begins with its crate's; what is called stands before a `(`; what no other module sees is `internal` or
+`private`; whose address has no meaning is `unnamed_addr`.
 """
+import collections
 import re
 
 from building import OtherKit
 
-NAME = re.compile(r'@(?:"([^"]+)"|([\w.$-]+))')
+# A name, or a string, in which an `@` is no name.
+TOKEN = re.compile(r'(@(?:"[^"]+"|[\w.$-]+))|c"[^"]*"')
+# What no other module sees.
+UNSEEN = re.compile(r"define internal |@[^=]* = private ")
+# These crates read the command line, which is done once.
+COLD = {"clap", "rev_options", "strsim"}
 # A function stands in one part alone if this share of the module, or more, is reached by way of it alone.
 LEAST = 0.012
 # Where more than this is reached by way of a function, it is cut further.
 MOST = 0.5
 
 
-def names_in(text):
-    return {one or other for one, other in set(NAME.findall(text))}
+class Part(collections.namedtuple("Part", "text is_cold")):
+    """A module of its own, and whether what it does is of no weight."""
+
+
+class Definition:
+    """The text of a function or a value, in its names that the module defines and the gaps around these."""
+
+    def __init__(self, text, defined):
+        self.names, self.gaps, end = [], [], 0
+        for it in TOKEN.finditer(text):
+            if it[1] in defined:
+                self.names.append(it[1])
+                self.gaps.append(text[end : it.start()])
+                end = it.end()
+        self.gaps.append(text[end:])
+        self.is_function = text.startswith("define ")
+        self.is_constant = " constant " in text
+        # Its address has no meaning, if it is a function that is only called.
+        self.is_plain = text.startswith("define internal ") or " unnamed_addr constant " in text
+        self.lines = text.count("\n")
+
+    def text(self):
+        return "".join(it for pair in zip(self.gaps, self.names) for it in pair) + self.gaps[-1]
+
+    def not_called(self):
+        """The names of which it does more than to call them."""
+        return (name for name, after in zip(self.names, self.gaps[1:]) if not after.startswith("("))
 
 
 class Module:
-    """A module's definitions by their names, and the lines around them."""
+    """What `main` reaches of a module, by its names, and the lines around that."""
 
     def __init__(self, text):
-        self.defined, around, end = {}, [], 0
+        places, around, end = {}, [], 0
         for start in (it.start() for it in re.finditer(r"^(?:define |@)", text, re.M)):
             around.append(text[end:start])
             end = text.index("\n}\n", start) + 3 if text.startswith("define ", start) else text.index("\n", start) + 1
-            self.defined["".join(NAME.search(text, start).groups(""))] = text[start:end]
-        self.around = "".join([*around, text[end:]])
-        roots = [name for name, it in self.defined.items() if not re.match(r"define internal |@[^=]*= private ", it)]
-        if roots != ["main"]:
-            raise OtherKit(f"its module begins at {', '.join(roots[:9]) or 'no function'}, and not at main")
-        self.used, left = {}, roots
+            places[TOKEN.search(text, start)[1]] = start, end
+        # (most of the lines around are comments)
+        self.around = re.sub(r"^(?:;.*)?\n", "", "".join([*around, text[end:]]), flags=re.M)
+        seen = [it for it, (start, _) in places.items() if not UNSEEN.match(text, start)]
+        if seen != ["@main"]:
+            raise OtherKit(f"its module begins at {', '.join(seen[:9]) or 'no function'}, and not at main")
+        found, left = {}, ["@main"]
         while left:
             name = left.pop()
-            if name not in self.used:
-                self.used[name] = (names_in(self.defined[name]) & self.defined.keys()) - {name}
-                left += self.used[name]
-        self.lines = {name: self.defined[name].count("\n") for name in self.used}
+            if name not in found:
+                start, end = places[name]
+                found[name] = Definition(text[start:end], places)
+                left += found[name].names
+        self.defined = {it: found[it] for it in places if it in found}
+        self.cold = self.made_one()
+        self.used = {name: set(it.names) - {name} for name, it in self.defined.items()}
+        self.lines = {name: it.lines for name, it in self.defined.items()}
+
+    def made_one(self):
+        """Leaves one of those definitions that are the same, and returns the functions whose like are all cold.
+
+        Two are the same if their texts are, but for names of what is the same. So all that may be are put in one class
+        first, and a class is cut in more as long as its members name what is in different classes.
+        """
+        meant = {name for it in self.defined.values() for name in it.not_called()}
+        alone = {name for name, it in self.defined.items() if not it.is_plain or it.is_function and name in meant}
+        keys = {name: name if name in alone else tuple(it.gaps) for name, it in self.defined.items()}
+        before, count = numbered(keys)
+        is_done = False
+        while not is_done:
+            keys = {name: (before[name], *map(before.get, it.names[1:])) for name, it in self.defined.items()}
+            before, now = numbered(keys)
+            is_done, count = now == count, now
+        first, is_cold = {}, {}
+        for name, number in before.items():
+            first.setdefault(number, name)
+            is_cold[number] = is_cold.get(number, True) and crate_of(name) in COLD
+        for it in self.defined.values():
+            it.names = [first[before[name]] for name in it.names]
+        self.defined = {it: self.defined[it] for it in first.values()}
+        return {name for number, name in first.items() if is_cold[number] and self.defined[name].is_function}
 
     def weight(self, names):
-        return sum(self.lines[it] for it in names)
-
-    def is_function(self, name):
-        return self.defined[name].startswith("define")
+        return sum(map(self.lines.get, names))
 
     def reached(self, root, apart):
         """What the root reaches without a way through functions that stand apart."""
@@ -58,8 +119,8 @@ class Module:
                 left += self.used[name]
         return found
 
-    def in_post_order(self):
-        order, seen, path = [], {"main"}, [("main", iter(self.used["main"]))]
+    def in_post_order(self, without):
+        order, seen, path = [], {"@main", *without}, [("@main", iter(self.used["@main"]))]
         while path:
             name, rest = path[-1]
             after = next((it for it in rest if it not in seen), None)
@@ -76,9 +137,9 @@ class Module:
         place = {name: at for at, name in enumerate(order)}
         users = {name: [] for name in order}
         for name in order:
-            for it in self.used[name]:
+            for it in self.used[name] & users.keys():
                 users[it].append(name)
-        found, changed = {"main": "main"}, True
+        found, changed = {"@main": "@main"}, True
         while changed:
             changed = False
             for name in reversed(order[:-1]):
@@ -93,32 +154,36 @@ class Module:
                 found[name] = first
         return found
 
-    def apart(self):
-        """The functions that stand in one part alone."""
-        order = self.in_post_order()
-        above, held = self.dominators(order), dict(self.lines)
+    def apart(self, entries):
+        """The functions that stand in one part alone, of those that are for speed."""
+        order = self.in_post_order(entries)
+        above, held = self.dominators(order), {it: self.lines[it] for it in order}
         for name in order[:-1]:
             held[above[name]] += held[name]
-        least, most = LEAST * held["main"], MOST * held["main"]
-        return {it for it in order if self.is_function(it) and least <= held[it] <= most < held[above[it]]}
+        least, most = LEAST * held["@main"], MOST * held["@main"]
+        return {it for it in order if self.defined[it].is_function and least <= held[it] <= most < held[above[it]]}
 
     def cut(self, count):
-        """What each part holds, the heaviest first, and the functions that stand apart."""
-        apart = self.apart()
-        reached = {it: self.reached(it, apart) for it in sorted(apart)}
-        parts = [self.reached("main", apart), *(set() for _ in range(count - 1))]
+        """What is cold, what each of so many parts holds that are for speed, and the functions that stand apart."""
+        hot = self.reached("@main", self.cold)
+        entries = {it for name in hot for it in self.used[name] & self.cold}
+        apart = self.apart(entries)
+        reached = {it: self.reached(it, apart | entries) for it in sorted(apart)}
+        parts = [self.reached("@main", apart | entries), *(set() for _ in range(count - 1))]
         for name in sorted(reached, key=lambda it: -self.weight(reached[it])):
-            min(parts, key=lambda part: self.weight(part | reached[name])).update(reached[name])
-        return [it for it in parts if it], apart
+            # (what it shares with a part counts, since each part holds that itself)
+            min(parts, key=lambda it: self.weight(it) + 2 * self.weight(reached[name] - it)).update(reached[name])
+        cold = set().union(*(self.reached(it, apart) for it in entries))
+        return cold, [it for it in parts if it], apart | entries
 
     def text_of(self, part, apart, shared):
         """A part as a module of its own."""
         needed = set(part).union(*(self.used[it] for it in part))
-        told = (self.told(it, it in part, it in apart, it in shared) for it in self.defined if it in needed)
+        told = (self.told(name, name in part, name in apart, name in shared) for name in self.defined if name in needed)
         return self.around + "".join(told)
 
     def told(self, name, is_here, is_apart, is_shared):
-        text = self.defined[name]
+        text = self.defined[name].text()
         if is_shared:
             # (the linker takes one of several that are weak)
             return text.replace("= private global ", "= weak hidden global ", 1)
@@ -129,13 +194,26 @@ class Module:
         return text[: text.index(" {\n")].replace("define internal ", "declare hidden ", 1) + "\n"
 
 
+def crate_of(name):
+    return name.lstrip('@"').partition("::")[0]
+
+
+def numbered(keys):
+    """A number for each different key, by what has that key, and how many they are."""
+    numbers = {}
+    return {name: numbers.setdefault(key, len(numbers)) for name, key in keys.items()}, len(numbers)
+
+
 def parts_of(text, count):
-    """The texts of at most so many parts of a module."""
+    """A module's part that is cold, and at most so many parts that are for speed."""
     module = Module(text)
-    parts, apart = module.cut(count)
+    lacking = COLD - {crate_of(it) for it in module.cold}
+    if lacking:
+        raise OtherKit(f"its module has no function that is known to be of {', '.join(sorted(lacking))}")
+    cold, hot, apart = module.cut(count)
     # A value that can change, and that several parts use, has to be one.
-    values = [name for name in module.used if not module.is_function(name) and " constant " not in module.defined[name]]
-    shared = {it for it in values if sum(it in part for part in parts) > 1}
-    if any("= private global " not in module.defined[it] for it in shared):
+    values = [name for name, it in module.defined.items() if not it.is_function and not it.is_constant]
+    shared = {it for it in values if sum(it in part for part in [cold, *hot]) > 1}
+    if any("= private global " not in module.defined[it].text() for it in shared):
         raise OtherKit(f"its module has values of another kind: {', '.join(sorted(shared))[:200]}")
-    return [module.text_of(it, apart, shared) for it in parts]
+    return [Part(module.text_of(it, apart, shared), it is cold) for it in [*hot, cold]]
