@@ -1,5 +1,5 @@
 -- The walk along the links of one bucket.
-use Rattle.std.proofs.Common.{◌≡◌, ℕ, ◌-◌, ◌%◌, ◌<◌, ◌≤◌, List, Some, ◌⊎◌, length, inl, inr, sym, ◌∙◌, ap, subst, arith, get_or, slice_get}
+use Rattle.std.proofs.Common.{◌≡◌, ℕ, ◌-◌, ◌%◌, ◌<◌, ◌≤◌, List, Some, ◌⊎◌, length, inl, inr, sym, ◌∙◌, ap, subst, arith, get_or}
 use Rattle.std.proofs.Math.ListN.{get_or-map}
 use Rattle.std.proofs.lemmas.List.{length-map}
 use Rattle.std.proofs.lemmas.Bool.{cases_lt}
@@ -68,15 +68,15 @@ seek_past ms m h d c e b r f s p =
       ];
     }
 
--- the link c leads past them to the entry e where its tests hold
-pub leads_past_it : (es : List Entry) (e : Entry) (m b d a c p : ℕ) → (0 < c) × (slice_get es (c - 1) ≡ Some e) → (c < a) × (d < e.node) → p ≡ e.hash % m → p ≡ b → LeadsPast (mentions_of es) m b d a c
-leads_past_it es e m b d a c p at past is same =
-    let f : get_or (mentions_of es) (c - 1) no_mention ≡ mention_of e = get_or-map mention_of es (c - 1) no_entry ∙ ap mention_of (get_or_from_slice_get es (c - 1) e no_entry at.1) in
+-- the link c leads past them to its entry where its tests hold
+pub leads_past_it : (es : List Entry) (m b d a c p : ℕ) → 0 < c → c < a → d < (get_or es (c - 1) no_entry).node → p ≡ (get_or es (c - 1) no_entry).hash % m → p ≡ b → LeadsPast (mentions_of es) m b d a c
+leads_past_it es m b d a c p some before past is same =
+    let f : get_or (mentions_of es) (c - 1) no_mention ≡ mention_of (get_or es (c - 1) no_entry) = get_or-map mention_of es (c - 1) no_entry in
     record {
-      some = at.0;
-      before = past.0;
+      some = some;
+      before = before;
       home = ap (λ (x : Mention). x.hash % m) f ∙ (sym is ∙ same);
-      past = subst (λ (x : Mention). d < x.node) (sym f) past.1;
+      past = subst (λ (x : Mention). d < x.node) (sym f) past;
     }
 
 -- what is held stands at a place

@@ -148,18 +148,22 @@ fn leads_past(
     place: usize,
     count: usize,
 ) -> bool
-    requires { 0 < count }
+    requires some { 0 < count }
+    requires within { cursor ≤ length entries.now }
     ensures { IsTrue result → LeadsPast (mentions_of entries.now) count place bound cursor link }
 {
-    match follow(entries, link) {
-        Some(entry) => link < cursor && entry.node > bound && bucket(entry.hash, count) == place,
-        None => false,
+    if link == 0 || link >= cursor {
+        return false;
     }
+    let entry = entries[link as usize - 1];
+    entry.node > bound && bucket(entry.hash, count) == place
 }
 
 /// The latest node up to `bound` that mentions the hash, or 0.
 ///
 /// Entries of nodes over the bound are passed by along skips, the others of the bucket one by one.
+// A skip to the entry behind gains nothing, and so is not tried. What is asked of an entry stands in this order so that
+// the processor guesses the next step. By the order before, it waited for the entry that a skip leads to.
 #[inline(always)]
 pub fn seek(heads: &[Head], entries: &[Entry], hash: u32, bound: u32) -> u32
     requires { IsSound heads.now entries.now }
@@ -169,21 +173,19 @@ pub fn seek(heads: &[Head], entries: &[Entry], hash: u32, bound: u32) -> u32
 {
     let place = bucket(hash, heads.len());
     let mut cursor = heads[place].last;
-    // how far back no skip needs to be tried: one that led there led to a node up to the bound
-    let mut tried = 0;
     'walk: while cursor > 0 {
         let entry = entries[cursor as usize - 1];
-        if entry.hash == hash && entry.node <= bound {
-            return entry.node;
-        }
-        let skip = entry.skip.link();
-        cursor = if entry.node > bound && tried < skip && skip != entry.earlier {
-            if leads_past(entries, skip, cursor, bound, place, heads.len()) {
+        cursor = if entry.node > bound {
+            let skip = entry.skip.link();
+            if skip != entry.earlier
+                && leads_past(entries, skip, cursor, bound, place, heads.len())
+            {
                 skip
             } else {
-                tried = skip;
                 entry.earlier
             }
+        } else if entry.hash == hash {
+            return entry.node;
         } else {
             entry.earlier
         };
