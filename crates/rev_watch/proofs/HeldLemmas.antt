@@ -7,7 +7,7 @@ use Rattle.std.specs.List.{All, insert as insert_at}
 use Rattle.std.specs.List.Sorted.{IsNonDecreasingBy, IsBinarySearchResult, IsSearchInRange}
 use Rattle.std.specs.Map.{keys_of}
 use Rattle.std.specs.Ordering.{nat_cmp, ordering_index, is_lt}
-use Rattle.rev_watch.specs.Held.{together, AreAbove, IsRun, is_first}
+use Rattle.rev_watch.specs.Held.{together, AreAbove, IsRun, IsNear, is_first}
 use Rattle.rev_watch.specs.Window.{is_held}
 
 rank : (x y : ℕ) → (x < y) ⊎ ((x ≡ y) ⊎ (y < x))
@@ -360,6 +360,13 @@ module _ {T : Type 0} where
         lower = λ j d l. ranked _ k _ (sym (parts.0 j d (omega arith) l));
         higher = λ j d l m. ranked _ k _ (sym (parts.1 j d l m));
       }
+
+  pub near : (run strays : List (ℕ × T)) (k i : ℕ) → IsRun run strays → IsNear run k i → IsGap run k i
+  near run strays k i h n = record {
+    within = n.within;
+    lower = λ j d l. omega (arith, numbers-rise run strays h j (i - 1) d (omega (arith, l)) (omega (arith, l, n.within)), n.lower d (omega (arith, l)));
+    higher = n.higher;
+  }
 
   -- ---- a line of the run goes to its place
 

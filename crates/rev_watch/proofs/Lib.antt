@@ -6,3 +6,5 @@ pub mod ReadLemmas
 pub mod Order
 mod HeldLemmas
 pub mod Written
+mod SpaceLemmas
+mod KeyLemmas

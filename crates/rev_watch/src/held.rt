@@ -2,7 +2,7 @@
 ghost use Rattle.std.specs.Prelude.{◌≡◌, ◌<◌, ◌-◌, ℕ, [], ◌∷◌, length, true, false, IfOk, OnOk, OnErr, IfSome, IfNone, slice_index_or};
 ghost use Rattle.std.specs.BTreeMap.{insert_entry};
 ghost use Rattle.std.specs.Ordering.{nat_cmp};
-ghost use Rattle.rev_watch.specs.Held.{is_first};
+ghost use Rattle.rev_watch.specs.Held.{IsNear, is_first};
 ghost use Rattle.rev_watch.specs.Window.{is_held};
 
 use std::alloc::{AllocError, Allocator};
@@ -52,6 +52,25 @@ fn is_above_strays<T, A: Allocator>(number: u64, strays: &BTreeMap<u64, T, A>) -
     }
 }
 
+// The place in the run of a number that it does not hold, where few lines stand behind that. Most lines that are out of
+// order go back by a few, and the last lines are at hand.
+fn place_near<T, A: Allocator>(number: u64, run: &VecDeque<(u64, T), A>) -> Option<usize>
+    ensures { IfSome result (IsNear run.now.items number) }
+{
+    let mut place = run.len();
+    'lines: while place > 0 {
+        let before = run[place - 1].0;
+        if before < number {
+            return Some(place);
+        }
+        if before == number || run.len() - place >= NEAR {
+            return None;
+        }
+        place -= 1;
+    }
+    Some(place)
+}
+
 // Whether the lowest number is the first one of the run.
 fn is_first<T, A: Allocator>(run: &VecDeque<(u64, T), A>, strays: &BTreeMap<u64, T, A>) -> bool
     ensures { result ≡ is_first run.now.items strays.now.entries }
@@ -96,18 +115,19 @@ impl<T: Drop, A: Allocator + Copy> HeldLines<T, A> {
             self.run.push_back((number, line))?;
             return Ok(false);
         }
+        if let Some(place) = place_near(number, &self.run) {
+            if !self.strays.contains_key(&number) {
+                self.run.insert(place, (number, line))?;
+                return Ok(false);
+            }
+            return Ok(self.strays.insert(number, line)?.is_some());
+        }
         match self.run.binary_search_by_key(&number, |held| held.0) {
-            Ok(i) => {
-                self.run[i] = (number, line);
+            Ok(place) => {
+                self.run[place] = (number, line);
                 Ok(true)
             }
-            Err(i) => {
-                if self.run.len() - i <= NEAR && !self.strays.contains_key(&number) {
-                    self.run.insert(i, (number, line))?;
-                    return Ok(false);
-                }
-                Ok(self.strays.insert(number, line)?.is_some())
-            }
+            Err(_) => Ok(self.strays.insert(number, line)?.is_some()),
         }
     }
 
