@@ -5,13 +5,13 @@ use Rattle.rev_watch.proofs.KeyLemmas.{no_digits, two_digits}
 use Rattle.rev_watch.proofs.key.escaped.Goals as goal
 
 pub returns-in_default : goal.returns-in_default
-returns-in_default c = no_digits _ (λ long high low. grind arith)
+returns-in_default c = no_digits c.args.text.now (λ long high low. grind arith)
 
 pub returns-in_err-high : goal.returns-in_err-high
-returns-in_err-high c = rw c.from_residual.ensures (no_digits _ (λ long high low. search rules))
+returns-in_err-high c = rw c.from_residual.ensures (no_digits c.args.text.now (λ long high low. search rules))
 
 pub returns-in_err-low : goal.returns-in_err-low
-returns-in_err-low c = rw c.from_residual-in_err-low.ensures (no_digits _ (λ long high low. search rules))
+returns-in_err-low c = rw c.from_residual-in_err-low.ensures (no_digits c.args.text.now (λ long high low. search rules))
 
 pub returns : goal.returns
 returns c =
