@@ -16,6 +16,7 @@ mod number;
 pub mod parse;
 pub mod reader;
 pub mod settings;
+mod strays;
 mod text;
 pub mod window;
 mod words;
