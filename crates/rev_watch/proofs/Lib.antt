@@ -8,3 +8,4 @@ mod HeldLemmas
 pub mod Written
 mod SpaceLemmas
 mod KeyLemmas
+mod NumberLemmas

@@ -4,8 +4,8 @@ ghost use Rattle.rev_script.specs.Number.{number, number_u32, signed};
 
 use rev_script::number::number as any_number;
 
-/// A number below it takes one digit more in 64 bits (this project's own figure).
-const SMALL: u64 = 1000000000000000000;
+/// As many digits fit 64 bits, whatever they are.
+const SAFE_DIGITS: usize = 19;
 
 /// The number that the word is, where it is decimal digits of at most `limit`. Most are small, and so no step is looked at
 /// for an overflow.
@@ -13,16 +13,13 @@ pub fn number(word: &[u8], limit: u64) -> Option<u64>
     ensures value { result ≡ number limit word.now }
     ensures bound { IfSome result (λ n. n ≤ limit) }
 {
-    if word.is_empty() {
-        return None;
+    if word.is_empty() || word.len() > SAFE_DIGITS {
+        return any_number(word, limit);
     }
     let mut sum: u64 = 0;
     for b in word {
         if *b < b'0' || *b > b'9' {
             return None;
-        }
-        if sum >= SMALL {
-            return any_number(word, limit);
         }
         sum = sum * 10 + u64::from(*b - b'0');
     }

@@ -18,6 +18,7 @@ use arrayvec::ArrayVec;
 use rev_items::{Key, KeyFault};
 use std::alloc::Allocator;
 
+#[inline(never)]
 #[tactic(auto, unfolding(crate::specs::Line::look_up))]
 fn look_up<A: Allocator>(alloc: A, fields: &[&[u8]]) -> Result<Event<A>, LineFault>
     ensures { MatchResult result (λ event. look_up (map (λ w. w.now) fields.now) ≡ Ok event) (λ e. e ≢ LineFault.Memory → look_up {A = A} (map (λ w. w.now) fields.now) ≡ Err e) }
@@ -36,6 +37,7 @@ fn look_up<A: Allocator>(alloc: A, fields: &[&[u8]]) -> Result<Event<A>, LineFau
     })
 }
 
+#[inline(never)]
 #[tactic(auto, unfolding(crate::specs::Line::store))]
 fn store<A: Allocator>(alloc: A, fields: &[&[u8]]) -> Result<Event<A>, LineFault>
     ensures { MatchResult result (λ event. store (map (λ w. w.now) fields.now) ≡ Ok event) (λ e. e ≢ LineFault.Memory → store {A = A} (map (λ w. w.now) fields.now) ≡ Err e) }
@@ -67,6 +69,7 @@ fn deletion<A: Allocator>(alloc: A, fields: &[&[u8]]) -> Result<Event<A>, LineFa
     Ok(Event::Deletion { key, connection })
 }
 
+#[inline(never)]
 #[tactic(auto, unfolding(crate::specs::Line::eviction))]
 fn eviction<A: Allocator>(alloc: A, fields: &[&[u8]]) -> Result<Event<A>, LineFault>
     ensures { MatchResult result (λ event. eviction (map (λ w. w.now) fields.now) ≡ Ok event) (λ e. e ≢ LineFault.Memory → eviction {A = A} (map (λ w. w.now) fields.now) ≡ Err e) }

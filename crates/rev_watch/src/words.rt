@@ -39,6 +39,7 @@ impl<'a> Words<'a> {
     }
 
     /// The next word, and whether a space stands behind it. It is empty where nothing is left.
+    #[inline(always)]
     pub fn next(&mut self) -> (&'a [u8], bool)
         ensures word { result.0.now ≡ until 32 self.old }
         ensures more { result.1 ≡ has 32 self.old }
