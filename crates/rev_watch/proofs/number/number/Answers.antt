@@ -1,5 +1,4 @@
-use Rattle.std.proofs.Common.{rules, arith, ◌+◌, ◌∙◌, ap, inl, inr, Some}
-use Rattle.rev_script.specs.Number.{number}
+use Rattle.std.proofs.Common.{arith, ◌∙◌, ap, inl, inr, Some}
 use Rattle.rev_script.proofs.Numbers.{number-bad, number-over, number-ok, digits-more, is_digit-no, is_digit-yes, value-more}
 use Rattle.rev_watch.proofs.NumberLemmas.{one_more, fits}
 use Rattle.rev_watch.proofs.number.number.Goals as goal

@@ -1,11 +1,11 @@
-use Rattle.std.proofs.Common.{rules, ◌≡◌, ◌<◌, false, is_some, length, Ok, Err, sym, ◌∙◌, ap, subst, arith}
+use Rattle.std.proofs.Common.{rules, ◌≡◌, ◌<◌, false, length, Ok, Err, sym, ◌∙◌, ap, subst, arith}
 use Rattle.std.proofs.lemmas.List.Sorted.{answers_always}
 use Rattle.std.proofs.lemmas.Result.{on_ok_weaker}
 use Rattle.std.specs.BTreeMap.{insert_entry}
 use Rattle.std.specs.Ordering.{nat_cmp}
 use Rattle.rev_watch.specs.Held.{together, IsRun}
 use Rattle.rev_watch.specs.Window.{is_held}
-use Rattle.rev_watch.proofs.HeldLemmas.{AreBelow, IsGap, below-last, run-push, push-together, new-together, searched, gap-not_held, gap-together, run-gap, run-set, set-together, old-together, run-insert, insert-together, stray-together, near, had-as, run-strays}
+use Rattle.rev_watch.proofs.HeldLemmas.{AreBelow, IsGap, below-last, run-push, push-together, new-together, searched, gap-not_held, gap-together, run-gap, run-set, set-together, old-together, insert-together, stray-together, near, had-as, run-strays}
 use Rattle.rev_watch.proofs.held.HeldLines.insert.Goals as goal
 
 -- a line behind all others goes to the end of the run
