@@ -7,8 +7,8 @@ use rev_script::number::number as any_number;
 /// As many digits fit 64 bits, whatever they are.
 const SAFE_DIGITS: usize = 19;
 
-/// The number that the word is, where it is decimal digits of at most `limit`. Most are small, and so no step is looked at
-/// for an overflow.
+/// The number that the word is, where it is decimal digits of at most `limit`. Of nearly all words no step can
+/// overflow, so none is looked at.
 pub fn number(word: &[u8], limit: u64) -> Option<u64>
     ensures value { result ≡ number limit word.now }
     ensures bound { IfSome result (λ n. n ≤ limit) }
