@@ -4,6 +4,7 @@ ghost use Rattle.std.specs.Prelude.{◌≡◌};
 ghost use Rattle.rev_import.specs.Becoming.{is_too_large};
 
 use crate::figures::{Figures, one_more};
+use crate::held_key::{HeldKey, SoughtKey};
 use crate::writing::MOST_DATA;
 use indexmap::IndexMap;
 use rev_items::Key;
@@ -41,7 +42,7 @@ pub struct Guesses<A: Allocator> {
     guesses: VecDeque<Guess, A>,
     // the number of the first event that waits
     first: u64,
-    keys: Map<Vec<u8, A>, Held, A>,
+    keys: Map<HeldKey<A>, Held, A>,
     // the number of the last look-up or store of each connection
     connections: Map<i32, u64, A>,
 }
@@ -130,7 +131,7 @@ impl<A: Allocator + Copy> Guesses<A> {
 
     // The look-up of this number was no hit of the key.
     fn take_back(&mut self, key: &Key<A>, number: u64) {
-        if let Some(held) = self.keys.get_mut(key.bytes()) {
+        if let Some(held) = self.keys.get_mut(SoughtKey { key }) {
             if held.last_hit == Some(number) {
                 held.last_hit = held.earlier_hit;
             }
@@ -166,11 +167,11 @@ impl<A: Allocator + Copy> Guesses<A> {
         figures: &mut Figures,
     ) {
         if outcome == LookUpOutcome::Found {
-            if let Some(held) = self.keys.get_mut(key.bytes()) {
+            if let Some(held) = self.keys.get_mut(SoughtKey { key }) {
                 held.earlier_hit = held.last_hit;
                 held.last_hit = Some(number);
             }
-        } else if let Some(held) = self.keys.swap_remove(key.bytes()) {
+        } else if let Some(held) = self.keys.swap_remove(SoughtKey { key }) {
             if outcome == LookUpOutcome::NotFound {
                 self.explain(held, number, now, figures);
             }
@@ -184,18 +185,18 @@ impl<A: Allocator + Copy> Guesses<A> {
             earlier_hit: None,
             end,
         };
-        if let Some(old) = self.keys.get_mut(key.bytes()) {
+        if let Some(old) = self.keys.get_mut(SoughtKey { key }) {
             *old = held;
             return Ok(());
         }
-        self.keys.insert(key.bytes().to_vec(self.alloc)?, held)?;
+        self.keys.insert(HeldKey::copy_of(self.alloc, key)?, held)?;
         Ok(())
     }
 
     // The data were too large: a `set` takes the old item away all the same.
     fn note_too_large(&mut self, key: &Key<A>, command: StoreCommand, number: u64, size: u32) {
         let takes = command == StoreCommand::Set || size > MOST_DATA;
-        if takes && self.keys.swap_remove(key.bytes()).is_some() {
+        if takes && self.keys.swap_remove(SoughtKey { key }).is_some() {
             if let Some(guess) = self.guess(number) {
                 guess.deletes = true;
             }
@@ -253,10 +254,10 @@ impl<A: Allocator + Copy> Guesses<A> {
                     let before = self.connections.get(connection).copied();
                     self.mark_own(key, before, waiting, figures);
                 }
-                self.keys.swap_remove(key.bytes());
+                self.keys.swap_remove(SoughtKey { key });
             }
             Event::Eviction { key, .. } => {
-                self.keys.swap_remove(key.bytes());
+                self.keys.swap_remove(SoughtKey { key });
             }
             Event::ConnectionClosed { connection } => {
                 self.connections.swap_remove(connection);

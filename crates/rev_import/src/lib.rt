@@ -3,6 +3,7 @@
 
 pub mod figures;
 mod guess;
+mod held_key;
 pub mod import;
 pub mod policy;
 pub mod requests;

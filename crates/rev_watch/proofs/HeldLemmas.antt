@@ -1,5 +1,5 @@
 -- Lines that are held in a run and in a tree: what they are together.
-use Rattle.std.proofs.Common.{◌≡◌, ℕ, zero, suc, ◌+◌, ◌-◌, ◌<◌, ◌≤◌, nat_lt, true, false, inl, inr, ◌⊎◌, Option, Some, None, option_to_list, IfSome, IfNone, Result, Ok, Err, MatchResult, List, [], ◌∷◌, ◌++◌, length, get_or, set, refl, sym, ◌∙◌, ap, subst, arith}
+use Rattle.std.proofs.Common.{◌≡◌, ℕ, zero, suc, ◌+◌, ◌-◌, ◌<◌, ◌≤◌, nat_lt, Bool, true, false, inl, inr, ◌⊎◌, Option, Some, None, option_to_list, IfSome, IfNone, Result, Ok, Err, IfOk, OnOk, OnErr, MatchResult, List, [], ◌∷◌, ◌++◌, length, get_or, set, refl, sym, ◌∙◌, ap, subst, arith}
 use Rattle.std.proofs.lemmas.Bool.Decides.{eqb_tells, leb_tells, nat_tests}
 use Rattle.std.proofs.lemmas.Cmp.{ranked}
 use Rattle.std.specs.BTreeMap.{insert_entry}
@@ -7,7 +7,7 @@ use Rattle.std.specs.List.{All, insert as insert_at}
 use Rattle.std.specs.List.Sorted.{IsNonDecreasingBy, IsBinarySearchResult, IsSearchInRange}
 use Rattle.std.specs.Map.{keys_of}
 use Rattle.std.specs.Ordering.{nat_cmp, ordering_index, is_lt}
-use Rattle.rev_watch.specs.Held.{together, AreAbove, IsRun, is_first}
+use Rattle.rev_watch.specs.Held.{together, AreAbove, IsRun, IsNear, is_first}
 use Rattle.rev_watch.specs.Window.{is_held}
 
 rank : (x y : ℕ) → (x < y) ⊎ ((x ≡ y) ⊎ (y < x))
@@ -21,6 +21,10 @@ rank x y = elim (leb_tells (suc x) y) [
 
 order-rises : (x y k : ℕ) → x ≤ y → ordering_index (nat_cmp x k) ≤ ordering_index (nat_cmp y k)
 order-rises x y k h = grind (arith, nat_tests)
+
+pub had-as : {E : Type 0} (r : Result Bool E) (x y : Bool) → x ≡ y → IfOk r (λ had. had ≡ x) → IfOk r (λ had. had ≡ y)
+had-as (Ok b) x y e h = h ∙ e
+had-as (Err f) x y e h = tt
 
 module _ {T : Type 0} where
   abbrev insert : List (ℕ × T) → ℕ → T → List (ℕ × T)
@@ -361,6 +365,13 @@ module _ {T : Type 0} where
         higher = λ j d l m. ranked _ k _ (sym (parts.1 j d l m));
       }
 
+  pub near : (run strays : List (ℕ × T)) (k i : ℕ) → IsRun run strays → IsNear run k i → IsGap run k i
+  near run strays k i h n = record {
+    within = n.within;
+    lower = λ j d l. omega (arith, numbers-rise run strays h j (i - 1) d (omega (arith, l)) (omega (arith, l, n.within)), n.lower d (omega (arith, l)));
+    higher = n.higher;
+  }
+
   -- ---- a line of the run goes to its place
 
   insert_at-together : (run strays : List (ℕ × T)) (i k : ℕ) (v : T) → is_held k run ≡ false → i ≤ length run → together (insert_at run i (k, v)) strays ≡ insert (together run strays) k v
@@ -446,6 +457,20 @@ module _ {T : Type 0} where
   strays-give (Some t) run old new all v h f o =
       sym v ∙ ap (together run) o ∙ stray-first run t new (subst (IsRun run) o h) (sym (ap (is_first run) o) ∙ f)
 
-  pub run-popped : (r : Option (ℕ × T)) (run old new : List (ℕ × T)) → IsRun run old → IfSome r (λ t. old ≡ t ∷ new) → IfNone r (new ≡ old) → IsRun run new
-  run-popped None run old new h s n = subst (IsRun run) (sym n) h
+  pub run-popped : (r : Option (ℕ × T)) (run old new : List (ℕ × T)) → IsRun run old → IfSome r (λ t. old ≡ t ∷ new) → IfNone r ((old ≡ []) × (new ≡ [])) → IsRun run new
+  run-popped None run old new h s n = subst (IsRun run) (n.0 ∙ sym n.1) h
   run-popped (Some t) run old new h s n = run-without run t new (subst (IsRun run) s h)
+
+  -- where no stray is left and the run gives none, nothing is held
+  pub none-left : (r : Option (ℕ × T)) (run old new all : List (ℕ × T)) → together run old ≡ all → is_first run old ≡ false → IfNone r ((old ≡ []) × (new ≡ [])) →
+      IfNone r ((all ≡ []) × (together run new ≡ []))
+  none-left (Some t) run old new all v f n = tt
+  none-left None [] old new all v f n = (sym v ∙ n.0, n.1)
+  none-left None (e ∷ run) old new all v f n = absurd (let q = sym (ap (is_first (e ∷ run)) n.0) ∙ f in cc)
+
+  -- ---- a line goes to the strays
+
+  pub run-strays : {E : Type 0} (r : Result Bool E) (run old new : List (ℕ × T)) (k : ℕ) (v : T) → IsRun run old → is_held k run ≡ false →
+      OnOk r (new ≡ insert old k v) → OnErr r (new ≡ old) → IsRun run new
+  run-strays (Ok b) run old new k v h n o e = subst (IsRun run) (sym o) (run-insert run old k v h n)
+  run-strays (Err f) run old new k v h n o e = subst (IsRun run) (sym e) h

@@ -6,3 +6,6 @@ pub mod ReadLemmas
 pub mod Order
 mod HeldLemmas
 pub mod Written
+mod SpaceLemmas
+mod KeyLemmas
+mod NumberLemmas

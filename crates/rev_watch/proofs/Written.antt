@@ -1,6 +1,6 @@
 -- Lines and a text as memcached 1.6.18 or a later one writes them, and what the rules make of them: read off the
 -- server's format, and computed. What a script does not show of them stands here alone.
-use Rattle.std.specs.Prelude.{ℕ, ℤ, pos, negsuc, ◌≡◌, true, false, List, [], ◌∷◌, ◌++◌, None, Some, Ok, codes, refl}
+use Rattle.std.specs.Prelude.{ℕ, pos, negsuc, ◌≡◌, true, false, List, [], ◌∷◌, ◌++◌, None, Some, Ok, codes, refl}
 use Rattle.percent_encoding.specs.Percent.{percent_decode}
 use Rattle.rev_model.specs.declared.Queue.TheVariants as queues
 use Rattle.rev_script.specs.Number.{number, signed, factor}

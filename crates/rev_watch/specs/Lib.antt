@@ -1,5 +1,6 @@
 pub mod Field
 pub mod Words
+pub mod Spaces
 pub mod Keys
 pub mod Fields
 pub mod Kinds

@@ -7,34 +7,33 @@ ghost use Rattle.rev_watch.specs.declared.fault.LineFault.{LineFault};
 use crate::event::{LookUpOutcome, StoreCommand, StoreOutcome};
 use crate::fault::{Field, LineFault};
 use crate::key::key_of;
-use crate::text::{cut, is_word, value_behind};
+use crate::number::{number, number_u32, signed};
+use crate::text::{is_word, value_behind};
+use crate::words::Words;
 use arrayvec::ArrayVec;
 use rev_items::Key;
 use rev_model::Queue;
-use rev_script::number::{number, number_u32, signed};
 use std::alloc::Allocator;
 
 /// The most words behind an event's kind (this project's own bound; the server writes at most nine).
 pub const MOST_FIELDS: usize = 32;
 
-/// Puts the words of a text, which single spaces part, into an empty list. At an error some of them are there.
+/// Puts the words of what is left of a text into an empty list. At an error some of them are there.
 pub fn fields_of<'a>(
     fields: &mut ArrayVec<&'a [u8], MOST_FIELDS>,
-    text: &'a [u8],
+    words: &mut Words<'a>,
 ) -> Result<(), LineFault>
     requires { fields.old.items ≡ [] }
-    ensures { MatchResult result (λ _. fields_of text.now ≡ Ok (map (λ w. w.now) fields.new.items)) (λ e. fields_of text.now ≡ Err e) }
+    ensures { MatchResult result (λ _. fields_of words.old ≡ Ok (map (λ w. w.now) fields.new.items)) (λ e. fields_of words.old ≡ Err e) }
 {
-    let mut rest = text;
     'words: loop {
         if fields.is_full() {
             return Err(LineFault::TooManyFields);
         }
-        let (word, behind) = cut(rest, b' ');
+        let (word, more) = words.next();
         fields.push(word);
-        match behind {
-            Some(more) => rest = more,
-            None => return Ok(()),
+        if !more {
+            return Ok(());
         }
     }
 }

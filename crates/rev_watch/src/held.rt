@@ -2,11 +2,12 @@
 ghost use Rattle.std.specs.Prelude.{◌≡◌, ◌<◌, ◌-◌, ℕ, [], ◌∷◌, length, true, false, IfOk, OnOk, OnErr, IfSome, IfNone, slice_index_or};
 ghost use Rattle.std.specs.BTreeMap.{insert_entry};
 ghost use Rattle.std.specs.Ordering.{nat_cmp};
-ghost use Rattle.rev_watch.specs.Held.{is_first};
+ghost use Rattle.rev_watch.specs.Held.{IsNear, is_first};
 ghost use Rattle.rev_watch.specs.Window.{is_held};
 
+use crate::strays::Strays;
 use std::alloc::{AllocError, Allocator};
-use std::collections::{BTreeMap, VecDeque};
+use std::collections::VecDeque;
 use std::marker::Model;
 
 /// How many lines of the run are moved at most to let in another one (this project's own figure: most lines that are
@@ -18,7 +19,7 @@ const NEAR: usize = 64;
 #[derive(Drop)]
 pub struct HeldLines<T, A: Allocator> {
     run: VecDeque<(u64, T), A>,
-    strays: BTreeMap<u64, T, A>,
+    strays: Strays<T, A>,
 }
 
 impl<T, A: Allocator> Model for HeldLines<T, A> {
@@ -27,9 +28,9 @@ impl<T, A: Allocator> Model for HeldLines<T, A> {
 
     ghost Value = { List (ℕ × T) };
 
-    ghost view = { λ h. together h.run.items h.strays.entries };
+    ghost view = { λ h. together h.run.items h.strays };
 
-    ghost invariant = { λ h. IsRun h.run.items h.strays.entries };
+    ghost invariant = { λ h. IsRun h.run.items h.strays };
 }
 
 // Whether a number is above all of a run.
@@ -42,37 +43,46 @@ fn is_above<T, A: Allocator>(number: u64, run: &VecDeque<(u64, T), A>) -> bool
     }
 }
 
-// Whether a number is above all strays, which have none of it then.
-fn is_above_strays<T, A: Allocator>(number: u64, strays: &BTreeMap<u64, T, A>) -> bool
-    ensures { result ≡ true → is_held number strays.now.entries ≡ false }
+// The place in the run of a number that it does not hold, where few lines stand behind that. Most lines that are out of
+// order go back by a few, and the last lines are at hand.
+fn place_near<T, A: Allocator>(number: u64, run: &VecDeque<(u64, T), A>) -> Option<usize>
+    ensures { IfSome result (IsNear run.now.items number) }
 {
-    match strays.last_key_value() {
-        None => true,
-        Some((last, _)) => *last < number,
+    let mut place = run.len();
+    'lines: while place > 0 {
+        let before = run[place - 1].0;
+        if before < number {
+            return Some(place);
+        }
+        if before == number || run.len() - place >= NEAR {
+            return None;
+        }
+        place -= 1;
     }
+    Some(place)
 }
 
 // Whether the lowest number is the first one of the run.
-fn is_first<T, A: Allocator>(run: &VecDeque<(u64, T), A>, strays: &BTreeMap<u64, T, A>) -> bool
-    ensures { result ≡ is_first run.now.items strays.now.entries }
+fn is_first<T, A: Allocator>(run: &VecDeque<(u64, T), A>, strays: &Strays<T, A>) -> bool
+    ensures { result ≡ is_first run.now.items strays.now }
 {
     let Some(line) = run.front() else {
         return false;
     };
-    match strays.first_key_value() {
+    match strays.first_number() {
         None => true,
-        Some((number, _)) => line.0 < *number,
+        Some(number) => line.0 < number,
     }
 }
 
-impl<T: Drop, A: Allocator + Copy> HeldLines<T, A> {
+impl<T: Drop, A: Allocator + Clone> HeldLines<T, A> {
     /// No lines. No memory is taken.
     pub fn new(alloc: A) -> HeldLines<T, A>
         ensures { result ≡ [] }
     {
         HeldLines {
             run: VecDeque::new(alloc),
-            strays: BTreeMap::new(alloc),
+            strays: Strays::none(),
         }
     }
 
@@ -92,22 +102,23 @@ impl<T: Drop, A: Allocator + Copy> HeldLines<T, A> {
         ensures ok { OnOk result (self.new ≡ insert_entry nat_cmp self.old number line) }
         ensures err { OnErr result (self.new ≡ self.old) }
     {
-        if is_above(number, &self.run) && is_above_strays(number, &self.strays) {
+        if is_above(number, &self.run) && self.strays.are_below(number) {
             self.run.push_back((number, line))?;
             return Ok(false);
         }
+        if let Some(place) = place_near(number, &self.run) {
+            if self.strays.has(number) {
+                return self.strays.insert(self.run.allocator(), number, line);
+            }
+            self.run.insert(place, (number, line))?;
+            return Ok(false);
+        }
         match self.run.binary_search_by_key(&number, |held| held.0) {
-            Ok(i) => {
-                self.run[i] = (number, line);
+            Ok(place) => {
+                self.run[place] = (number, line);
                 Ok(true)
             }
-            Err(i) => {
-                if self.run.len() - i <= NEAR && !self.strays.contains_key(&number) {
-                    self.run.insert(i, (number, line))?;
-                    return Ok(false);
-                }
-                Ok(self.strays.insert(number, line)?.is_some())
-            }
+            Err(_) => self.strays.insert(self.run.allocator(), number, line),
         }
     }
 

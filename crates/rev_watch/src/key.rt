@@ -1,12 +1,11 @@
 //! Keys, which stand in a line percent-encoded.
-ghost use Rattle.std.specs.Prelude.{◌≡◌, ◌≢◌, ◌<◌, [], true, false, MatchResult, Ok, Err, length};
+ghost use Rattle.std.specs.Prelude.{◌≡◌, ◌≢◌, ◌<◌, [], true, false, MatchOption, MatchResult, Ok, Err, length};
 ghost use Rattle.percent_encoding.specs.Percent.{percent_decode};
-ghost use Rattle.rev_watch.specs.Keys.{are_digits, is_encoded, key_of};
+ghost use Rattle.rev_watch.specs.Keys.{IsEscape, are_digits, is_encoded, key_of};
 ghost use Rattle.rev_watch.specs.declared.fault.LineFault.{LineFault};
 
 use crate::fault::LineFault;
 use arrayvec::ArrayVec;
-use percent_encoding::percent_decode;
 use rev_items::{Key, KeyFault, MAX_KEY_LENGTH};
 use std::alloc::Allocator;
 
@@ -32,19 +31,57 @@ fn is_encoded(text: &[u8]) -> bool
     true
 }
 
-// Puts the bytes that an encoded text stands for into an empty list. At `false` they are more than a key's.
+// Of a text that stands behind a `%`: the byte that its two digits stand for, and the text behind them.
+fn escaped(text: &[u8]) -> Option<(u8, &[u8])>
+    ensures { MatchOption result (are_digits text.now ≡ false) (λ r. IsEscape text.now r.0 r.1.now) }
+{
+    let [high, low, behind @ ..] = text else {
+        return None;
+    };
+    let high = char::from(*high).to_digit(16)?;
+    let low = char::from(*low).to_digit(16)?;
+    Some((high as u8 * 16 + low as u8, behind))
+}
+
+// Puts the bytes that an encoded text stands for into an empty list. At `false` they are more than a key's, or the text
+// is none that is encoded.
 fn decode(bytes: &mut ArrayVec<u8, MAX_KEY_LENGTH>, text: &[u8]) -> bool
     requires { bytes.old.items ≡ [] }
     ensures all { result ≡ true → bytes.new.items ≡ percent_decode text.now }
-    ensures too_many { result ≡ false → 250 < length (percent_decode text.now) }
+    ensures encoded { result ≡ true → is_encoded text.now ≡ true }
+    ensures none { result ≡ false → is_encoded text.now ≡ true → 250 < length (percent_decode text.now) }
 {
-    for byte in percent_decode(text) {
+    let mut rest = text;
+    'front: loop {
+        let Some((first, behind)) = rest.split_first() else {
+            return true;
+        };
         if bytes.is_full() {
             return false;
         }
-        bytes.push(byte);
+        if *first == b'%' {
+            let Some((byte, behind)) = escaped(behind) else {
+                return false;
+            };
+            bytes.push(byte);
+            rest = behind;
+        } else {
+            bytes.push(*first);
+            rest = behind;
+        }
     }
-    true
+}
+
+// Why a text stands for no key.
+fn fault_of(text: &[u8]) -> LineFault
+    ensures encoded { is_encoded text.now ≡ true → result ≡ LineFault.BadKey }
+    ensures other { is_encoded text.now ≡ false → result ≡ LineFault.BadEscape }
+{
+    if is_encoded(text) {
+        LineFault::BadKey
+    } else {
+        LineFault::BadEscape
+    }
 }
 
 /// The key that a field's value stands for. It is decoded in place, and only the key itself takes memory.
@@ -52,12 +89,9 @@ fn decode(bytes: &mut ArrayVec<u8, MAX_KEY_LENGTH>, text: &[u8]) -> bool
 pub fn key_of<A: Allocator>(alloc: A, text: &[u8]) -> Result<Key<A>, LineFault>
     ensures { MatchResult result (λ key. key_of text.now ≡ Ok key) (λ e. e ≢ LineFault.Memory → key_of text.now ≡ Err e) }
 {
-    if !is_encoded(text) {
-        return Err(LineFault::BadEscape);
-    }
     let mut bytes: ArrayVec<u8, MAX_KEY_LENGTH> = ArrayVec::new();
     if !decode(&mut bytes, text) {
-        return Err(LineFault::BadKey);
+        return Err(fault_of(text));
     }
     match Key::new(alloc, bytes.as_slice()) {
         Ok(key) => Ok(key),

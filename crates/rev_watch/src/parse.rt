@@ -11,12 +11,14 @@ use crate::fields::{
     optional_signed_in, queue_in, signed_in, store_command, store_outcome, time_left_in, value_in,
 };
 use crate::kind::{Kind, known_kind};
+use crate::number::{number, number_u32};
 use crate::text::{cut, value_behind, without_cr};
+use crate::words::Words;
 use arrayvec::ArrayVec;
 use rev_items::{Key, KeyFault};
-use rev_script::number::{number, number_u32};
 use std::alloc::Allocator;
 
+#[inline(never)]
 #[tactic(auto, unfolding(crate::specs::Line::look_up))]
 fn look_up<A: Allocator>(alloc: A, fields: &[&[u8]]) -> Result<Event<A>, LineFault>
     ensures { MatchResult result (λ event. look_up (map (λ w. w.now) fields.now) ≡ Ok event) (λ e. e ≢ LineFault.Memory → look_up {A = A} (map (λ w. w.now) fields.now) ≡ Err e) }
@@ -35,6 +37,7 @@ fn look_up<A: Allocator>(alloc: A, fields: &[&[u8]]) -> Result<Event<A>, LineFau
     })
 }
 
+#[inline(never)]
 #[tactic(auto, unfolding(crate::specs::Line::store))]
 fn store<A: Allocator>(alloc: A, fields: &[&[u8]]) -> Result<Event<A>, LineFault>
     ensures { MatchResult result (λ event. store (map (λ w. w.now) fields.now) ≡ Ok event) (λ e. e ≢ LineFault.Memory → store {A = A} (map (λ w. w.now) fields.now) ≡ Err e) }
@@ -66,6 +69,7 @@ fn deletion<A: Allocator>(alloc: A, fields: &[&[u8]]) -> Result<Event<A>, LineFa
     Ok(Event::Deletion { key, connection })
 }
 
+#[inline(never)]
 #[tactic(auto, unfolding(crate::specs::Line::eviction))]
 fn eviction<A: Allocator>(alloc: A, fields: &[&[u8]]) -> Result<Event<A>, LineFault>
     ensures { MatchResult result (λ event. eviction (map (λ w. w.now) fields.now) ≡ Ok event) (λ e. e ≢ LineFault.Memory → eviction {A = A} (map (λ w. w.now) fields.now) ≡ Err e) }
@@ -160,17 +164,21 @@ fn event_of_kind<A: Allocator>(
     }
 }
 
-// An event of this kind, from the text behind the kind.
+// An event of this kind, from the words behind the kind.
 #[tactic(auto, unfolding(crate::specs::Line::event_of))]
-fn event_of<A: Allocator>(alloc: A, word: &[u8], text: &[u8]) -> Result<Event<A>, LineFault>
-    ensures { MatchResult result (λ event. event_of word.now text.now ≡ Ok event) (λ e. e ≢ LineFault.Memory → event_of {A = A} word.now text.now ≡ Err e) }
+fn event_of<A: Allocator>(
+    alloc: A,
+    kind: &[u8],
+    words: &mut Words<'_>,
+) -> Result<Event<A>, LineFault>
+    ensures { MatchResult result (λ event. event_of kind.now words.old ≡ Ok event) (λ e. e ≢ LineFault.Memory → event_of {A = A} kind.now words.old ≡ Err e) }
 {
-    let Some(kind) = known_kind(word) else {
-        return unknown(alloc, word);
+    let Some(known) = known_kind(kind) else {
+        return unknown(alloc, kind);
     };
     let mut fields = ArrayVec::new();
-    fields_of(&mut fields, text)?;
-    event_of_kind(alloc, kind, fields.as_slice())
+    fields_of(&mut fields, words)?;
+    event_of_kind(alloc, known, fields.as_slice())
 }
 
 #[tactic(auto, unfolding(crate::specs::Line::timestamp))]
@@ -214,28 +222,18 @@ fn gid_of(word: &[u8]) -> Result<u64, LineFault>
     number(value, 18446744073709551615).ok_or(LineFault::BadValue(Field::Gid))
 }
 
-// The first word of a text, and the text behind it.
-fn first_word(text: &[u8]) -> (&[u8], &[u8])
-    ensures word { result.0.now ≡ until 32 text.now }
-    ensures behind { result.1.now ≡ past 32 text.now }
-{
-    match cut(text, b' ') {
-        (word, Some(behind)) => (word, behind),
-        (word, None) => (word, &[]),
-    }
-}
-
 #[tactic(auto, unfolding(crate::specs::Line::log_line))]
 fn log_line<A: Allocator>(alloc: A, text: &[u8]) -> Result<Line<A>, LineFault>
     ensures { MatchResult result (λ line. log_line text.now ≡ Ok line) (λ e. e ≢ LineFault.Memory → log_line {A = A} text.now ≡ Err e) }
 {
-    let (time, text) = first_word(text);
-    let (gid, text) = first_word(text);
-    let (kind, text) = first_word(text);
+    let mut words = Words::new(text);
+    let (time, _) = words.next();
+    let (gid, _) = words.next();
+    let (kind, _) = words.next();
     let time = timestamp_of(time)?;
     let gid = gid_of(gid)?;
     let kind = value_of(Field::Kind, kind)?;
-    let event = event_of(alloc, kind, text)?;
+    let event = event_of(alloc, kind, &mut words)?;
     Ok(Line::Log(LogLine { time, gid, event }))
 }
 

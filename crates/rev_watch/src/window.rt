@@ -38,7 +38,7 @@ impl<T, A: Allocator> Model for Window<T, A> {
     ghost view = { λ w. record { held = w.held; last = w.last } };
 }
 
-impl<T: Drop, A: Allocator + Copy> Window<T, A> {
+impl<T: Drop, A: Allocator + Clone> Window<T, A> {
     /// A window that holds nothing. No memory is taken.
     pub fn new(alloc: A) -> Window<T, A>
         ensures { result ≡ empty_window }

@@ -4,4 +4,4 @@ use Rattle.rev_watch.proofs.held.HeldLines.len.Goals as goal
 
 pub returns : goal.returns
 returns g c =
-    omega (arith, c.len.ensures, c.len-2.ensures.len, c.self.inside.run.ok.0, length-together c.self.inside.run.items c.self.inside.strays.entries c.self.invariant, ap length c.self.view_is)
+    omega (arith, c.len.ensures, c.len-2.ensures.value, c.len-2.ensures.small, c.self.inside.run.ok.0, length-together c.self.inside.run.items c.self.inside.strays c.self.invariant, ap length c.self.view_is)
