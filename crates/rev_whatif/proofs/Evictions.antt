@@ -1,5 +1,5 @@
 -- The evictions that a record tells, change by change.
-use Rattle.std.proofs.Common.{◌≡◌, ℕ, zero, suc, ◌+◌, ◌<◌, ◌≤◌, Bool, true, false, cond, List, [], ◌∷◌, ◌++◌, Option, None, Some, length, slice_index_or, refl, sym, ◌∙◌, ap, arith}
+use Rattle.std.proofs.Common.{◌≡◌, ℕ, suc, ◌+◌, ◌<◌, ◌≤◌, Bool, true, false, cond, List, [], ◌∷◌, ◌++◌, Option, None, Some, length, slice_index_or, ap, arith}
 use Rattle.std.proofs.lemmas.List.Sums.{sum_by-append}
 use Rattle.rev_items.specs.Plain.{PlainItem}
 use Rattle.rev_model.specs.State.{State, item_at}

@@ -1,5 +1,5 @@
 -- Results of which none is refused, beside what each is of.
-use Rattle.std.proofs.Common.{◌≡◌, ℕ, zero, suc, ◌<◌, List, [], ◌∷◌, Result, Ok, IfOk, length, map, slice_index_or, refl, ◌∙◌, ap, arith}
+use Rattle.std.proofs.Common.{◌≡◌, ℕ, suc, ◌<◌, List, [], ◌∷◌, Result, Ok, IfOk, length, map, slice_index_or, refl, ◌∙◌, ap, arith}
 
 pub all_told : {X T E : Type 0} (f : X → T) (xs : List X) (ts : List T) → length (map {A = T} {B = Result T E} Ok ts) ≡ length xs
     → ((i : ℕ) (r : Result T E) (x : X) → i < length xs → IfOk (slice_index_or (map {A = T} {B = Result T E} Ok ts) i r) (λ t. t ≡ f (slice_index_or xs i x))) → ts ≡ map f xs

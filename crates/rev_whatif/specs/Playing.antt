@@ -1,6 +1,6 @@
 -- What the functions of a trial ask and tell of each other.
 -- Rule of this project: no count wraps, and a trial that lacked memory is told of nothing else.
-use Rattle.std.specs.Prelude.{◌≡◌, ℕ, ◌+◌, ◌^◌, ◌<◌, List, Result, IfOk}
+use Rattle.std.specs.Prelude.{◌≡◌, ◌+◌, ◌^◌, ◌<◌, List, Result, IfOk}
 use Rattle.std.specs.declared.alloc.AllocError.{AllocError}
 use Rattle.rev_classes.specs.declared.Config.{Config}
 use Rattle.rev_model.specs.Actor.{Step}

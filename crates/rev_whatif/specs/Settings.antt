@@ -1,6 +1,6 @@
 -- Which cache a trial has, and which settings no cache has.
 -- Rule of this project: one setting gets another value, and all others stay as they are.
-use Rattle.std.specs.Prelude.{ℕ, Bool, true, cond, Option, None, Some}
+use Rattle.std.specs.Prelude.{Bool, true, cond, Option, None, Some}
 use Rattle.rev_classes.specs.Limits.{fault_of}
 use Rattle.rev_classes.specs.declared.Config.{Config}
 use Rattle.rev_classes.specs.declared.ConfigFault.{ConfigFault}

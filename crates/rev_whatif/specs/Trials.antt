@@ -1,6 +1,6 @@
 -- What a trace counts on an empty store with another setting.
--- Rule of this project: the steps on the way from the root to the current node are played again, one after another, by the
--- model's own step. Each is counted as the report counts it, and a key that left is counted where it was evicted.
+-- Rule of this project: the steps on the way from the root to the current node are played again, one after another, by
+-- the model's own step. Each is counted as the report counts it, and a key that left is counted where it was evicted.
 use Rattle.std.specs.Prelude.{ℕ, ◌+◌, List, [], ◌∷◌, ◌++◌, Option, None, Some, Result, Ok, Err}
 use Rattle.std.specs.List.{count_by}
 use Rattle.rev_classes.specs.declared.Config.{Config}

@@ -23,13 +23,13 @@ pub enum Setting {
     Pages(u32),
     /// The growth factor of chunk sizes, `num / den`.
     Factor { num: u32, den: u32 },
-    /// HOT's share of a class's bytes, in per cent. It holds from the trace's first step up to its own `lru tune`, if it
-    /// has one.
+    /// HOT's share of a class's bytes, in per cent. It holds from the trace's first step up to its own `lru tune`, if
+    /// it has one.
     HotShare(u32),
     /// WARM's share of a class's bytes, in per cent. It holds as long as HOT's does.
     WarmShare(u32),
-    /// An item that expires within fewer seconds enters TEMP; negative: none does. It holds from the trace's first step up
-    /// to its own `lru temp_ttl`, if it has one.
+    /// An item that expires within fewer seconds enters TEMP; negative: none does. It holds from the trace's first step
+    /// up to its own `lru temp_ttl`, if it has one.
     TempTtl(i32),
 }
 
@@ -105,7 +105,8 @@ impl Setting {
         }
     }
 
-    /// Why a cache of this configuration cannot have the setting, if it cannot. A trial tells the same. No memory is taken.
+    /// Why a cache of this configuration cannot have the setting, if it cannot. A trial tells the same. No memory is
+    /// taken.
     pub fn fault(self, config: &Config) -> Option<SettingFault>
         ensures { result ≡ fault_with config.entry.now self }
     {

@@ -1,5 +1,5 @@
-//! Trials side by side count what they count one after another, and a trial of the session's own setting counts what its path
-//! does.
+//! Trials side by side count what they count one after another, and a trial of the session's own setting counts what
+//! its path does.
 use crate::{Counts, Setting, Trial, try_settings};
 use rev_classes::Config;
 use rev_figures::{count_all, gather};
@@ -105,12 +105,7 @@ fn opened<R: Abort>(rt: &R, alloc: Global) -> Session<Global> {
 }
 
 fn numbers(counts: Counts) -> [usize; 4] {
-    [
-        counts.hits,
-        counts.misses,
-        counts.stores,
-        counts.evictions,
-    ]
+    [counts.hits, counts.misses, counts.stores, counts.evictions]
 }
 
 fn told(trial: &Trial) -> Option<[usize; 4]> {

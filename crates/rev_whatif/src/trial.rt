@@ -282,15 +282,15 @@ fn all_done(results: &[Result<Trial, AllocError>], alloc: Global) -> Result<Vec<
     Ok(trials)
 }
 
-/// A trial of each setting, in their order: the steps on the way from the session's root to its current node are played on an
-/// empty store that has the configuration with this one setting, and counted. What led to the root is not played.
+/// A trial of each setting, in their order: the steps on the way from the session's root to its current node are played
+/// on an empty store that has the configuration with this one setting, and counted. What led to the root is not played.
 ///
 /// A step that names a class by its number names the class of that number in the trial's own table of classes, and is
 /// answered as it is there.
 ///
 /// Each trial has a thread of its own, where one can be made, and counts what it would count alone. The session is only
-/// read. A trial holds a store while it runs, and of the data what the session's steps hold already; it keeps no node and
-/// no record.
+/// read. A trial holds a store while it runs, whose data are those of the session's steps; it keeps no node and no
+/// record.
 ///
 /// Err: a growth was refused.
 pub fn try_settings<R: Threads + Sync>(

@@ -14,19 +14,19 @@ loop-i-preserved g c =
     let few = c.loop-i.invariant.few in
     elim c.match-change.branch [
       | in-Some+then-tells_eviction w ↦ record {
-          told = λ n after.
-              let one = w.tells_eviction.ensures n ∙ ap (λ b. cond b 1 0) w.if-tells_eviction.true in
-              lost_next n e o changes i w.in-Some.undo.now after c.loop-i.count c.match-change.count (lost n e o (removals_from changes 0 after)) w.in-Some.ensures.0 w.in-Some.ensures.1
-              (c.loop-i.invariant.told n after) (omega (arith, one, w.count-is));
-          few = omega (arith, few, w.count-is);
-        }
+        told = λ n after.
+            let one = w.tells_eviction.ensures n ∙ ap (λ b. cond b 1 0) w.if-tells_eviction.true in
+            lost_next n e o changes i w.in-Some.undo.now after c.loop-i.count c.match-change.count (lost n e o (removals_from changes 0 after)) w.in-Some.ensures.0 w.in-Some.ensures.1
+            (c.loop-i.invariant.told n after) (omega (arith, one, w.count-is));
+        few = omega (arith, few, w.count-is);
+      }
       | in-Some+else-tells_eviction w ↦ record {
-          told = λ n after.
-              let none = w.tells_eviction.ensures n ∙ ap (λ b. cond b 1 0) w.if-tells_eviction.false in
-              lost_next n e o changes i w.in-Some.undo.now after c.loop-i.count c.match-change.count (lost n e o (removals_from changes 0 after)) w.in-Some.ensures.0 w.in-Some.ensures.1
-              (c.loop-i.invariant.told n after) (omega (arith, none, w.count-is));
-          few = omega (arith, few, w.count-is);
-        }
+        told = λ n after.
+            let none = w.tells_eviction.ensures n ∙ ap (λ b. cond b 1 0) w.if-tells_eviction.false in
+            lost_next n e o changes i w.in-Some.undo.now after c.loop-i.count c.match-change.count (lost n e o (removals_from changes 0 after)) w.in-Some.ensures.0 w.in-Some.ensures.1
+            (c.loop-i.invariant.told n after) (omega (arith, none, w.count-is));
+        few = omega (arith, few, w.count-is);
+      }
       | in_default w ↦ absurd (omega (arith, c.loop-i-test.true, c.len-i-end.ensures.value, w.in_default.ensures))
     ]
 

@@ -16,6 +16,6 @@ pub returns-clause-few : goal.returns-clause-few
 returns-clause-few g c =
     let e = plain_step c.args.step.now in
     let told = ap (λ o. evicted (departures_in 0 e o (step_removals c.args.store.now e))) (sym c.in_ok-outcome.ensures.outcome)
-        ∙ ap (λ rs. evicted (departures_in 0 e c.in_ok-outcome.outcome rs)) (sym c.in_ok-outcome.ensures.told) in
+    ∙ ap (λ rs. evicted (departures_in 0 e c.in_ok-outcome.outcome rs)) (sym c.in_ok-outcome.ensures.told) in
     let few = record_few 0 e c.in_ok-outcome.outcome c.in_ok-outcome.record.moves c.in_ok-outcome.record.notes c.play.new.store in
     omega (arith, told, few, c.in_ok-outcome.ensures.few)

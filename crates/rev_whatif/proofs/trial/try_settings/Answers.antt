@@ -13,9 +13,9 @@ returns g c =
     let told = trial_of config (map (λ step. plain_step step.now) c.as_slice.result.now) in
     IfOk-weaker c.all_done.result (λ trials. map Ok trials.items ≡ c.as_slice-2.result.now) (λ trials. trials.items ≡ map (trial_of config path) settings)
     (λ trials e.
-      let same = e ∙ c.as_slice-2.ensures.value in
-      all_told told settings trials.items (ap length same ∙ c.in_ok-results.ensures.count)
-      (λ i r x lt. subst (λ l. IfOk (slice_index_or l i r) (λ t. t ≡ told (slice_index_or settings i x))) (sym same) (c.in_ok-results.ensures.each i r x lt).told)
-      ∙ ap (λ l. map (trial_of config (map (λ step. plain_step step.now) l)) settings) c.as_slice.ensures.value
-      ∙ ap (λ es. map (trial_of config es) settings) c.in_ok-steps.ensures.steps)
+    let same = e ∙ c.as_slice-2.ensures.value in
+    all_told told settings trials.items (ap length same ∙ c.in_ok-results.ensures.count)
+    (λ i r x lt. subst (λ l. IfOk (slice_index_or l i r) (λ t. t ≡ told (slice_index_or settings i x))) (sym same) (c.in_ok-results.ensures.each i r x lt).told)
+    ∙ ap (λ l. map (trial_of config (map (λ step. plain_step step.now) l)) settings) c.as_slice.ensures.value
+    ∙ ap (λ es. map (trial_of config es) settings) c.in_ok-steps.ensures.steps)
     c.all_done.ensures
