@@ -8,6 +8,8 @@ pub mod path;
 pub mod tables;
 mod walk;
 
+pub use gone::has_stored;
+pub use kinds::kind_of;
 pub use path::{Leaving, PageMove, Path, PathStep, QueueBytes, StepKind};
-pub use tables::{CauseCounts, ClassFigures, Totals, Which, class_figures, count_all};
+pub use tables::{CauseCounts, ClassFigures, Totals, Which, class_figures, count_all, is_eviction};
 pub use walk::gather;
