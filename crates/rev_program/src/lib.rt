@@ -12,6 +12,7 @@ pub mod opening;
 pub mod play;
 pub mod program;
 pub mod progress;
+pub mod report;
 mod rows;
 mod starts;
 pub mod state;
