@@ -139,8 +139,8 @@ fn begun<R: Files + AllocGlobal, C: Clock, W: Sink>(
     started(&alloc, config, dialect, files)
 }
 
-// The session with the configuration of its store, where all went well.
-fn kept(
+/// The session with the configuration of its store, where all went well.
+pub(crate) fn kept(
     session: Session<Global>,
     config: Config,
     played: Result<(), Stop>,

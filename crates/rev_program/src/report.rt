@@ -2,7 +2,7 @@
 ghost use Rattle.std.specs.Prelude.{◌≡◌, IfSome};
 ghost use Rattle.rev_program.specs.Program.{EndsPlainly};
 
-use crate::direct::{with_logs, with_rows};
+use crate::direct::{kept, with_logs, with_rows};
 use crate::import::{cannot_write, rename, with_end};
 use crate::opening::{Full, opened_with_traces};
 use crate::program::ended;
@@ -56,7 +56,7 @@ struct Told {
 }
 
 // Adds where the traces fill the tree, if they do.
-fn add_full(notes: &mut Vec<u8>, full: Option<Full>) -> Result<(), AllocError> {
+fn add_full(notes: &mut Vec<u8>, full: Option<Full>) -> Result<(), Stop> {
     let Some(full) = full else {
         return Ok(());
     };
@@ -66,7 +66,8 @@ fn add_full(notes: &mut Vec<u8>, full: Option<Full>) -> Result<(), AllocError> {
         b": line ",
         full.line,
         b": no room in the tree for this step and what follows; --start FILE plays any number of steps before the traces\n",
-    )
+    )?;
+    Ok(())
 }
 
 // The session behind the traces, and the configuration of its store.
@@ -85,9 +86,13 @@ fn with_scripts<R: Files + AllocGlobal, C: Clock, W: Sink>(
     if let Some(fault) = fault_of(&config) {
         return Err(Stop::from(fault));
     }
-    let (session, full) = opened_with_traces(rt, &config, manner.dialect, starts, traces, progress)?;
-    add_full(notes, full)?;
-    Ok((session, config))
+    match opened_with_traces(rt, &config, manner.dialect, starts, traces, progress) {
+        Err(stop) => Err(stop),
+        Ok((session, full)) => {
+            let told = add_full(notes, full);
+            kept(session, config, told)
+        }
+    }
 }
 
 // The session behind what is played, and the configuration of its store.
