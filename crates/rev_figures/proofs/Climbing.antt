@@ -39,7 +39,8 @@ pub record Read : Type 0 where
 abbrev pub read_of : {A : Type 0} → Path A → Read
 read_of p = record { steps = p.steps.items; leavings = p.leavings.items; moves = p.moves.items; bytes = p.bytes.items }
 
--- the session stands at depth d of the way to where it stood, and what stands below was read; a slot has l steps, the way m
+-- the session stands at depth d of the way to where it stood, and what stands below was read; a slot has l steps, the
+-- way m
 pub record Climbing (v now : SessionState) (d l m : ℕ) (first read : Read) (asked : List ℕ → Ask) : Type 0 where
   pub climb : Climbs v d
   pub stands : now ≡ record v { current = climb.node }

@@ -5,3 +5,4 @@ pub mod Rows
 pub mod Paths
 pub mod Climbing
 pub mod Tables
+pub mod Classes

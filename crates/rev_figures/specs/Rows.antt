@@ -48,8 +48,8 @@ abbrev pub idle_of : State → Option PlainItem → ℕ
 idle_of s None = 0
 idle_of s (Some i) = s.globals.clock - i.time
 
--- the row of a key that left at the i-th step, at second t, where s was the state before; a are the look-ups that missed
--- it since
+-- the row of a key that left at the i-th step, at second t, where s was the state before; a are the look-ups that
+-- missed it since
 abbrev pub leaving_row : State → ℕ → ℕ → PlainDeparture → Ask → Leaving
 leaving_row s i t d a = record {
   node = record { 0 = d.node };

@@ -1,13 +1,17 @@
-//! Figures of a trace that was played: where a cache loses its keys, when and why, and which of them are asked for again.
+//! Figures of a trace that was played: where a cache loses its keys, when and why, and which of them are asked for
+//! again.
 #![tactic(auto)]
 
 mod asks;
+mod by_class;
+pub mod classes;
 mod gone;
 mod kinds;
 pub mod path;
 pub mod tables;
 mod walk;
 
+pub use classes::{ClassFigures, class_figures};
 pub use path::{Leaving, PageMove, Path, PathStep, QueueBytes, StepKind};
-pub use tables::{CauseCounts, ClassFigures, Totals, Which, class_figures, count_all};
+pub use tables::{CauseCounts, NO_CAUSES, Totals, Which, count_all};
 pub use walk::gather;

@@ -1,4 +1,5 @@
 //! The page of a report.
+use crate::agreement::Agreement;
 use crate::classes::put_classes;
 use crate::figures::Figures;
 use crate::header::put_header;
@@ -11,6 +12,7 @@ use crate::queues::{QueueCurve, put_queues, queue_curves};
 use crate::slots::{left_columns, move_columns};
 use crate::style::{FILLS, STYLE};
 use crate::times::put_times;
+use crate::what_if::{WhatIf, put_what_ifs};
 use rev_classes::Config;
 use std::alloc::{AllocError, Global};
 
@@ -24,6 +26,10 @@ pub struct Subject<'a> {
     pub options: &'a [u8],
     /// What was guessed or left out, a line each.
     pub notes: &'a [u8],
+    /// How far the replay agrees with the log of which the trace was made, where there is one.
+    pub agreement: Option<Agreement>,
+    /// The trace with other settings.
+    pub what_ifs: &'a [WhatIf],
 }
 
 /// What the pictures are made of.
@@ -76,5 +82,6 @@ pub fn put_page(
     put_times(out, figures, &curves.left, &curves.moved)?;
     put_queues(out, alloc, figures, &curves.queues)?;
     put_keys(out, figures, lives)?;
+    put_what_ifs(out, alloc, figures, subject.what_ifs)?;
     put(out, &[Markup("</main></body></html>\n")])
 }

@@ -5,6 +5,7 @@ use crate::keys::{cause_words, step_of};
 use crate::life::Life;
 use crate::page::Curves;
 use crate::plot::Column;
+use crate::what_if::{Counts, Trial, Value, WhatIf, own_counts, setting_word};
 use crate::words::{CAUSES, QUEUES, second_after};
 use csv::{Writer, WriterBuilder};
 use itoa::Buffer;
@@ -237,6 +238,80 @@ pub fn write_lives<W: Write + Drop>(
     end(&mut rows)?;
     for life in lives {
         put_life(&mut rows, &figures.path, life)?;
+    }
+    sent(rows)
+}
+
+// Puts what the steps did.
+fn put_counts<W: Write + Drop>(rows: &mut Writer<W>, counts: &Counts) -> Result<(), RowsFailed> {
+    put_numbers(
+        rows,
+        &[
+            counts.hits,
+            counts.misses,
+            u64::from(counts.share().thousandths()),
+            counts.evictions,
+        ],
+    )
+}
+
+// Puts a setting's value, as a number and what it is divided by, and which run it is of.
+fn put_run<W: Write + Drop>(
+    rows: &mut Writer<W>,
+    what_if: &WhatIf,
+    value: Option<Value>,
+    run: &str,
+) -> Result<(), RowsFailed> {
+    put_word(rows, setting_word(what_if.setting).as_bytes())?;
+    match value {
+        Some(value) => put_numbers(rows, &[u64::from(value.num), u64::from(value.den)])?,
+        None => put_words(rows, &["", ""])?,
+    }
+    put_word(rows, run.as_bytes())
+}
+
+fn put_trial<W: Write + Drop>(
+    rows: &mut Writer<W>,
+    what_if: &WhatIf,
+    trial: &Trial,
+) -> Result<(), RowsFailed> {
+    put_run(rows, what_if, Some(trial.value), "what if")?;
+    match &trial.counts {
+        Some(counts) => put_counts(rows, counts)?,
+        None => put_words(rows, &["", "", "", ""])?,
+    }
+    end(rows)
+}
+
+/// Writes what other settings would have done, with a row for the trace itself in front of each setting's.
+pub fn write_what_ifs<W: Write + Drop>(
+    writer: W,
+    figures: &Figures,
+    what_ifs: &[WhatIf],
+) -> Result<(), RowsFailed> {
+    let mut rows = WriterBuilder::new().from_writer(writer);
+    put_words(
+        &mut rows,
+        &[
+            "setting",
+            "value",
+            "divided by",
+            "run",
+            "hits",
+            "misses",
+            "hit share, thousandths",
+            "evictions",
+        ],
+    )?;
+    end(&mut rows)?;
+    let own = own_counts(figures);
+    for what_if in what_ifs {
+        put_run(&mut rows, what_if, what_if.own, "this trace")?;
+        put_counts(&mut rows, &own)?;
+        end(&mut rows)?;
+        for trial in &what_if.trials {
+            put_trial(&mut rows, what_if, trial)?;
+        }
     }
     sent(rows)
 }

@@ -1,7 +1,7 @@
 //! The parts of a trace, one behind another, and what happened in each.
 use crate::plot::Column;
 use crate::words::cause_numbers;
-use rev_figures::{CauseCounts, Leaving, PageMove, Path, QueueBytes};
+use rev_figures::{CauseCounts, Leaving, NO_CAUSES, PageMove, Path, QueueBytes};
 use rev_model::Cause;
 use std::alloc::{AllocError, Global};
 
@@ -50,16 +50,7 @@ fn count(counts: &mut CauseCounts, cause: Cause) {
 
 // How many keys left in a slot, by cause.
 fn left_in(leavings: &[Leaving], slot: Slot) -> CauseCounts {
-    let mut counts = CauseCounts {
-        evicted: 0,
-        evicted_by_mover: 0,
-        reclaimed_by_pull: 0,
-        reclaimed_by_crawler: 0,
-        reclaimed_by_hit: 0,
-        reclaimed_by_mover: 0,
-        deleted: 0,
-        dropped_by_failed_set: 0,
-    };
+    let mut counts = NO_CAUSES;
     let first = leavings.partition_point(|leaving| leaving.step <= slot.from);
     let last = leavings.partition_point(|leaving| leaving.step <= slot.to);
     if let Some(inside) = leavings.get(first..last) {
@@ -112,10 +103,17 @@ pub fn move_columns(
     Ok(columns)
 }
 
+/// The rows behind so many steps, of rows in the order of their steps.
+pub fn rows_at(rows: &[QueueBytes], step: usize) -> &[QueueBytes] {
+    let first = rows.partition_point(|row| row.step < step);
+    let last = rows.partition_point(|row| row.step <= step);
+    rows.get(first..last).unwrap_or(&[])
+}
+
 // The bytes of a class's queues behind so many steps.
 fn bytes_at(rows: &[QueueBytes], class: usize, step: usize) -> [u64; 8] {
-    for row in rows {
-        if row.step == step && row.class == class {
+    for row in rows_at(rows, step) {
+        if row.class == class {
             return [row.hot, row.warm, row.cold, row.temp, 0, 0, 0, 0];
         }
     }
