@@ -12,6 +12,8 @@ pub mod tables;
 mod walk;
 
 pub use classes::{ClassFigures, class_figures};
+pub use gone::has_stored;
+pub use kinds::kind_of;
 pub use path::{Leaving, PageMove, Path, PathStep, QueueBytes, StepKind};
-pub use tables::{CauseCounts, NO_CAUSES, Totals, Which, count_all};
+pub use tables::{CauseCounts, NO_CAUSES, Totals, Which, count_all, is_eviction};
 pub use walk::gather;
