@@ -33,8 +33,8 @@ pub enum WhatIf {
     Hot(Vec<u32>),
     /// WARM's share of a class's bytes, in per cent.
     Warm(Vec<u32>),
-    /// By how short a time to live items enter TEMP, in seconds.
-    TempTtl(Vec<u32>),
+    /// Items that expire within fewer seconds enter TEMP; none is negative.
+    TempTtl(Vec<i32>),
 }
 
 /// A report to look at.
@@ -158,6 +158,18 @@ fn numbers_of(
     Ok(Some(numbers))
 }
 
+// The seconds of a list, if they all are some.
+fn seconds_of(alloc: Global, list: &str) -> Result<Option<Vec<i32>>, AllocError> {
+    let mut seconds = Vec::new(alloc);
+    for text in list.split(',') {
+        match text.parse::<i32>() {
+            Ok(number) if number >= 0 => seconds.push(number)?,
+            _ => return Ok(None),
+        }
+    }
+    Ok(Some(seconds))
+}
+
 // The factors of a list, if they all are some.
 fn factors_of(alloc: Global, list: &str) -> Result<Option<Vec<Factor>>, AllocError> {
     let mut factors = Vec::new(alloc);
@@ -170,10 +182,9 @@ fn factors_of(alloc: Global, list: &str) -> Result<Option<Vec<Factor>>, AllocErr
     Ok(Some(factors))
 }
 
-// The most pages, the most per cent of HOT or WARM, and the longest time to live.
+// The most pages, and the most per cent of HOT or WARM.
 const MOST_PAGES: u32 = 4096;
 const MOST_SHARE: u32 = 79;
-const MOST_TEMP_TTL: u32 = 2147483647;
 
 // The values of a setting of this name, if there is one and they are some of it.
 fn values_of(alloc: Global, name: &str, list: &str) -> Result<Option<WhatIf>, AllocError> {
@@ -182,7 +193,7 @@ fn values_of(alloc: Global, name: &str, list: &str) -> Result<Option<WhatIf>, Al
         "factor" => factors_of(alloc, list)?.map(WhatIf::Factor),
         "hot" => numbers_of(alloc, list, 1, MOST_SHARE)?.map(WhatIf::Hot),
         "warm" => numbers_of(alloc, list, 1, MOST_SHARE)?.map(WhatIf::Warm),
-        "temp-ttl" => numbers_of(alloc, list, 0, MOST_TEMP_TTL)?.map(WhatIf::TempTtl),
+        "temp-ttl" => seconds_of(alloc, list)?.map(WhatIf::TempTtl),
         _ => None,
     })
 }

@@ -34,7 +34,7 @@ use std::mem::ManuallyDrop;
 use std::rt::{Clock, Files};
 
 /// All seconds.
-const ALL: Range = Range {
+pub(crate) const ALL: Range = Range {
     first: 0,
     last: u32::MAX,
     sample: Sample { one_of: 1 },
@@ -123,8 +123,8 @@ fn play_rows<R: Files + AllocGlobal, C: Clock, W: Sink>(
     Ok(())
 }
 
-// The session behind the starts. A configuration at fault is told before a file is opened.
-fn begun<R: Files + AllocGlobal, C: Clock, W: Sink>(
+/// The session behind the starts. A configuration at fault is told before a file is opened.
+pub(crate) fn begun<R: Files + AllocGlobal, C: Clock, W: Sink>(
     rt: &R,
     config: &Config,
     dialect: Dialect,

@@ -2,6 +2,7 @@
 //! scripts played at once by several players on one session, with the rows that tell how it went.
 #![tactic(auto)]
 
+mod agreement;
 mod check;
 pub mod direct;
 mod fault;
@@ -20,6 +21,7 @@ mod steps;
 mod stop;
 mod telling;
 pub mod traces;
+mod trials;
 
 pub use fault::RecordingFault;
 pub use stop::Stop;

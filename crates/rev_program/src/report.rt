@@ -2,29 +2,34 @@
 ghost use Rattle.std.specs.Prelude.{◌≡◌, IfSome};
 ghost use Rattle.rev_program.specs.Program.{EndsPlainly};
 
+use crate::agreement::{agreement_of, copies};
 use crate::direct::{kept, with_logs, with_rows};
 use crate::import::{cannot_write, rename, with_end};
 use crate::opening::{Full, opened_with_traces};
 use crate::program::ended;
 use crate::progress::Progress;
 use crate::stop::Stop;
+use crate::trials::what_ifs;
 use rev_classes::{ClassTable, Config, fault_of};
 use rev_intake::report::put_part;
 use rev_intake::words::put_all_options;
 use rev_items::{Key, KeyFault};
-use rev_options::{Opening, Played, Reporting, WhatIf};
+use rev_options::{Opening, Played, Reporting};
 use rev_output::Sink;
+use rev_report::agreement::Agreement;
 use rev_report::figures::{Figures, figures_of};
 use rev_report::life::{Life, life_of};
 use rev_report::page::{Curves, Subject, curves_of, put_page};
 use rev_report::rows::{
-    RowsFailed, write_classes, write_left, write_lives, write_moves, write_queues,
+    RowsFailed, write_classes, write_left, write_lives, write_moves, write_queues, write_what_ifs,
 };
+use rev_report::what_if::WhatIf;
 use rev_undotree::Session;
 use std::alloc::{AllocError, Global};
 use std::fs;
 use std::mem::ManuallyDrop;
 use std::rt::{Clock, Files};
+use std::thread::Threads;
 
 /// A file that is written: its name, its name until it is whole, and what it holds.
 #[derive(Drop)]
@@ -46,13 +51,16 @@ impl Output {
     }
 }
 
-// What is told of the trace beside its figures.
+/// What is told of a trace beside its figures.
 #[derive(Drop)]
 struct Told {
     // the names of the traces
     names: Vec<String>,
+    config: Config,
     // what was guessed or left out, a line each
     notes: Vec<u8>,
+    agreement: Option<Agreement>,
+    what_ifs: Vec<WhatIf>,
 }
 
 // Adds where the traces fill the tree, if they do.
@@ -109,18 +117,25 @@ fn played<R: Files + AllocGlobal, C: Clock, W: Sink>(
     }
 }
 
-// The names of what is played, in order.
-fn names_of(alloc: Global, asked: &Played) -> Result<Vec<String>, AllocError> {
-    let names = match asked {
-        Played::Traces(asked) => &asked.traces,
-        Played::Logs(asked) => &asked.logs,
-        Played::Rows(asked) => &asked.traces,
-    };
-    let mut copies = Vec::new(alloc);
-    for name in names {
-        copies.push(String::from_str(alloc, name.as_str())?)?;
+// How far a replay agrees with the logs that are played, where logs are.
+fn agreement<R: Files + AllocGlobal, C: Clock, W: Sink>(
+    rt: &R,
+    asked: &Played,
+    progress: &Progress<C, W>,
+) -> Result<Option<Agreement>, Stop> {
+    match asked {
+        Played::Logs(asked) => Ok(Some(agreement_of(rt, asked, progress)?)),
+        Played::Traces(_) | Played::Rows(_) => Ok(None),
     }
-    Ok(copies)
+}
+
+// The names of what is played, in order.
+fn names_of(asked: &Played) -> &[String] {
+    match asked {
+        Played::Traces(asked) => asked.traces.as_slice(),
+        Played::Logs(asked) => asked.logs.as_slice(),
+        Played::Rows(asked) => asked.traces.as_slice(),
+    }
 }
 
 // The key that a word names.
@@ -192,6 +207,7 @@ fn add_data(
     figures: &Figures,
     curves: &Curves,
     lives: &[Life],
+    what_ifs: &[WhatIf],
 ) -> Result<(), AllocError> {
     let mut classes = Output::new(alloc, prefix, ".classes.csv")?;
     in_memory(write_classes(&mut classes.text, figures))?;
@@ -205,12 +221,16 @@ fn add_data(
     let mut queues = Output::new(alloc, prefix, ".queues.csv")?;
     in_memory(write_queues(&mut queues.text, figures, curves))?;
     outputs.push(queues)?;
-    if lives.is_empty() {
-        return Ok(());
+    if !lives.is_empty() {
+        let mut keys = Output::new(alloc, prefix, ".keys.csv")?;
+        in_memory(write_lives(&mut keys.text, figures, lives))?;
+        outputs.push(keys)?;
     }
-    let mut keys = Output::new(alloc, prefix, ".keys.csv")?;
-    in_memory(write_lives(&mut keys.text, figures, lives))?;
-    outputs.push(keys)?;
+    if !what_ifs.is_empty() {
+        let mut trials = Output::new(alloc, prefix, ".what-if.csv")?;
+        in_memory(write_what_ifs(&mut trials.text, figures, what_ifs))?;
+        outputs.push(trials)?;
+    }
     Ok(())
 }
 
@@ -218,7 +238,6 @@ fn add_data(
 fn outputs_of(
     alloc: Global,
     session: &mut Session<Global>,
-    config: &Config,
     table: &ClassTable,
     told: &Told,
     out: &str,
@@ -228,12 +247,14 @@ fn outputs_of(
     let figures = figures_of(alloc, session, table)?;
     let curves = curves_of(alloc, &figures)?;
     let lives = lives_of(alloc, session, &figures, keys)?;
-    let options = options_of(alloc, config)?;
+    let options = options_of(alloc, &told.config)?;
     let subject = Subject {
         names: told.names.as_slice(),
-        config,
+        config: &told.config,
         options: options.as_slice(),
         notes: told.notes.as_slice(),
+        agreement: told.agreement,
+        what_ifs: told.what_ifs.as_slice(),
     };
     let mut outputs = Vec::new(alloc);
     let mut page = Output::new(alloc, out, "")?;
@@ -254,6 +275,7 @@ fn outputs_of(
             &figures,
             &curves,
             lives.as_slice(),
+            subject.what_ifs,
         )?;
     }
     Ok(outputs)
@@ -298,7 +320,7 @@ fn put_files<R: Files>(rt: &R, alloc: Global, outputs: &[Output]) -> Result<(), 
 }
 
 // Makes the report that is asked for.
-fn make<R: Files + AllocGlobal, C: Clock, W: Sink>(
+fn make<R: Files + Threads + Sync + AllocGlobal, C: Clock, W: Sink>(
     rt: &R,
     asked: Reporting,
     progress: &Progress<C, W>,
@@ -308,21 +330,28 @@ fn make<R: Files + AllocGlobal, C: Clock, W: Sink>(
         out,
         data,
         keys,
-        what_ifs: _,
+        what_ifs: others,
     } = asked;
     let alloc = rt.alloc();
     let keys = keys_of(alloc, keys.as_slice())?;
-    let names = names_of(alloc, &source)?;
+    let names = copies(alloc, names_of(&source))?;
+    let agreement = agreement(rt, &source, progress)?;
     let mut notes = Vec::new(alloc);
     let (session, config) = played(rt, source, &mut notes, progress)?;
     // The program ends behind it, and all its memory goes back at once.
     let mut session = ManuallyDrop::new(session);
-    let told = Told { names, notes };
+    let what_ifs = what_ifs(rt, &*session, &config, others.as_slice())?;
     let table = table_of(&config)?;
+    let told = Told {
+        names,
+        config,
+        notes,
+        agreement,
+        what_ifs,
+    };
     let outputs = outputs_of(
         alloc,
         &mut *session,
-        &config,
         &table,
         &told,
         out.as_str(),
@@ -335,7 +364,7 @@ fn make<R: Files + AllocGlobal, C: Clock, W: Sink>(
 /// Makes the report that is asked for: plays the trace as `open` does, and writes the page, and its tables and curves as
 /// CSV, where they are asked for. A file that cannot be written whole is not left, and neither are the others. Answers the
 /// exit status, 0 or 2 to 5. At status 0 nothing goes to `errors`, at any other the text of the reason.
-pub fn report<R: Files + AllocGlobal, E: Sink, C: Clock, W: Sink>(
+pub fn report<R: Files + Threads + Sync + AllocGlobal, E: Sink, C: Clock, W: Sink>(
     rt: &R,
     asked: Reporting,
     errors: &mut E,
