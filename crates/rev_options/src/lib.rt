@@ -13,7 +13,7 @@ ghost use Rattle.rev_options.specs.Request.{IsInRange, IsHeap, IsOfWords, OpensB
 
 use crate::import::{asks_import, import, import_command};
 use crate::opening::{asks_open, brings, open_command, opening_of};
-use crate::reporting::{asks_report, report_command, reporting};
+use crate::reporting::{asks_report, report_command, reporting_of};
 use clap::error::ErrorKind;
 use clap::{Arg, ArgAction, ArgMatches, Command, Error, value_parser};
 pub use csv::CsvImport;
@@ -380,7 +380,7 @@ fn report_request(alloc: Global, matches: &ArgMatches<'_>) -> Result<Request, Er
     ensures reports { IfOk result (ReportsBy true) }
 {
     match matches.subcommand_matches("report") {
-        Some(inner) => reporting(alloc, inner),
+        Some(inner) => reporting_of(alloc, inner),
         None => Err(fault(alloc, ErrorKind::MissingSubcommand, "report")?),
     }
 }

@@ -225,7 +225,7 @@ fn what_ifs_of(alloc: Global, matches: &ArgMatches<'_>) -> Result<Vec<WhatIf>, E
 }
 
 /// The report that the words ask for, or the parser's error.
-pub(crate) fn reporting(alloc: Global, matches: &ArgMatches<'_>) -> Result<Request, Error>
+pub(crate) fn reporting_of(alloc: Global, matches: &ArgMatches<'_>) -> Result<Request, Error>
     ensures range { IfOk result IsInRange }
     ensures words { IfOk result (IsOfWords false) }
     ensures opens { IfOk result (OpensBy false) }

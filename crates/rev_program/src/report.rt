@@ -104,7 +104,7 @@ fn with_scripts<R: Files + AllocGlobal, C: Clock, W: Sink>(
 }
 
 // The session behind what is played, and the configuration of its store.
-fn played<R: Files + AllocGlobal, C: Clock, W: Sink>(
+fn session_of<R: Files + AllocGlobal, C: Clock, W: Sink>(
     rt: &R,
     asked: Played,
     notes: &mut Vec<u8>,
@@ -118,7 +118,7 @@ fn played<R: Files + AllocGlobal, C: Clock, W: Sink>(
 }
 
 // How far a replay agrees with the logs that are played, where logs are.
-fn agreement<R: Files + AllocGlobal, C: Clock, W: Sink>(
+fn agreement_with<R: Files + AllocGlobal, C: Clock, W: Sink>(
     rt: &R,
     asked: &Played,
     progress: &Progress<C, W>,
@@ -319,14 +319,14 @@ fn put_files<R: Files>(rt: &R, alloc: Global, outputs: &[Output]) -> Result<(), 
     put
 }
 
-// Makes the report that is asked for.
-fn make<R: Files + Threads + Sync + AllocGlobal, C: Clock, W: Sink>(
+// Plays what is asked for, and writes the report of it.
+fn make_files<R: Files + Threads + Sync + AllocGlobal, C: Clock, W: Sink>(
     rt: &R,
     asked: Reporting,
     progress: &Progress<C, W>,
 ) -> Result<(), Stop> {
     let Reporting {
-        played: source,
+        played,
         out,
         data,
         keys,
@@ -334,10 +334,10 @@ fn make<R: Files + Threads + Sync + AllocGlobal, C: Clock, W: Sink>(
     } = asked;
     let alloc = rt.alloc();
     let keys = keys_of(alloc, keys.as_slice())?;
-    let names = copies(alloc, names_of(&source))?;
-    let agreement = agreement(rt, &source, progress)?;
+    let names = copies(alloc, names_of(&played))?;
+    let agreement = agreement_with(rt, &played, progress)?;
     let mut notes = Vec::new(alloc);
-    let (session, config) = played(rt, source, &mut notes, progress)?;
+    let (session, config) = session_of(rt, played, &mut notes, progress)?;
     // The program ends behind it, and all its memory goes back at once.
     let mut session = ManuallyDrop::new(session);
     let what_ifs = what_ifs(rt, &*session, &config, others.as_slice())?;
@@ -359,6 +359,29 @@ fn make<R: Files + Threads + Sync + AllocGlobal, C: Clock, W: Sink>(
         keys.as_slice(),
     )?;
     put_files(rt, alloc, outputs.as_slice())
+}
+
+// Sees that the page can be written. A part of it is there then, of no byte.
+fn claim<R: Files>(rt: &R, alloc: Global, page: &Output) -> Result<(), Stop> {
+    match fs::write(rt, page.part.as_str(), b"") {
+        Ok(()) => Ok(()),
+        Err(_) => Err(cannot_write(alloc, page.name.as_str())),
+    }
+}
+
+// Makes the report that is asked for, where its page can be written. Where that fails, nothing is left of it.
+fn make<R: Files + Threads + Sync + AllocGlobal, C: Clock, W: Sink>(
+    rt: &R,
+    asked: Reporting,
+    progress: &Progress<C, W>,
+) -> Result<(), Stop> {
+    let page = Output::new(rt.alloc(), asked.out.as_str(), "")?;
+    claim(rt, rt.alloc(), &page)?;
+    let made = make_files(rt, asked, progress);
+    if made.is_err() {
+        let _ = fs::remove_file(rt, page.part.as_str());
+    }
+    made
 }
 
 /// Makes the report that is asked for: plays the trace as `open` does, and writes the page, and its tables and curves as

@@ -45,7 +45,7 @@ fn add_settings(settings: &mut Vec<Setting>, asked: &Asked) -> Result<(), AllocE
     Ok(())
 }
 
-fn varied(asked: &Asked) -> Varied {
+fn setting_of(asked: &Asked) -> Varied {
     match asked {
         Asked::Pages(_) => Varied::Pages,
         Asked::Factor(_) => Varied::Factor,
@@ -101,7 +101,7 @@ fn what_if<R: Threads + Sync + AllocGlobal>(
     for tried in &try_settings(rt, session, config, settings.as_slice())? {
         trials.push(trial_of(tried))?;
     }
-    let setting = varied(asked);
+    let setting = setting_of(asked);
     Ok(WhatIf {
         setting,
         own: own_value(session, config, setting),
