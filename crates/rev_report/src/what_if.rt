@@ -175,8 +175,15 @@ fn put_own(out: &mut Vec<u8>, value: Option<Value>, counts: &Counts) -> Result<(
     put(out, &[Markup("</tr>")])
 }
 
-fn put_trial(out: &mut Vec<u8>, trial: &Trial) -> Result<(), AllocError> {
-    put(out, &[Markup("<tr><th scope=\"row\">")])?;
+fn put_trial(out: &mut Vec<u8>, setting: Varied, trial: &Trial) -> Result<(), AllocError> {
+    put(
+        out,
+        &[
+            Markup("<tr><th scope=\"row\"><span class=\"w\">"),
+            Markup(axis_name(setting)),
+            Markup(": </span>"),
+        ],
+    )?;
     put_value(out, trial.value)?;
     put(out, &[Markup("</th>")])?;
     match &trial.counts {
@@ -202,7 +209,7 @@ fn put_table(out: &mut Vec<u8>, what_if: &WhatIf, own: &Counts) -> Result<(), Al
     )?;
     put_own(out, what_if.own, own)?;
     for trial in &what_if.trials {
-        put_trial(out, trial)?;
+        put_trial(out, what_if.setting, trial)?;
     }
     put(out, &[Markup("</tbody></table></div>")])
 }
