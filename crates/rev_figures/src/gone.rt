@@ -40,7 +40,7 @@ fn is_same<A: Allocator>(a: &Key<A>, b: &Key<A>) -> bool
 }
 
 /// Whether a step that answered this stored the key.
-fn has_stored<A: Allocator>(step: &Step<A>, outcome: Outcome, key: &Key<A>) -> bool
+pub fn has_stored<A: Allocator>(step: &Step<A>, outcome: Outcome, key: &Key<A>) -> bool
     ensures { result ≡ is_key key.now (stored_key (plain_step step.now) outcome) }
 {
     match step.stored_key(outcome) {

@@ -14,6 +14,8 @@ mod walk;
 
 pub use by_slot::{left_by_slot, moves_by_slot};
 pub use classes::{ClassFigures, class_figures};
+pub use gone::has_stored;
+pub use kinds::kind_of;
 pub use path::{Leaving, PageMove, Path, PathStep, QueueBytes, StepKind};
-pub use tables::{CauseCounts, NO_CAUSES, Totals, Which, count_all};
+pub use tables::{CauseCounts, NO_CAUSES, Totals, Which, count_all, is_eviction};
 pub use walk::gather;

@@ -100,7 +100,7 @@ fn is_of(class: Option<u8>, other: u8) -> bool
 }
 
 /// Whether a cause is an eviction, by a set or by the page mover.
-fn is_eviction(cause: Cause) -> bool
+pub fn is_eviction(cause: Cause) -> bool
     ensures { result ≡ is_eviction cause }
 {
     let number = cause_number(cause);

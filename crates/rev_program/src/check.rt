@@ -119,14 +119,14 @@ impl Fate {
 
 /// How many gets and evictions are alike.
 #[derive(Clone, Copy, Default)]
-struct Tally {
-    // look-ups of the log, and those that the replay answers alike
-    gets: u64,
-    alike: u64,
-    // evictions of the log, those of the replay, and those of both
-    logged: u64,
-    replayed: u64,
-    both: u64,
+pub(crate) struct Tally {
+    /// Look-ups of the log, and those that the replay answers alike.
+    pub(crate) gets: u64,
+    pub(crate) alike: u64,
+    /// Evictions of the log, those of the replay, and those of both.
+    pub(crate) logged: u64,
+    pub(crate) replayed: u64,
+    pub(crate) both: u64,
 }
 
 fn count(number: &mut u64) {
@@ -298,12 +298,22 @@ impl Check {
         }
         match open_session(&alloc, config) {
             None => Err(Stop::Memory),
-            Some(session) => Ok(Check {
-                alloc,
-                session: ManuallyDrop::new(session),
-                comparison: Comparison::new(alloc),
-            }),
+            Some(session) => Ok(Check::on(alloc, session)),
         }
+    }
+
+    /// A replay that goes on from a session.
+    pub(crate) fn on(alloc: Global, session: Session<Global>) -> Check {
+        Check {
+            alloc,
+            session: ManuallyDrop::new(session),
+            comparison: Comparison::new(alloc),
+        }
+    }
+
+    /// How many gets and evictions are alike.
+    pub(crate) fn tally(&self) -> Tally {
+        self.comparison.tally
     }
 
     // Plays a step, and notes what it tells. Of the tree only its node is kept.

@@ -1,0 +1,13 @@
+//! What another setting of the cache would have done with a trace: its steps once more on an empty store, once for each
+//! setting, with what each run counts.
+#![tactic(auto)]
+
+mod path;
+mod setting;
+mod trial;
+
+pub use setting::{Setting, SettingFault};
+pub use trial::{Counts, Trial, try_settings};
+
+#[cfg(test)]
+mod tests;

@@ -1,0 +1,292 @@
+//! Trials: a trace on an empty store with one other setting.
+ghost use Rattle.std.specs.Prelude.{◌≡◌, ◌<◌, ◌≤◌, ◌^◌, ℕ, IfOk, OnOk, None, Ok, cond, length, map};
+ghost use Rattle.rev_model.specs.State.{State};
+ghost use Rattle.rev_model.specs.Sound.{Sound};
+ghost use Rattle.rev_model.specs.Causes.{step_removals};
+ghost use Rattle.rev_model.specs.Track.{removals};
+ghost use Rattle.rev_model.specs.Events.{is_key, stored_key};
+ghost use Rattle.rev_requests.specs.Plain.{plain_step};
+ghost use Rattle.rev_undotree.specs.Steps.{next, outcome_of};
+ghost use Rattle.rev_explain.specs.Readings.{removals_by};
+ghost use Rattle.rev_explain.specs.Departures.{departure, departures_in, departures_at};
+ghost use Rattle.rev_whatif.specs.Settings.{fault_with};
+ghost use Rattle.rev_whatif.specs.Trials.{path_steps, no_counts, with_kind, with_evictions, evicted, with_step, count_from, first_state, outcome_by, trial_of};
+ghost use Rattle.rev_whatif.specs.Room.{HasRoom};
+
+use crate::path::steps;
+use crate::setting::{Setting, SettingFault};
+use rev_changes::{Change, Record};
+use rev_classes::Config;
+use rev_figures::{StepKind, has_stored, is_eviction, kind_of};
+use rev_inverse::Store;
+use rev_items::Item;
+use rev_model::{Cause, Outcome};
+use rev_requests::Step;
+use rev_steps::apply;
+use rev_undotree::Session;
+use std::alloc::{AllocError, Allocator, Global};
+use std::thread;
+use std::thread::Threads;
+
+/// What the steps of a trial did. A look-up is a get or a touch.
+#[derive(Clone, Copy, Debug, PartialEq, Eq)]
+pub struct Counts {
+    /// Look-ups that found their key's item.
+    pub hits: usize,
+    /// Look-ups that found none, or a dead one.
+    pub misses: usize,
+    /// Steps that stored an item.
+    pub stores: usize,
+    /// Keys that left since they were evicted, by a set or by the page mover.
+    pub evictions: usize,
+}
+
+/// A setting, and what a trace counts with it.
+#[derive(Clone, Copy)]
+pub struct Trial {
+    pub setting: Setting,
+    /// What was counted, or why no cache has the setting.
+    pub outcome: Result<Counts, SettingFault>,
+}
+
+impl Counts {
+    /// What no step counts.
+    const NONE: Counts = Counts {
+        hits: 0,
+        misses: 0,
+        stores: 0,
+        evictions: 0,
+    };
+
+    /// Counts a step of this kind.
+    fn add_kind(&mut self, kind: StepKind)
+        requires { HasRoom self.old }
+        ensures { self.new ≡ with_kind kind self.old }
+    {
+        match kind {
+            StepKind::Stored => self.stores += 1,
+            StepKind::Hit => self.hits += 1,
+            StepKind::Miss => self.misses += 1,
+            StepKind::Other => {}
+        }
+    }
+
+    /// Counts so many evictions.
+    fn add_evictions(&mut self, count: usize)
+        requires room { HasRoom self.old }
+        requires few { count ≤ 64 }
+        ensures { self.new ≡ with_evictions count self.old }
+    {
+        self.evictions += count;
+    }
+}
+
+/// Whether a key that left for this cause was evicted by a step that did not store it again.
+fn is_evicted<A: Allocator>(
+    step: &Step<A>,
+    outcome: Outcome,
+    item: &Item<A>,
+    cause: Option<Cause>,
+) -> bool
+    ensures { (node : ℕ) → cond result 1 0 ≡ evicted (departure node item.now.key (is_key item.now.key (stored_key (plain_step step.now) outcome)) cause) }
+{
+    match cause {
+        Some(cause) => is_eviction(cause) && !has_stored(step, outcome, item.key()),
+        None => false,
+    }
+}
+
+/// Whether a change of a step's record tells of a key that was evicted.
+fn tells_eviction<A: Allocator>(step: &Step<A>, outcome: Outcome, undo: &Change<A>) -> bool
+    ensures { (node : ℕ) → cond result 1 0 ≡ evicted (departures_in node (plain_step step.now) outcome (removals_by undo.now)) }
+{
+    match undo {
+        Change::Enter { item, cause, .. } | Change::Revive { item, cause, .. } => {
+            is_evicted(step, outcome, item, *cause)
+        }
+        _ => false,
+    }
+}
+
+/// How many keys were evicted by a step, by its record.
+fn count_evicted<A: Allocator>(step: &Step<A>, outcome: Outcome, record: &Record<A>) -> usize
+    ensures count { (node : ℕ) (after : State) → result ≡ evicted (departures_in node (plain_step step.now) outcome (removals record.now.moves record.now.notes after)) }
+{
+    let mut count = 0;
+    for i in 0..record.len() {
+        match record.change(i) {
+            Some(undo) if tells_eviction(step, outcome, undo) => count += 1,
+            _ => {}
+        }
+    }
+    count
+}
+
+/// Plays a step, once more with fewer buckets where there was no memory.
+///
+/// Err: a growth was refused, and the store is as it was.
+fn play<A: Allocator + Clone>(
+    store: &mut Store<A>,
+    step: &Step<A>,
+) -> Result<(Outcome, Record<A>), AllocError>
+    requires { Sound store.old }
+    ensures state { OnOk result (store.new ≡ next store.old (plain_step step.now)) }
+    ensures outcome { IfOk result (λ p. p.0 ≡ outcome_of store.old (plain_step step.now)) }
+    ensures sound { OnOk result (Sound store.new) }
+    ensures few { IfOk result (λ p. length p.1.moves ≤ 64) }
+    ensures told { IfOk result (λ p. removals p.1.moves p.1.notes store.new ≡ step_removals store.old (plain_step step.now)) }
+{
+    match apply(store, step) {
+        Ok(played) => Ok(played),
+        Err(refused) => {
+            if !store.narrow() {
+                return Err(refused);
+            }
+            apply(store, step)
+        }
+    }
+}
+
+/// Plays a step, and counts what it did.
+///
+/// Err: a growth was refused.
+fn count_step<A: Allocator + Clone>(
+    store: &mut Store<A>,
+    counts: &mut Counts,
+    step: &Step<A>,
+) -> Result<(), AllocError>
+    requires sound { Sound store.old }
+    requires room { HasRoom counts.old }
+    ensures state { OnOk result (store.new ≡ next store.old (plain_step step.now)) }
+    ensures sound { OnOk result (Sound store.new) }
+    ensures counts { OnOk result (counts.new ≡ with_step store.old (plain_step step.now) counts.old) }
+    ensures few { OnOk result (evicted (departures_at 0 store.old (plain_step step.now)) ≤ 64) }
+{
+    let (outcome, record) = play(store, step)?;
+    counts.add_kind(kind_of(step, outcome));
+    counts.add_evictions(count_evicted(step, outcome, &record));
+    Ok(())
+}
+
+/// Plays the steps in order, and counts what they did.
+///
+/// Err: a growth was refused.
+fn count_steps<A: Allocator + Clone>(
+    store: &mut Store<A>,
+    steps: &[&Step<A>],
+) -> Result<Counts, AllocError>
+    requires sound { Sound store.old }
+    requires few { length steps.now < 2 ^ 32 }
+    ensures { IfOk result (λ counts. counts ≡ count_from store.old (map (λ step. plain_step step.now) steps.now) no_counts) }
+{
+    let mut counts = Counts::NONE;
+    for step in steps {
+        count_step(store, &mut counts, step)?;
+    }
+    Ok(counts)
+}
+
+/// The empty store of a configuration with the setting.
+///
+/// Err: a growth was refused.
+fn opened<A: Allocator + Clone>(
+    alloc: A,
+    config: &Config,
+    setting: Setting,
+) -> Result<Store<A>, AllocError>
+    requires { fault_with config.now setting ≡ None }
+    ensures state { IfOk result (λ store. store ≡ first_state config.entry.now setting) }
+    ensures sound { IfOk result (λ store. Sound store) }
+{
+    let Ok(mut store) = Store::open(alloc, setting.config(config)) else {
+        return Err(AllocError);
+    };
+    if let Ok(Some(tune)) = setting.tune() {
+        let (_, _record) = play(&mut store, &Step::Tune(tune))?;
+    }
+    Ok(store)
+}
+
+/// What the steps count on an empty store with the setting, or why no cache has it.
+///
+/// Err: a growth was refused.
+fn outcome_with<A: Allocator + Clone>(
+    alloc: A,
+    config: &Config,
+    setting: Setting,
+    steps: &[&Step<A>],
+) -> Result<Result<Counts, SettingFault>, AllocError>
+    requires { length steps.now < 2 ^ 32 }
+    ensures { IfOk result (λ outcome. outcome ≡ outcome_by config.entry.now (map (λ step. plain_step step.now) steps.now) setting (fault_with config.entry.now setting)) }
+{
+    if let Some(fault) = setting.fault(config) {
+        return Ok(Err(fault));
+    }
+    let mut store = opened(alloc, config, setting)?;
+    let counts = count_steps(&mut store, steps);
+    drop(store);
+    Ok(Ok(counts?))
+}
+
+/// A trial of a setting.
+///
+/// Err: a growth was refused.
+fn try_setting<A: Allocator + Clone>(
+    alloc: A,
+    config: &Config,
+    setting: Setting,
+    steps: &[&Step<A>],
+) -> Result<Trial, AllocError>
+    requires { length steps.now < 2 ^ 32 }
+    ensures { IfOk result (λ trial. trial ≡ trial_of config.entry.now (map (λ step. plain_step step.now) steps.now) setting) }
+{
+    let outcome = outcome_with(alloc, config, setting, steps)?;
+    Ok(Trial { setting, outcome })
+}
+
+/// The trials, if none lacked memory.
+///
+/// Err: a growth was refused.
+fn all_done(results: &[Result<Trial, AllocError>], alloc: Global) -> Result<Vec<Trial>, AllocError>
+    ensures { IfOk result (λ trials. map Ok trials.items ≡ results.now) }
+{
+    let mut trials = Vec::with_capacity(alloc, results.len())?;
+    for result in results {
+        match result {
+            Ok(trial) => trials.push(*trial)?,
+            Err(_) => return Err(AllocError),
+        }
+    }
+    Ok(trials)
+}
+
+/// A trial of each setting, in their order: the steps on the way from the session's root to its current node are played on an
+/// empty store that has the configuration with this one setting, and counted. What led to the root is not played.
+///
+/// A step that names a class by its number names the class of that number in the trial's own table of classes, and is
+/// answered as it is there.
+///
+/// Each trial has a thread of its own, where one can be made, and counts what it would count alone. The session is only
+/// read. A trial holds a store while it runs, and of the data what the session's steps hold already; it keeps no node and
+/// no record.
+///
+/// Err: a growth was refused.
+pub fn try_settings<R: Threads + Sync>(
+    rt: &R,
+    session: &Session<Global>,
+    config: &Config,
+    settings: &[Setting],
+) -> Result<Vec<Trial>, AllocError>
+    ensures { IfOk result (λ trials. trials.items ≡ map (trial_of config.entry.now (path_steps session.now.rows session.now.current)) settings.now) }
+{
+    let alloc = session.store().alloc()?;
+    let steps = steps(session)?;
+    let path = steps.as_slice();
+    let results = thread::map_indices(
+        rt,
+        alloc,
+        settings.len(),
+        &|i| { try_setting(alloc, config, settings[i], path) },
+    )?;
+    all_done(results.as_slice(), alloc)
+}
