@@ -6,3 +6,4 @@ pub mod Paths
 pub mod Climbing
 pub mod Tables
 pub mod Classes
+pub mod Slots

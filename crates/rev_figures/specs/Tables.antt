@@ -1,6 +1,6 @@
 -- The tables of a report, over the rows of a path.
 -- Rule of this project: what a report counts of the steps and of the keys that left.
-use Rattle.std.specs.Prelude.{ℕ, ◌+◌, ◌-◌, ◌/◌, ◌^◌, fold, Bool, true, false, not, cond, ◌&&◌, ◌||◌, ◌≡◌, nat_eq, nat_lt, min, List, [], ◌∷◌, Option, None, Some, map, length, slice_get}
+use Rattle.std.specs.Prelude.{ℕ, ◌+◌, ◌-◌, ◌/◌, ◌^◌, fold, Bool, true, not, cond, ◌&&◌, ◌||◌, ◌≡◌, nat_eq, nat_lt, min, List, Option, None, Some, map, length, slice_get}
 use Rattle.std.specs.List.{filter, count_by}
 use Rattle.std.specs.List.Sorted.{IsPermutation, IsSorted}
 use Rattle.std.specs.Ordering.{nat_cmp}

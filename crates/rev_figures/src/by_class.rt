@@ -30,7 +30,7 @@ pub struct LeftCounts {
 }
 
 /// A count with one more, if there is one.
-fn more(is_one: bool, count: usize) -> usize
+pub fn more(is_one: bool, count: usize) -> usize
     ensures { result ≡ more is_one count }
 {
     if is_one {
@@ -52,7 +52,7 @@ fn with_step(counts: StepCounts, step: &PathStep) -> StepCounts
 }
 
 /// The counts of a cause with one more.
-fn with_cause(counts: CauseCounts, leaving: &Leaving) -> CauseCounts
+pub fn with_cause(counts: CauseCounts, leaving: &Leaving) -> CauseCounts
     ensures { result ≡ with_cause counts leaving.now }
 {
     let is_by = |cause| is_one(Which::By(cause), leaving);

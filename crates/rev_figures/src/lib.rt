@@ -4,6 +4,7 @@
 
 mod asks;
 mod by_class;
+mod by_slot;
 pub mod classes;
 mod gone;
 mod kinds;
@@ -11,6 +12,7 @@ pub mod path;
 pub mod tables;
 mod walk;
 
+pub use by_slot::{left_by_slot, moves_by_slot};
 pub use classes::{ClassFigures, class_figures};
 pub use gone::has_stored;
 pub use kinds::kind_of;

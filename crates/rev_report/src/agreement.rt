@@ -40,7 +40,7 @@ fn put_share(out: &mut Vec<u8>, name: &'static str, share: Share) -> Result<(), 
 pub fn put_agreement(out: &mut Vec<u8>, agreement: &Agreement) -> Result<(), AllocError> {
     put(
         out,
-        &[Markup("<h3>Agreement with the server\u{2019}s log</h3><dl>")],
+        &[Markup("<h3>Agreement with the server\u{2019}s log</h3><dl class=\"few\">")],
     )?;
     put_share(out, "Gets answered as logged", agreement.gets)?;
     put_share(out, "Logged evictions replayed", agreement.evictions)?;

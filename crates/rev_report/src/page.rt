@@ -67,6 +67,26 @@ fn put_front(out: &mut Vec<u8>) -> Result<(), AllocError> {
     )
 }
 
+// Puts the tables and pictures of steps, or that there is none.
+fn put_steps(
+    out: &mut Vec<u8>,
+    alloc: Global,
+    subject: &Subject<'_>,
+    figures: &Figures,
+    curves: &Curves,
+) -> Result<(), AllocError> {
+    if figures.totals.steps == 0 {
+        return put(
+            out,
+            &[Markup("<p>The trace has no step, so there is nothing to count or to draw.</p>")],
+        );
+    }
+    put_classes(out, figures)?;
+    put_times(out, figures, &curves.left, &curves.moved)?;
+    put_queues(out, alloc, figures, &curves.queues)?;
+    put_what_ifs(out, alloc, figures, subject.what_ifs)
+}
+
 /// Puts the whole page.
 pub fn put_page(
     out: &mut Vec<u8>,
@@ -78,10 +98,7 @@ pub fn put_page(
 ) -> Result<(), AllocError> {
     put_front(out)?;
     put_header(out, subject, figures)?;
-    put_classes(out, figures)?;
-    put_times(out, figures, &curves.left, &curves.moved)?;
-    put_queues(out, alloc, figures, &curves.queues)?;
+    put_steps(out, alloc, subject, figures, curves)?;
     put_keys(out, figures, lives)?;
-    put_what_ifs(out, alloc, figures, subject.what_ifs)?;
     put(out, &[Markup("</main></body></html>\n")])
 }

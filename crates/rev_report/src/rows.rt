@@ -1,4 +1,9 @@
 //! The rows of a report's tables and curves, as CSV.
+ghost use Rattle.std.specs.Prelude.{◌≡◌, ◌≢◌, ◌++◌, OnOk, decimal};
+ghost use Rattle.std.specs.Io.KnownBytes.{Appends};
+ghost use Rattle.csv.specs.Writing.{writer_setup, fields_written, text_written, next_sep, field_text};
+ghost use Rattle.csv.specs.declared.writer.QuoteStyle.TheVariants as style;
+
 use crate::classes::{CELL_NAMES, cells};
 use crate::figures::Figures;
 use crate::keys::{cause_words, step_of};
@@ -23,7 +28,9 @@ use thiserror::Error;
 pub struct RowsFailed;
 
 // Puts a field.
-fn put_word<W: Write + Drop>(rows: &mut Writer<W>, word: &[u8]) -> Result<(), RowsFailed> {
+fn put_word<W: Write + Drop>(rows: &mut Writer<W>, word: &[u8]) -> Result<(), RowsFailed>
+    ensures { OnOk result (((writer_setup rows.old).style ≢ style.NonNumeric) → Appends (text_written W.contents rows.old) (text_written W.contents rows.new) (next_sep (writer_setup rows.old) (fields_written rows.old) ++ field_text (writer_setup rows.old) word.now)) }
+{
     match rows.write_field(word) {
         Ok(()) => Ok(()),
         Err(_) => Err(RowsFailed),
@@ -31,7 +38,9 @@ fn put_word<W: Write + Drop>(rows: &mut Writer<W>, word: &[u8]) -> Result<(), Ro
 }
 
 // Puts a field that is a number.
-fn put_number<W: Write + Drop>(rows: &mut Writer<W>, n: u64) -> Result<(), RowsFailed> {
+fn put_number<W: Write + Drop>(rows: &mut Writer<W>, n: u64) -> Result<(), RowsFailed>
+    ensures { OnOk result (((writer_setup rows.old).style ≢ style.NonNumeric) → Appends (text_written W.contents rows.old) (text_written W.contents rows.new) (next_sep (writer_setup rows.old) (fields_written rows.old) ++ field_text (writer_setup rows.old) (decimal n))) }
+{
     let mut digits = Buffer::new();
     put_word(rows, digits.format(n).as_bytes())
 }

@@ -1,4 +1,6 @@
 //! What other settings would have done with the trace.
+ghost use Rattle.std.specs.Prelude.{◌≡◌, ◌+◌, ◌-◌, ◌*◌, ◌/◌, ◌^◌, max, min};
+
 use crate::curve::{Point, put_evictions, put_shares};
 use crate::figures::Figures;
 use crate::markup::Piece::{Count, Markup};
@@ -32,7 +34,9 @@ pub struct Value {
 
 impl Value {
     /// In thousandths, rounded down.
-    pub fn thousandths(self) -> u64 {
+    pub fn thousandths(self) -> u64
+        ensures { result ≡ self.num * 1000 / max self.den 1 }
+    {
         u64::from(self.num) * 1000 / u64::from(self.den.max(1))
     }
 }
@@ -49,7 +53,10 @@ pub struct Counts {
 
 impl Counts {
     /// How many of the look-ups hit.
-    pub fn share(&self) -> Share {
+    pub fn share(&self) -> Share
+        ensures part { result.part ≡ self.now.hits }
+        ensures whole { result.whole ≡ min (self.now.hits + self.now.misses) (2 ^ 64 - 1) }
+    {
         Share {
             part: self.hits,
             whole: self.hits.saturating_add(self.misses),
@@ -76,7 +83,11 @@ pub struct WhatIf {
 }
 
 /// What the steps of the trace itself did.
-pub fn own_counts(figures: &Figures) -> Counts {
+pub fn own_counts(figures: &Figures) -> Counts
+    ensures hits { result.hits ≡ figures.now.totals.hits }
+    ensures misses { result.misses ≡ figures.now.totals.misses }
+    ensures evictions { result.evictions ≡ min (figures.now.totals.left.evicted + figures.now.totals.left.evicted_by_mover) (2 ^ 64 - 1) }
+{
     let left = &figures.totals.left;
     Counts {
         hits: figures.totals.hits as u64,
@@ -164,8 +175,15 @@ fn put_own(out: &mut Vec<u8>, value: Option<Value>, counts: &Counts) -> Result<(
     put(out, &[Markup("</tr>")])
 }
 
-fn put_trial(out: &mut Vec<u8>, trial: &Trial) -> Result<(), AllocError> {
-    put(out, &[Markup("<tr><th scope=\"row\">")])?;
+fn put_trial(out: &mut Vec<u8>, setting: Varied, trial: &Trial) -> Result<(), AllocError> {
+    put(
+        out,
+        &[
+            Markup("<tr><th scope=\"row\"><span class=\"w\">"),
+            Markup(axis_name(setting)),
+            Markup(": </span>"),
+        ],
+    )?;
     put_value(out, trial.value)?;
     put(out, &[Markup("</th>")])?;
     match &trial.counts {
@@ -191,7 +209,7 @@ fn put_table(out: &mut Vec<u8>, what_if: &WhatIf, own: &Counts) -> Result<(), Al
     )?;
     put_own(out, what_if.own, own)?;
     for trial in &what_if.trials {
-        put_trial(out, trial)?;
+        put_trial(out, what_if.setting, trial)?;
     }
     put(out, &[Markup("</tbody></table></div>")])
 }

@@ -1,5 +1,6 @@
 //! Words and numbers as a reader sees them.
-ghost use Rattle.std.specs.Prelude.{◌≡◌, [], ◌∷◌};
+ghost use Rattle.std.specs.Prelude.{◌≡◌};
+ghost use Rattle.rev_report.specs.Cells.{causes_of};
 
 use crate::markup::Piece::{Count, Markup, Plain, Tenths};
 use crate::markup::put;
@@ -26,8 +27,7 @@ pub const CAUSE_FILLS: [&str; 8] = [
 
 /// The numbers of causes, in the same order.
 pub fn cause_numbers(left: &CauseCounts) -> [u64; 8]
-    ensures { result ≡ left.now.evicted ∷ left.now.evicted_by_mover ∷ left.now.deleted ∷ left.now.dropped_by_failed_set
-        ∷ left.now.reclaimed_by_hit ∷ left.now.reclaimed_by_pull ∷ left.now.reclaimed_by_crawler ∷ left.now.reclaimed_by_mover ∷ [] }
+    ensures { result ≡ causes_of left.now }
 {
     [
         left.evicted as u64,
