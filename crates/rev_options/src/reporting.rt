@@ -60,6 +60,17 @@ fn traces<'a>(alloc: Global) -> Result<Arg<'a>, AllocError> {
         .required_unless_present_any(&["watch", "csv"])
 }
 
+// Another setting is played from an empty store on, which is not where starts lead.
+fn what_ifs<'a>(alloc: Global) -> Result<Arg<'a>, AllocError> {
+    names(
+        alloc,
+        "what-if",
+        "NAME=V,..",
+        "Also plays the trace with each of these values of a setting: pages, factor (as 5/4), hot, warm or temp-ttl [may be given again]",
+    )
+    .conflicts_with("start")
+}
+
 /// The subcommand `report`.
 pub(crate) fn report_command<'a>(alloc: Global) -> Result<Command<'a>, AllocError> {
     let command = Command::new(alloc, "report").about(
@@ -83,12 +94,7 @@ pub(crate) fn report_command<'a>(alloc: Global) -> Result<Command<'a>, AllocErro
             "KEY",
             "Also tells the life of a key [may be given again]",
         ))?
-        .arg(names(
-            alloc,
-            "what-if",
-            "NAME=V,..",
-            "Also plays the trace with each of these values of a setting: pages, factor (as 5/4), hot, warm or temp-ttl [may be given again]",
-        ))?;
+        .arg(what_ifs(alloc)?)?;
     with_imports(alloc, command)
 }
 

@@ -10,6 +10,7 @@ use rev_options::WatchOpening;
 use rev_output::{Sink, ToWrite};
 use rev_report::agreement::Agreement;
 use rev_report::share::Share;
+use rev_undotree::MAX_NODES;
 use std::alloc::{AllocError, Global};
 use std::io;
 use std::io::Read;
@@ -55,8 +56,8 @@ pub(crate) fn copies(alloc: Global, names: &[String]) -> Result<Vec<String>, All
     Ok(copies)
 }
 
-/// How far a replay of the logs, behind the starts, agrees with them. The logs are read for it, and what they become is
-/// played as `import watch --check` plays it.
+/// How far a replay of the logs, behind the starts, agrees with them, of as many steps as a tree has room for. The logs
+/// are read for it, and what they become is played as `import watch --check` plays it.
 pub(crate) fn agreement_of<R: Files + AllocGlobal, C: Clock, W: Sink>(
     rt: &R,
     asked: &WatchOpening,
@@ -71,7 +72,7 @@ pub(crate) fn agreement_of<R: Files + AllocGlobal, C: Clock, W: Sink>(
     progress.expect(rt, names);
     let starts = copies(alloc, starts)?;
     let session = begun(rt, &config, asked.manner.dialect, starts, progress)?;
-    let mut check = Check::on(alloc, session);
+    let mut check = Check::on(alloc, session, u64::from(MAX_NODES));
     let logs = all_opened(rt, alloc, names, io::empty(), progress)?;
     compare(&mut intake, names, logs, &mut check)?;
     Ok(told(check.tally()))

@@ -288,6 +288,8 @@ pub(crate) struct Check {
     // (the program ends behind it, and all its memory goes back at once)
     session: ManuallyDrop<Session<Global>>,
     comparison: Comparison,
+    // how many steps are played and compared yet
+    steps_left: u64,
 }
 
 impl Check {
@@ -298,16 +300,17 @@ impl Check {
         }
         match open_session(&alloc, config) {
             None => Err(Stop::Memory),
-            Some(session) => Ok(Check::on(alloc, session)),
+            Some(session) => Ok(Check::on(alloc, session, u64::MAX)),
         }
     }
 
-    /// A replay that goes on from a session.
-    pub(crate) fn on(alloc: Global, session: Session<Global>) -> Check {
+    /// A replay that goes on from a session, of at most so many steps.
+    pub(crate) fn on(alloc: Global, session: Session<Global>, most_steps: u64) -> Check {
         Check {
             alloc,
             session: ManuallyDrop::new(session),
             comparison: Comparison::new(alloc),
+            steps_left: most_steps,
         }
     }
 
@@ -318,6 +321,7 @@ impl Check {
 
     // Plays a step, and notes what it tells. Of the tree only its node is kept.
     fn play(&mut self, step: Step<Global>, said: &Said) -> Result<(), AllocError> {
+        self.steps_left = self.steps_left.saturating_sub(1);
         self.session.restart();
         play_quietly(&mut *self.session, step)?;
         let Some((_, step, outcome, _)) = self.session.trail(1) else {
@@ -384,6 +388,9 @@ impl Check {
     fn replay(&mut self, piece: &[u8], events: &[Noted]) -> Result<(), AllocError> {
         let mut lines = Lines::of(self.alloc, FromRead::new(piece), Dialect::CrLf);
         for event in events {
+            if self.steps_left == 0 {
+                return Ok(());
+            }
             self.note(&event.said)?;
             self.play_lines(&mut lines, event.lines, &event.said)?;
         }
