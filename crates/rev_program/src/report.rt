@@ -1,6 +1,8 @@
 //! `lrudb report`: traces are played as `open` plays them, and a page tells where the cache loses its keys.
 ghost use Rattle.std.specs.Prelude.{◌≡◌, IfSome};
-ghost use Rattle.rev_program.specs.Program.{EndsPlainly};
+ghost use Rattle.rev_program.specs.Program.{EndsPlainly, StopsBy};
+ghost use Rattle.rev_program.specs.Reporting.{played_fault};
+ghost use Rattle.rev_program.specs.Stop.{stop_of_config};
 
 use crate::agreement::{agreement_of, copies};
 use crate::direct::{kept, with_logs, with_rows};
@@ -10,7 +12,7 @@ use crate::program::ended;
 use crate::progress::Progress;
 use crate::stop::Stop;
 use crate::trials::what_ifs;
-use rev_classes::{ClassTable, Config, fault_of};
+use rev_classes::{ClassTable, Config, ConfigFault, fault_of};
 use rev_intake::report::put_part;
 use rev_intake::words::put_all_options;
 use rev_items::{Key, KeyFault};
@@ -126,6 +128,17 @@ fn agreement_with<R: Files + AllocGlobal, C: Clock, W: Sink>(
     match asked {
         Played::Logs(asked) => Ok(Some(agreement_of(rt, asked, progress)?)),
         Played::Traces(_) | Played::Rows(_) => Ok(None),
+    }
+}
+
+// The first limit that the configuration breaks, where one is asked for.
+fn played_fault(asked: &Played) -> Option<ConfigFault>
+    ensures { result ≡ played_fault asked.now }
+{
+    match asked {
+        Played::Traces(asked) => fault_of(&asked.config),
+        Played::Rows(asked) => fault_of(&asked.config),
+        Played::Logs(_) => None,
     }
 }
 
@@ -323,17 +336,17 @@ fn put_files<R: Files>(rt: &R, alloc: Global, outputs: &[Output]) -> Result<(), 
 fn make_files<R: Files + Threads + Sync + AllocGlobal, C: Clock, W: Sink>(
     rt: &R,
     asked: Reporting,
+    keys: &[Key<Global>],
     progress: &Progress<C, W>,
 ) -> Result<(), Stop> {
     let Reporting {
         played,
         out,
         data,
-        keys,
+        keys: _,
         what_ifs: others,
     } = asked;
     let alloc = rt.alloc();
-    let keys = keys_of(alloc, keys.as_slice())?;
     let names = copies(alloc, names_of(&played))?;
     let agreement = agreement_with(rt, &played, progress)?;
     let mut notes = Vec::new(alloc);
@@ -356,7 +369,7 @@ fn make_files<R: Files + Threads + Sync + AllocGlobal, C: Clock, W: Sink>(
         &told,
         out.as_str(),
         &data,
-        keys.as_slice(),
+        keys,
     )?;
     put_files(rt, alloc, outputs.as_slice())
 }
@@ -375,9 +388,10 @@ fn make<R: Files + Threads + Sync + AllocGlobal, C: Clock, W: Sink>(
     asked: Reporting,
     progress: &Progress<C, W>,
 ) -> Result<(), Stop> {
+    let keys = keys_of(rt.alloc(), asked.keys.as_slice())?;
     let page = Output::new(rt.alloc(), asked.out.as_str(), "")?;
     claim(rt, rt.alloc(), &page)?;
-    let made = make_files(rt, asked, progress);
+    let made = make_files(rt, asked, keys.as_slice(), progress);
     if made.is_err() {
         let _ = fs::remove_file(rt, page.part.as_str());
     }
@@ -386,15 +400,20 @@ fn make<R: Files + Threads + Sync + AllocGlobal, C: Clock, W: Sink>(
 
 /// Makes the report that is asked for: plays the trace as `open` does, and writes the page, and its tables and curves
 /// as CSV, where they are asked for. A file that cannot be written whole is not left, and neither are the others. Answers
-/// the exit status, 0 or 2 to 5. At status 0 nothing goes to `errors`, at any other the text of the reason.
+/// the exit status, 0 or 2 to 5. At status 0 nothing goes to `errors`, at any other the text of the reason. A configuration
+/// at fault is told before a file is opened, and that the page cannot be written before one is read.
 pub fn report<R: Files + Threads + Sync + AllocGlobal, E: Sink, C: Clock, W: Sink>(
     rt: &R,
     asked: Reporting,
     errors: &mut E,
     progress: &Progress<C, W>,
 ) -> u8
-    ensures { EndsPlainly (E.contents errors.old) (E.contents errors.new) (E.failures errors.old) (E.failures errors.new) result }
+    ensures config { IfSome (played_fault asked.played) (λ fault. StopsBy (E.contents errors.old) (E.contents errors.new) (E.failures errors.old) (E.failures errors.new) result (stop_of_config fault)) }
+    ensures ends { EndsPlainly (E.contents errors.old) (E.contents errors.new) (E.failures errors.old) (E.failures errors.new) result }
 {
+    if let Some(fault) = played_fault(&asked.played) {
+        return ended(Err(Stop::from(fault)), errors);
+    }
     let done = make(rt, asked, progress);
     progress.end();
     ended(done, errors)
