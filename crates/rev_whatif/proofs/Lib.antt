@@ -1,0 +1,4 @@
+pub mod Trying
+pub mod Reading
+pub mod Evictions
+pub mod Counting

@@ -1,3 +1,3 @@
 pub mod Settings
 pub mod Trials
-pub mod Room
+pub mod Playing

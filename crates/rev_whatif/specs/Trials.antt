@@ -61,7 +61,7 @@ evicted ds = count_by (λ (d : PlainDeparture). is_eviction d.cause) ds
 
 -- a step more, which is played at s; the number of its node, 0 here, is not counted
 abbrev pub with_step : State → Step → Counts → Counts
-with_step s e c = with_evictions (evicted (departures_at 0 s e)) (with_kind (kind_of e (outcome_of s e)) c)
+with_step s e c = with_kind (kind_of e (outcome_of s e)) (with_evictions (evicted (departures_at 0 s e)) c)
 
 -- steps more, which are played one after another, the first one at s
 abbrev pub count_from : State → List Step → Counts → Counts

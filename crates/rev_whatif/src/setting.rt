@@ -1,5 +1,5 @@
 //! The settings of a cache that are varied.
-ghost use Rattle.std.specs.Prelude.{◌≡◌, IfOk, OnOk, OnErr, true, false};
+ghost use Rattle.std.specs.Prelude.{◌≡◌, IfOk, IfErr, OnOk, OnErr, None, Some, true, false};
 ghost use Rattle.rev_whatif.specs.Settings.{config_with, first_tune, is_within, fault_with};
 
 use rev_classes::{Config, ConfigFault, fault_of};
@@ -86,16 +86,32 @@ impl Setting {
         }
     }
 
-    /// Why a cache of this configuration cannot have the setting, if it cannot.
+    /// The configuration with the setting, and what sets a share, if the setting is one.
+    ///
+    /// Err: why no cache has it.
+    pub(crate) fn applied_to(self, config: &Config) -> Result<(Config, Option<Tune>), SettingFault>
+        ensures ok { OnOk result (fault_with config.entry.now self ≡ None) }
+        ensures config { IfOk result (λ p. p.0 ≡ config_with config.entry.now self) }
+        ensures tune { IfOk result (λ p. p.1 ≡ first_tune config.entry.now self) }
+        ensures err { IfErr result (λ fault. fault_with config.entry.now self ≡ Some fault) }
+    {
+        let config = self.config(config);
+        if let Some(fault) = fault_of(&config) {
+            return Err(SettingFault::Config(fault));
+        }
+        match self.tune() {
+            Ok(tune) => Ok((config, tune)),
+            Err(_) => Err(SettingFault::Share),
+        }
+    }
+
+    /// Why a cache of this configuration cannot have the setting, if it cannot. A trial tells the same. No memory is taken.
     pub fn fault(self, config: &Config) -> Option<SettingFault>
         ensures { result ≡ fault_with config.entry.now self }
     {
-        match fault_of(&self.config(config)) {
-            Some(fault) => Some(SettingFault::Config(fault)),
-            None => match self.tune() {
-                Ok(_) => None,
-                Err(_) => Some(SettingFault::Share),
-            },
+        match self.applied_to(config) {
+            Ok(_) => None,
+            Err(fault) => Some(fault),
         }
     }
 }

@@ -1,9 +1,11 @@
-//! Trials side by side count what trials one after another do.
-use crate::{Counts, Setting, SettingFault, Trial, try_settings};
-use rev_classes::{Config, ConfigFault};
+//! Trials side by side count what they count one after another, and a trial of the session's own setting counts what its path
+//! does.
+use crate::{Counts, Setting, Trial, try_settings};
+use rev_classes::Config;
+use rev_figures::{count_all, gather};
 use rev_inverse::Store;
 use rev_items::Key;
-use rev_requests::{ActorStep, ClientStep, KeyCommand, Payload, Step, StoreVerb, Tune};
+use rev_requests::{ActorStep, ClientStep, KeyCommand, Payload, Step, StoreVerb};
 use rev_undotree::Session;
 use std::alloc::Global;
 use std::process::Abort;
@@ -20,35 +22,39 @@ const CONFIG: Config = Config {
     now: 1,
 };
 
-// Keys that are stored in turn.
-const KEYS: u32 = 12;
+// So many keys are stored, and each is asked for, with one that was stored before it.
+const KEYS: u8 = 12;
 
+// The first one is the session's own. No cache has the last three.
 const SETTINGS: [Setting; 8] = [
     Setting::Pages(2),
     Setting::Pages(1),
     Setting::Pages(100),
     Setting::Factor { num: 2, den: 1 },
-    Setting::HotShare(79),
     Setting::TempTtl(100),
     Setting::Pages(0),
+    Setting::HotShare(79),
     Setting::WarmShare(61),
 ];
 
-fn key<R: Abort>(rt: &R, alloc: Global, number: u32) -> Key<Global> {
-    Key::new(
-        alloc,
-        &[
-            b'k',
-            b'0' + (number % 10) as u8,
-            b'0' + (number / 10 % 10) as u8,
-        ],
-    )
-    .expect(rt, "no key")
+// Hits, misses, stores and evictions of each.
+const EXPECTED: [Option<[usize; 4]>; 8] = [
+    Some([16, 8, 12, 8]),
+    Some([14, 10, 12, 10]),
+    Some([24, 0, 12, 0]),
+    Some([16, 8, 12, 8]),
+    Some([12, 12, 4, 0]),
+    None,
+    None,
+    None,
+];
+
+fn key<R: Abort>(rt: &R, alloc: Global, number: u8) -> Key<Global> {
+    Key::new(alloc, &[number]).expect(rt, "no key")
 }
 
-fn set<R: Abort>(rt: &R, alloc: Global, number: u32) -> Step<Global> {
-    let mut data = Vec::new(alloc);
-    data.push(b'x').expect(rt, "no memory");
+fn set<R: Abort>(rt: &R, alloc: Global, number: u8) -> Step<Global> {
+    let data = Vec::new(alloc);
     Step::Client(ClientStep::Store {
         verb: StoreVerb::Set,
         key: key(rt, alloc, number),
@@ -58,7 +64,7 @@ fn set<R: Abort>(rt: &R, alloc: Global, number: u32) -> Step<Global> {
     })
 }
 
-fn get<R: Abort>(rt: &R, alloc: Global, number: u32) -> Step<Global> {
+fn get<R: Abort>(rt: &R, alloc: Global, number: u8) -> Step<Global> {
     Step::Client(ClientStep::Keyed {
         command: KeyCommand::Get,
         key: key(rt, alloc, number),
@@ -75,41 +81,76 @@ fn play<R: Abort>(rt: &R, session: &mut Session<Global>, step: Step<Global>) {
     }
 }
 
-// Plays sets of some keys, each with a get of it and of an older one.
 fn fill<R: Abort>(rt: &R, alloc: Global, session: &mut Session<Global>) {
     for number in 0..KEYS {
-        play(rt, session, Step::Actor(ActorStep::Clock(number + 2)));
-        play(rt, session, set(rt, alloc, number));
-        play(rt, session, get(rt, alloc, number));
-        play(rt, session, get(rt, alloc, number / 2));
+        let second = u32::from(number) + 2;
+        play(rt, session, Step::Actor(ActorStep::Clock(second)));
+        play(rt, session, set(rt, alloc, b'a' + number));
+        play(rt, session, get(rt, alloc, b'a' + number));
+        play(rt, session, get(rt, alloc, b'a' + number / 2));
     }
 }
 
-fn show<R: Print>(rt: &R, trial: &Trial) {
+fn opened<R: Abort>(rt: &R, alloc: Global) -> Session<Global> {
+    let Ok(store) = Store::open(alloc, CONFIG) else {
+        panic!(rt; "no memory")
+    };
+    match Session::open(alloc, store) {
+        Ok(session) => session,
+        Err(refused) => {
+            drop(refused);
+            panic!(rt; "no memory")
+        }
+    }
+}
+
+fn numbers(counts: Counts) -> [usize; 4] {
+    [
+        counts.hits,
+        counts.misses,
+        counts.stores,
+        counts.evictions,
+    ]
+}
+
+fn told(trial: &Trial) -> Option<[usize; 4]> {
     match trial.outcome {
-        Ok(c) => {
-            let _ = println!(rt; "{:?} {:?}", trial.setting, c);
-        }
-        Err(e) => {
-            let _ = println!(rt; "{:?} {:?}", trial.setting, e);
-        }
+        Ok(counts) => Some(numbers(counts)),
+        Err(_) => None,
+    }
+}
+
+// What the path of the session counts.
+fn own<R: Abort>(rt: &R, session: &mut Session<Global>) -> [usize; 4] {
+    let path = gather(session).expect(rt, "no memory");
+    let totals = count_all(&path);
+    drop(path);
+    [
+        totals.hits,
+        totals.misses,
+        totals.stores,
+        totals.left.evicted,
+    ]
+}
+
+fn look<R: Threads + Abort + Sync>(rt: &R, session: &Session<Global>) {
+    let trials = try_settings(rt, session, &CONFIG, &SETTINGS).expect(rt, "no memory");
+    assert!(rt; trials.len() == EXPECTED.len());
+    for (i, trial) in trials.iter().enumerate() {
+        assert!(rt; told(trial) == EXPECTED[i], "trial {i}");
+        let alone = try_settings(rt, session, &CONFIG, &SETTINGS[i..=i]).expect(rt, "no memory");
+        assert!(rt; alone.len() == 1);
+        assert!(rt; told(&alone[0]) == told(trial), "trial {i} alone");
     }
 }
 
 #[test]
-fn all_settings(rt: HostRuntime) {
+fn trials_of_all_settings(rt: HostRuntime) {
     let alloc = rt.alloc();
-    let Ok(store) = Store::open(alloc, CONFIG) else {
-        panic!(rt; "no store")
-    };
-    let Ok(mut session) = Session::open(alloc, store) else {
-        panic!(rt; "no session")
-    };
+    let mut session = opened(&rt, alloc);
     fill(&rt, alloc, &mut session);
-    let trials = try_settings(&rt, &session, &CONFIG, &SETTINGS).expect(&rt, "no memory");
-    for trial in trials.as_slice() {
-        show(&rt, trial);
-    }
+    look(&rt, &session);
+    let own = own(&rt, &mut session);
     drop(session);
-    panic!(&rt; "look");
+    assert!(&rt; Some(own) == EXPECTED[0]);
 }

@@ -1,17 +1,18 @@
 //! Trials: a trace on an empty store with one other setting.
-ghost use Rattle.std.specs.Prelude.{◌≡◌, ◌<◌, ◌≤◌, ◌^◌, ℕ, IfOk, OnOk, None, Ok, cond, length, map};
+ghost use Rattle.std.specs.Prelude.{◌≡◌, ◌<◌, ◌≤◌, ◌^◌, ℕ, IfOk, OnOk, Ok, cond, length, map, slice_index_or};
 ghost use Rattle.rev_model.specs.State.{State};
 ghost use Rattle.rev_model.specs.Sound.{Sound};
 ghost use Rattle.rev_model.specs.Causes.{step_removals};
 ghost use Rattle.rev_model.specs.Track.{removals};
 ghost use Rattle.rev_model.specs.Events.{is_key, stored_key};
 ghost use Rattle.rev_requests.specs.Plain.{plain_step};
+ghost use Rattle.rev_inverse.specs.Empty.{empty_state};
 ghost use Rattle.rev_undotree.specs.Steps.{next, outcome_of};
 ghost use Rattle.rev_explain.specs.Readings.{removals_by};
 ghost use Rattle.rev_explain.specs.Departures.{departure, departures_in, departures_at};
 ghost use Rattle.rev_whatif.specs.Settings.{fault_with};
-ghost use Rattle.rev_whatif.specs.Trials.{path_steps, no_counts, with_kind, with_evictions, evicted, with_step, count_from, first_state, outcome_by, trial_of};
-ghost use Rattle.rev_whatif.specs.Room.{HasRoom};
+ghost use Rattle.rev_whatif.specs.Trials.{path_steps, no_counts, with_kind, with_evictions, evicted, with_step, count_from, tuned, outcome_by, trial_of};
+ghost use Rattle.rev_whatif.specs.Playing.{HasRoom, IsTried};
 
 use crate::path::steps;
 use crate::setting::{Setting, SettingFault};
@@ -19,9 +20,9 @@ use rev_changes::{Change, Record};
 use rev_classes::Config;
 use rev_figures::{StepKind, has_stored, is_eviction, kind_of};
 use rev_inverse::Store;
-use rev_items::Item;
+use rev_items::Key;
 use rev_model::{Cause, Outcome};
-use rev_requests::Step;
+use rev_requests::{Step, Tune};
 use rev_steps::apply;
 use rev_undotree::Session;
 use std::alloc::{AllocError, Allocator, Global};
@@ -58,11 +59,13 @@ impl Counts {
         evictions: 0,
     };
 
-    /// Counts a step of this kind.
-    fn add_kind(&mut self, kind: StepKind)
-        requires { HasRoom self.old }
-        ensures { self.new ≡ with_kind kind self.old }
+    /// Counts a step of this kind that evicted so many keys.
+    fn add(&mut self, kind: StepKind, evictions: usize)
+        requires room { HasRoom self.old }
+        requires few { evictions ≤ 64 }
+        ensures { self.new ≡ with_kind kind (with_evictions evictions self.old) }
     {
+        self.evictions += evictions;
         match kind {
             StepKind::Stored => self.stores += 1,
             StepKind::Hit => self.hits += 1,
@@ -70,53 +73,45 @@ impl Counts {
             StepKind::Other => {}
         }
     }
-
-    /// Counts so many evictions.
-    fn add_evictions(&mut self, count: usize)
-        requires room { HasRoom self.old }
-        requires few { count ≤ 64 }
-        ensures { self.new ≡ with_evictions count self.old }
-    {
-        self.evictions += count;
-    }
 }
 
-/// Whether a key that left for this cause was evicted by a step that did not store it again.
+/// Whether a key that left by this cause, if it left by one, was evicted, and not stored again by the same step.
 fn is_evicted<A: Allocator>(
     step: &Step<A>,
     outcome: Outcome,
-    item: &Item<A>,
+    key: &Key<A>,
     cause: Option<Cause>,
 ) -> bool
-    ensures { (node : ℕ) → cond result 1 0 ≡ evicted (departure node item.now.key (is_key item.now.key (stored_key (plain_step step.now) outcome)) cause) }
+    ensures { (node : ℕ) → evicted (departure node key.now (is_key key.now (stored_key (plain_step step.now) outcome)) cause) ≡ cond result 1 0 }
 {
     match cause {
-        Some(cause) => is_eviction(cause) && !has_stored(step, outcome, item.key()),
+        Some(cause) => is_eviction(cause) && !has_stored(step, outcome, key),
         None => false,
     }
 }
 
 /// Whether a change of a step's record tells of a key that was evicted.
 fn tells_eviction<A: Allocator>(step: &Step<A>, outcome: Outcome, undo: &Change<A>) -> bool
-    ensures { (node : ℕ) → cond result 1 0 ≡ evicted (departures_in node (plain_step step.now) outcome (removals_by undo.now)) }
+    ensures { (node : ℕ) → evicted (departures_in node (plain_step step.now) outcome (removals_by undo.now)) ≡ cond result 1 0 }
 {
     match undo {
         Change::Enter { item, cause, .. } | Change::Revive { item, cause, .. } => {
-            is_evicted(step, outcome, item, *cause)
+            is_evicted(step, outcome, item.key(), *cause)
         }
         _ => false,
     }
 }
 
-/// How many keys were evicted by a step, by its record.
-fn count_evicted<A: Allocator>(step: &Step<A>, outcome: Outcome, record: &Record<A>) -> usize
-    ensures count { (node : ℕ) (after : State) → result ≡ evicted (departures_in node (plain_step step.now) outcome (removals record.now.moves record.now.notes after)) }
+/// How many keys a step evicted, by its record.
+fn count_evicted<A: Allocator>(step: &Step<A>, outcome: Outcome, trace: &Record<A>) -> usize
+    ensures { (node : ℕ) (after : State) → result ≡ evicted (departures_in node (plain_step step.now) outcome (removals trace.now.moves trace.now.notes after)) }
 {
     let mut count = 0;
-    for i in 0..record.len() {
-        match record.change(i) {
-            Some(undo) if tells_eviction(step, outcome, undo) => count += 1,
-            _ => {}
+    for i in 0..trace.len() {
+        if let Some(undo) = trace.change(i) {
+            if tells_eviction(step, outcome, undo) {
+                count += 1;
+            }
         }
     }
     count
@@ -163,8 +158,10 @@ fn count_step<A: Allocator + Clone>(
     ensures few { OnOk result (evicted (departures_at 0 store.old (plain_step step.now)) ≤ 64) }
 {
     let (outcome, record) = play(store, step)?;
-    counts.add_kind(kind_of(step, outcome));
-    counts.add_evictions(count_evicted(step, outcome, &record));
+    counts.add(
+        kind_of(step, outcome),
+        count_evicted(step, outcome, &record),
+    );
     Ok(())
 }
 
@@ -186,25 +183,27 @@ fn count_steps<A: Allocator + Clone>(
     Ok(counts)
 }
 
-/// The empty store of a configuration with the setting.
+/// The empty store of a configuration, once its shares and factors are set, if they are to be.
 ///
 /// Err: a growth was refused.
 fn opened<A: Allocator + Clone>(
     alloc: A,
-    config: &Config,
-    setting: Setting,
+    config: Config,
+    tune: Option<Tune>,
 ) -> Result<Store<A>, AllocError>
-    requires { fault_with config.now setting ≡ None }
-    ensures state { IfOk result (λ store. store ≡ first_state config.entry.now setting) }
+    ensures state { IfOk result (λ store. store ≡ tuned tune (empty_state config)) }
     ensures sound { IfOk result (λ store. Sound store) }
 {
-    let Ok(mut store) = Store::open(alloc, setting.config(config)) else {
+    let Ok(mut store) = Store::open(alloc, config) else {
         return Err(AllocError);
     };
-    if let Ok(Some(tune)) = setting.tune() {
-        let (_, _record) = play(&mut store, &Step::Tune(tune))?;
+    match tune {
+        None => Ok(store),
+        Some(tune) => {
+            let _played = play(&mut store, &Step::Tune(tune))?;
+            Ok(store)
+        }
     }
-    Ok(store)
 }
 
 /// What the steps count on an empty store with the setting, or why no cache has it.
@@ -219,16 +218,17 @@ fn outcome_with<A: Allocator + Clone>(
     requires { length steps.now < 2 ^ 32 }
     ensures { IfOk result (λ outcome. outcome ≡ outcome_by config.entry.now (map (λ step. plain_step step.now) steps.now) setting (fault_with config.entry.now setting)) }
 {
-    if let Some(fault) = setting.fault(config) {
-        return Ok(Err(fault));
-    }
-    let mut store = opened(alloc, config, setting)?;
+    let (config, tune) = match setting.applied_to(config) {
+        Ok(applied) => applied,
+        Err(fault) => return Ok(Err(fault)),
+    };
+    let mut store = opened(alloc, config, tune)?;
     let counts = count_steps(&mut store, steps);
     drop(store);
     Ok(Ok(counts?))
 }
 
-/// A trial of a setting.
+/// The trial of a setting.
 ///
 /// Err: a growth was refused.
 fn try_setting<A: Allocator + Clone>(
@@ -238,10 +238,32 @@ fn try_setting<A: Allocator + Clone>(
     steps: &[&Step<A>],
 ) -> Result<Trial, AllocError>
     requires { length steps.now < 2 ^ 32 }
-    ensures { IfOk result (λ trial. trial ≡ trial_of config.entry.now (map (λ step. plain_step step.now) steps.now) setting) }
+    ensures { IsTried config.entry.now (map (λ step. plain_step step.now) steps.now) setting result }
 {
     let outcome = outcome_with(alloc, config, setting, steps)?;
     Ok(Trial { setting, outcome })
+}
+
+/// The trials of all settings, each on a thread of its own where one can be made.
+///
+/// Err: a growth was refused.
+fn try_each<R: Threads + Sync>(
+    rt: &R,
+    alloc: Global,
+    config: &Config,
+    settings: &[Setting],
+    steps: &[&Step<Global>],
+) -> Result<Vec<Result<Trial, AllocError>>, AllocError>
+    requires { length steps.now < 2 ^ 32 }
+    ensures count { IfOk result (λ results. length results.items ≡ length settings.now) }
+    ensures each { IfOk result (λ results. (i : ℕ) (d : _) (x : _) → i < length settings.now → IsTried config.entry.now (map (λ step. plain_step step.now) steps.now) (slice_index_or settings.now i x) (slice_index_or results.items i d)) }
+{
+    thread::map_indices(
+        rt,
+        alloc,
+        settings.len(),
+        &|i| { try_setting(alloc, config, settings[i], steps) },
+    )
 }
 
 /// The trials, if none lacked memory.
@@ -281,12 +303,6 @@ pub fn try_settings<R: Threads + Sync>(
 {
     let alloc = session.store().alloc()?;
     let steps = steps(session)?;
-    let path = steps.as_slice();
-    let results = thread::map_indices(
-        rt,
-        alloc,
-        settings.len(),
-        &|i| { try_setting(alloc, config, settings[i], path) },
-    )?;
+    let results = try_each(rt, alloc, config, settings, steps.as_slice())?;
     all_done(results.as_slice(), alloc)
 }

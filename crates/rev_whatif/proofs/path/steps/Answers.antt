@@ -1,0 +1,35 @@
+use Rattle.std.proofs.Common.{◌∷◌, [], refl, sym, ◌∙◌, ap, subst, arith, length, map}
+use Rattle.std.proofs.lemmas.List.{map-append, length-map}
+use Rattle.rev_changes.proofs.Lists.{map-reverse}
+use Rattle.rev_requests.specs.Plain.{plain_step}
+use Rattle.rev_undotree.specs.Machine.{lineage}
+use Rattle.rev_explain.proofs.Climbs.{above_root}
+use Rattle.rev_whatif.proofs.Reading.{Reading, read_starts, read_more, read_ends, path_short}
+use Rattle.rev_whatif.proofs.path.steps.Goals as goal
+
+pub nodes-init : goal.nodes-init
+nodes-init g c =
+    let v = c.args.session.now in
+    let read = map (λ step. plain_step step.now) c.in_ok-steps.steps.items in
+    subst (λ d. Reading v d read) (sym c.depth-depth.ensures) (read_starts v read (ap (map (λ step. plain_step step.now)) c.in_ok-steps.ensures.items))
+
+pub nodes-preserved : goal.nodes-preserved
+nodes-preserved g c =
+    let v = c.args.session.now in
+    read_more v c.nodes.depth c.in-Some.field-0-0.0 (plain_step c.in-Some.step.now) c.in-Some.field-0-2 c.in-Some.field-0-3 (map (λ step. plain_step step.now) c.nodes.steps.items)
+    (map (λ step. plain_step step.now) c.push.new.self.items) c.nodes.invariant
+    (above_root c.nodes.depth (length (lineage v.rows v.current)) c.in-Some.ensures.none.1) c.in-Some.ensures.some
+    (ap (map (λ step. plain_step step.now)) c.in_ok-push.ensures.items ∙ map-append (λ step. plain_step step.now) c.nodes.steps.items (c.in-Some.step ∷ []))
+
+pub returns-clause-steps : goal.returns-clause-steps
+returns-clause-steps g c =
+    read_ends c.args.session.now c.nodes.depth (map (λ step. plain_step step.now) c.nodes.steps.items) (map (λ step. plain_step step.now) c.reverse.new.self.items) c.nodes.invariant
+    (c.in_default.ensures.none.0 refl)
+    (ap (map (λ step. plain_step step.now)) c.reverse.ensures.items ∙ map-reverse (λ step. plain_step step.now) c.nodes.steps.items)
+
+pub returns-clause-few : goal.returns-clause-few
+returns-clause-few g c =
+    let all = ap length (returns-clause-steps g c) in
+    let same = length-map c.reverse.new.self.items (λ step. plain_step step.now) in
+    let short = path_short c.args.session.now.rows c.args.session.now.current in
+    omega (arith, all, same, short, c.current-current.ensures)
