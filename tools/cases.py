@@ -14,6 +14,9 @@ A case is a folder with these files:
     script, start, options
               at status 0 what PREFIX.script or PREFIX.start, or both, and PREFIX.options hold, where `--out PREFIX` is
               among the words
+    made.NAME what the file NAME holds that is left, at status 0
+    in.NAME   in place of it, lines, each of which stands in the file NAME. A page is then also well-formed, and has no
+              script and no address
     cut       with the line `after each byte`, where the log is also cut after each byte
 
 All others are the files that the program is run beside. Two names stand for what would be long, or many:
@@ -29,7 +32,7 @@ files, and with the script on the standard output. What is read from the standar
 An import of a single log also gets it from there: at once, byte by byte and in pieces of some other sizes, to files and
 to the standard output, and at status 0 with a read that fails at its end. At status 2 a read that fails at once changes
 nothing, since none is made. At status 0 a write to the standard output that fails is told, with status 4: behind what
-is told of the traces of `open`. No file is left but the script and the options, and these only at status 0.
+is told of the traces of `open`. No file is left but those that are named above, and these only at status 0.
 
 Where a log is cut after whole lines, of which one tells an event, it becomes a script of whole lines, and the options
 are the same; where there is none, `no event` is told. What stands of a line behind them changes nothing but that a
@@ -39,6 +42,7 @@ import glob
 import os
 import re
 from functools import partial
+from xml.etree import ElementTree
 
 OUTPUTS = ("stdout", "most", "end", "like")
 RESERVED = ("words", "status", "stderr", "has", "stdin", *OUTPUTS, "script", "start", "options", "cut")
@@ -48,6 +52,9 @@ SIZES = (1, 2, 3, 5, 64, 4096)
 LONG = 65536
 # How lines begin that stand before the options, where an import tells these: of what was made of its settings.
 FIRST_TOLD = (b"settings: ", b"sample: pages of ")
+# How names of files begin that say what is left, and what ends the name of a page.
+MADE, IN = "made.", "in."
+PAGE = ".html"
 
 
 def read(file):
@@ -100,6 +107,18 @@ def each(text):
     return made
 
 
+def fault_of_page(text):
+    """What is wrong with a page, which is to be read by a strict parser, and asks for nothing from elsewhere."""
+    try:
+        parts = list(ElementTree.fromstring(text).iter())
+    except ElementTree.ParseError as fault:
+        return f"it is not well-formed: {fault}"
+    if any(it.tag.endswith("}script") for it in parts):
+        return "it has a script"
+    asked = {name for it in parts for name in it.attrib if name in ("src", "href") or name.startswith("on")}
+    return f"it has {asked}" if asked else None
+
+
 class End:
     """How a run ends: its status, what it wrote to the standard output and error, and the files that it left."""
 
@@ -150,7 +169,8 @@ class Case:
         self.input, self.output = (known.get(it) or b"" for it in ("stdin", "stdout"))
         self.most, self.end, self.like = (known.get(it) for it in ("most", "end", "like"))
         self.has = (known.get("has") or b"").splitlines()
-        self.prefix = next((b for a, b in zip(words, words[1:]) if a == "--out"), None)
+        self.made, self.lines = (known.get(it, {}) for it in (MADE, IN))
+        self.prefix = next((b for a, b in zip(words, words[1:]) if a == "--out" and words[0] == "import"), None)
         logs = [b for a, b in zip(words, words[1:]) if b in files and not a.startswith("--")]
         self.log = logs[0] if len(logs) == 1 and words[0] == "import" else None
         self.has_start = self.start is not None or "--split" in words
@@ -187,7 +207,7 @@ class Case:
         if is_standard and self.status:
             err = re.sub(rb"\Alrudb: %s: " % re.escape(self.log.encode()), b"lrudb: -: ", err)
         if self.status or not out:
-            return End(self.status, self.output, err, files)
+            return End(self.status, self.output, err, files if self.status else {**files, **self.made})
         if out == STANDARD:
             return End(0, self.script, err if self.prefix == out else self.beside_script(err), files)
         made = {"start": self.start, "script": self.script, "options": self.options}
@@ -218,7 +238,8 @@ class Case:
     def fault_on_files(self, runner):
         for size in (None, 1) if self.input else (None,):
             ended = self.run(runner, size=size)
-            fault = self.fault_of_output(ended) or ended.difference(self.wanted()) or self.missing(ended.err)
+            fault = self.fault_of_output(ended) or self.fault_of_lines(ended)
+            fault = fault or ended.difference(self.wanted()) or self.missing(ended.err)
             if fault:
                 return f"{'byte by byte: ' if size else ''}{fault}"
         if self.status == 2:
@@ -244,6 +265,18 @@ class Case:
             return f"the standard output ends with {out[-200:]}, and {self.end} is wanted"
         if self.like is not None and not is_like(out, self.like):
             return f"the standard output says {out}, and lines like {self.like} are wanted"
+        return None
+
+    def fault_of_lines(self, ended):
+        """What is wrong with files of which only lines are said. They are then looked at no more."""
+        for name, lines in self.lines.items():
+            text = ended.files.pop(name, None)
+            if text is None:
+                return f"{name} is missing: {ended.err}"
+            missing = next((it for it in lines.splitlines() if it not in text), None)
+            fault = f"it does not say {missing}" if missing else name.endswith(PAGE) and fault_of_page(text)
+            if fault:
+                return f"{name}: {fault}"
         return None
 
     def fault_of_writes(self, runner):
@@ -331,6 +364,8 @@ def cases_of(folder):
         else:
             files[name] = text
     known = {name: files.pop(name, None) for name in RESERVED}
+    for front in (MADE, IN):
+        known[front] = {name.removeprefix(front): files.pop(name) for name in list(files) if name.startswith(front)}
     if known["cut"] not in (None, b"after each byte\n"):
         raise ValueError(f"{folder}/cut: this says nothing")
     known["status"] = int(known["status"])

@@ -1,5 +1,5 @@
 -- A map of keys, after one of its keys got a value.
-use Rattle.std.proofs.Common.{◌≡◌, ℕ, Bool, true, false, cond, List, [], ◌∷◌, Option, None, Some, refl, sym, ◌∙◌, ap}
+use Rattle.std.proofs.Common.{◌≡◌, ℕ, Bool, true, false, cond, List, [], ◌∷◌, Option, Some, refl, sym, ◌∙◌, ap}
 use Rattle.std.proofs.lemmas.Bool.{true≢false, false≢true}
 use Rattle.std.proofs.lemmas.Slice.Eq.{bytes_eq-Decides}
 use Rattle.std.specs.Map.{lookup}
@@ -9,11 +9,9 @@ use Rattle.std.specs.declared.vec.Vec.{Vec}
 use Rattle.indexmap.specs.IndexMap.{insert_entry}
 use Rattle.rev_model.specs.Track.{same_key}
 use Rattle.rev_model.proofs.Laws.{same_key-self, same_key-exact}
-use Rattle.rev_figures.specs.Asks.{no_ask, asked_by}
+use Rattle.rev_figures.specs.Asks.{no_ask}
 use Rattle.rev_figures.specs.Asking.{ask_in}
 use Rattle.rev_figures.specs.declared.asks.Ask.{Ask}
-use Rattle.rev_figures.specs.declared.path.StepKind.{StepKind}
-use Rattle.rev_figures.specs.declared.path.StepKind.TheVariants as kind
 
 -- two keys are the same where their bytes are
 pub same_bytes : (k l : List ℕ) → bytes_eq k l ≡ same_key k l

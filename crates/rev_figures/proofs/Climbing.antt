@@ -1,5 +1,5 @@
 -- What is read on the way up from a node.
-use Rattle.std.proofs.Common.{◌≡◌, ℕ, zero, suc, ◌+◌, ◌-◌, ◌<◌, ◌⊎◌, inl, inr, Bool, true, false, cond, List, [], ◌∷◌, ◌++◌, Option, None, Some, is_some, length, reverse, map, refl, sym, ◌∙◌, ap, subst, arith}
+use Rattle.std.proofs.Common.{◌≡◌, ℕ, ◌+◌, ◌-◌, ◌<◌, ◌⊎◌, inl, inr, Bool, true, false, cond, List, [], ◌∷◌, ◌++◌, Option, None, Some, is_some, length, reverse, refl, sym, ◌∙◌, ap, subst, arith}
 use Rattle.std.proofs.lemmas.Bool.{false≢true}
 use Rattle.std.proofs.lemmas.List.{append_assoc, append-nil, reverse-append}
 use Rattle.rev_model.specs.State.{State}
@@ -10,7 +10,7 @@ use Rattle.rev_model.specs.declared.Outcome.{Outcome}
 use Rattle.rev_model.specs.declared.Outcome.TheVariants as outcome
 use Rattle.rev_changes.specs.Record.{PlainRecord}
 use Rattle.rev_changes.proofs.Lists.{map-reverse}
-use Rattle.rev_undotree.specs.Rows.{Row, row_of, parent_of, at}
+use Rattle.rev_undotree.specs.Rows.{row_of, parent_of, at}
 use Rattle.rev_undotree.specs.Machine.{lineage}
 use Rattle.rev_undotree.specs.Positions.{SessionState}
 use Rattle.rev_undotree.specs.Trails.{Trailed}
@@ -26,7 +26,7 @@ use Rattle.rev_figures.specs.declared.path.PageMove.{PageMove}
 use Rattle.rev_figures.specs.declared.path.Path.{Path}
 use Rattle.rev_figures.specs.declared.path.PathStep.{PathStep}
 use Rattle.rev_figures.specs.declared.path.QueueBytes.{QueueBytes}
-use Rattle.rev_figures.proofs.Nodes.{lifted, above, same_node, known_row, parent_known, steps_more, asked_more, leavings_more, moves_more}
+use Rattle.rev_figures.proofs.Nodes.{above, known_row, parent_known, steps_more, asked_more, leavings_more, moves_more}
 
 -- the rows that were read, the last first
 pub record Read : Type 0 where
@@ -39,7 +39,8 @@ pub record Read : Type 0 where
 abbrev pub read_of : {A : Type 0} → Path A → Read
 read_of p = record { steps = p.steps.items; leavings = p.leavings.items; moves = p.moves.items; bytes = p.bytes.items }
 
--- the session stands at depth d of the way to where it stood, and what stands below was read; a slot has l steps, the way m
+-- the session stands at depth d of the way to where it stood, and what stands below was read; a slot has l steps, the
+-- way m
 pub record Climbing (v now : SessionState) (d l m : ℕ) (first read : Read) (asked : List ℕ → Ask) : Type 0 where
   pub climb : Climbs v d
   pub stands : now ≡ record v { current = climb.node }

@@ -3,3 +3,4 @@ pub mod Counts
 pub mod Nodes
 pub mod Climbing
 pub mod Returning
+pub mod Tallies

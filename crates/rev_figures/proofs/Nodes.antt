@@ -1,5 +1,5 @@
 -- One node more on the way up: the rows of the path from it on.
-use Rattle.std.proofs.Common.{◌≡◌, ℕ, zero, suc, ◌+◌, ◌-◌, ◌<◌, cond, List, [], ◌∷◌, ◌++◌, Option, None, Some, is_some, length, reverse, slice_get, map, refl, sym, ◌∙◌, ap, subst, arith}
+use Rattle.std.proofs.Common.{◌≡◌, ℕ, zero, suc, ◌+◌, ◌-◌, ◌<◌, List, [], ◌∷◌, ◌++◌, Some, is_some, slice_get, sym, ◌∙◌, ap}
 use Rattle.std.proofs.lemmas.Bool.{false≢true}
 use Rattle.rev_model.specs.State.{State}
 use Rattle.rev_model.specs.Actor.{Step}
@@ -8,16 +8,15 @@ use Rattle.rev_model.specs.Track.{removals}
 use Rattle.rev_model.specs.declared.Outcome.{Outcome}
 use Rattle.rev_changes.specs.Record.{PlainRecord}
 use Rattle.rev_undotree.specs.Steps.{outcome_of}
-use Rattle.rev_undotree.specs.Rows.{Row, row_of, parent_of, option_parent, at}
+use Rattle.rev_undotree.specs.Rows.{row_of, parent_of, option_parent, at}
 use Rattle.rev_undotree.specs.Machine.{lineage}
 use Rattle.rev_undotree.specs.Positions.{SessionState}
 use Rattle.rev_undotree.specs.Trails.{Trailed}
 use Rattle.rev_explain.specs.Departures.{departures_in, departures_at}
 use Rattle.rev_explain.proofs.Climbs.{Climbs, climbs, node_is, row_is}
 use Rattle.rev_figures.specs.Asks.{asked_at, asked_along, row_asked}
-use Rattle.rev_figures.specs.Rows.{step_row, leaving_rows, move_rows, bytes_rows}
-use Rattle.rev_figures.specs.Paths.{ends_slot, steps_by, steps_along, leavings_by, leavings_along, moves_by, moves_along, bytes_along}
-use Rattle.rev_figures.specs.declared.asks.Ask.{Ask}
+use Rattle.rev_figures.specs.Rows.{step_row, leaving_rows, move_rows}
+use Rattle.rev_figures.specs.Paths.{steps_by, steps_along, leavings_by, leavings_along, moves_by, moves_along}
 
 -- what stands in a list stands in a longer one
 pub get_before : (xs ys : List ℕ) (i x : ℕ) → slice_get xs i ≡ Some x → slice_get (xs ++ ys) i ≡ Some x

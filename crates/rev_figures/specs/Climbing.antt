@@ -1,5 +1,6 @@
 -- A session that has gone up from a node.
--- Rule of this project: a way that is read may end above the node where it began, and the session is as it was but for that.
+-- Rule of this project: a way that is read may end above the node where it began, and the session is as it was but for
+-- that.
 use Rattle.std.specs.Prelude.{◌≡◌, ℕ, List, [], ◌++◌}
 use Rattle.rev_undotree.specs.Machine.{lineage}
 use Rattle.rev_undotree.specs.Positions.{SessionState}

@@ -2,7 +2,7 @@
 -- Rule of this project: a look-up is a get or a touch; it hits where it finds its key's item alive.
 use Rattle.std.specs.Prelude.{ℕ, Bool, true, false, cond, List, Option, None, Some, is_some}
 use Rattle.rev_model.specs.Actor.{Step, Client}
-use Rattle.rev_model.specs.Client.{Stores, Joins, Gets, Touches, Deletes, Flushes, Counts}
+use Rattle.rev_model.specs.Client.{Stores, Joins, Gets, Touches, Deletes, Counts}
 use Rattle.rev_model.specs.Events.{stored_key}
 use Rattle.rev_model.specs.declared.Outcome.{Outcome}
 use Rattle.rev_model.specs.declared.Outcome.TheVariants as outcome

@@ -5,3 +5,5 @@ pub mod Rows
 pub mod Paths
 pub mod Climbing
 pub mod Tables
+pub mod Classes
+pub mod Slots

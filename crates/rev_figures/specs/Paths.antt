@@ -1,6 +1,6 @@
 -- The rows along a path, from its first node on.
 -- Rule of this project: what a report is counted from.
-use Rattle.std.specs.Prelude.{ℕ, zero, suc, ◌+◌, ◌-◌, ◌/◌, ◌%◌, Bool, true, false, cond, ◌||◌, nat_eq, List, [], ◌∷◌, ◌++◌, Option, None, Some, length}
+use Rattle.std.specs.Prelude.{ℕ, ◌+◌, ◌-◌, ◌/◌, ◌%◌, Bool, cond, ◌||◌, nat_eq, List, [], ◌∷◌, ◌++◌, Option, None, Some, length}
 use Rattle.rev_model.specs.State.{State}
 use Rattle.rev_undotree.specs.Steps.{outcome_of}
 use Rattle.rev_undotree.specs.Rows.{Row, row_of, at}

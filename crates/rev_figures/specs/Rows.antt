@@ -1,6 +1,6 @@
 -- The rows that a step of a path makes.
 -- Rule of this project: what is counted of a step, by the states at its two ends.
-use Rattle.std.specs.Prelude.{ℕ, zero, suc, ◌-◌, Bool, true, false, cond, nat_eq, List, [], ◌∷◌, ◌++◌, Option, None, Some, map}
+use Rattle.std.specs.Prelude.{ℕ, zero, suc, ◌-◌, Bool, false, cond, nat_eq, List, [], ◌∷◌, ◌++◌, Option, None, Some, map}
 use Rattle.rev_items.specs.Plain.{PlainItem}
 use Rattle.rev_model.specs.State.{State, find, owner_of, last_class}
 use Rattle.rev_model.specs.Actor.{Step, owned_pages}
@@ -11,7 +11,6 @@ use Rattle.rev_model.specs.declared.Mover.{Mover}
 use Rattle.rev_model.specs.declared.Outcome.{Outcome}
 use Rattle.rev_model.specs.declared.Outcome.TheVariants as outcome
 use Rattle.rev_model.specs.declared.Queue.TheVariants.{Hot, Warm, Cold, Temp}
-use Rattle.rev_undotree.specs.declared.session.NodeId.{NodeId}
 use Rattle.rev_explain.specs.Departures.{PlainDeparture}
 use Rattle.rev_figures.specs.Kinds.{command_key, kind_of}
 use Rattle.rev_figures.specs.declared.asks.Ask.{Ask}
@@ -48,8 +47,8 @@ abbrev pub idle_of : State → Option PlainItem → ℕ
 idle_of s None = 0
 idle_of s (Some i) = s.globals.clock - i.time
 
--- the row of a key that left at the i-th step, at second t, where s was the state before; a are the look-ups that missed
--- it since
+-- the row of a key that left at the i-th step, at second t, where s was the state before; a are the look-ups that
+-- missed it since
 abbrev pub leaving_row : State → ℕ → ℕ → PlainDeparture → Ask → Leaving
 leaving_row s i t d a = record {
   node = record { 0 = d.node };

@@ -1,6 +1,6 @@
 -- The tables of a report, over the rows of a path.
 -- Rule of this project: what a report counts of the steps and of the keys that left.
-use Rattle.std.specs.Prelude.{ℕ, ◌+◌, ◌-◌, ◌/◌, ◌^◌, fold, Bool, true, false, not, cond, ◌&&◌, ◌||◌, ◌≡◌, nat_eq, nat_lt, min, List, [], ◌∷◌, Option, None, Some, map, length, slice_get}
+use Rattle.std.specs.Prelude.{ℕ, ◌+◌, ◌-◌, ◌/◌, ◌^◌, fold, Bool, true, not, cond, ◌&&◌, ◌||◌, ◌≡◌, nat_eq, nat_lt, min, List, Option, None, Some, map, length, slice_get}
 use Rattle.std.specs.List.{filter, count_by}
 use Rattle.std.specs.List.Sorted.{IsPermutation, IsSorted}
 use Rattle.std.specs.Ordering.{nat_cmp}
@@ -12,7 +12,7 @@ use Rattle.rev_figures.specs.declared.path.StepKind.{StepKind}
 use Rattle.rev_figures.specs.declared.path.StepKind.TheVariants as kind
 use Rattle.rev_figures.specs.declared.tables.CauseCounts.{CauseCounts}
 use Rattle.rev_figures.specs.declared.tables.Which.{Which}
-use Rattle.rev_figures.specs.declared.tables.Which.TheVariants.{By, Lost, Unfetched, Asked}
+use Rattle.rev_figures.specs.declared.tables.Which.TheVariants.{By, AllEvicted, Unfetched, Asked}
 
 -- the number of a cause
 abbrev pub cause_number : Cause → ℕ
@@ -44,7 +44,7 @@ is_eviction c = nat_eq (cause_number c) 0 || nat_eq (cause_number c) 5
 -- one of the keys that are counted
 abbrev pub is_one : Which → Leaving → Bool
 is_one (By c) l = nat_eq (cause_number c) (cause_number l.cause)
-is_one Lost l = is_eviction l.cause
+is_one AllEvicted l = is_eviction l.cause
 is_one Unfetched l = is_eviction l.cause && not l.fetched
 is_one Asked l = is_eviction l.cause && nat_lt 0 l.asks
 
@@ -89,19 +89,19 @@ count_misses c ls = fold (count_missed c) 0 ls
 abbrev pub wait : Which → Leaving → ℕ
 wait Asked l = l.asked_after
 wait (By c) l = l.idle
-wait Lost l = l.idle
+wait AllEvicted l = l.idle
 wait Unfetched l = l.idle
 
 -- the same of all that left the class
 abbrev pub waits : Option ℕ → Which → List Leaving → List ℕ
 waits c w ls = map (wait w) (filter (is_counted c w) ls)
 
--- the number in the middle of these numbers in order, the higher of two; none of none
-pub record IsMiddle (xs : List ℕ) (m : Option ℕ) : Type 0 where
+-- the median of these numbers: the one in the middle of their order, the higher of two; none of none
+pub record IsMedian (xs : List ℕ) (m : Option ℕ) : Type 0 where
   pub ordered : List ℕ
   pub same : IsPermutation xs ordered
   pub sorted : IsSorted nat_cmp ordered
-  pub middle : m ≡ slice_get ordered (length ordered / 2)
+  pub median : m ≡ slice_get ordered (length ordered / 2)
 
 -- the clock after a step, t where there is none
 abbrev pub second_of : ℕ → Option PathStep → ℕ

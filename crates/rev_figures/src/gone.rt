@@ -15,8 +15,8 @@ use rev_undotree::NodeId;
 use std::alloc::{AllocError, Allocator};
 use std::marker::Model;
 
-/// A key that left at the step of a node, and why: as rev_explain tells it, but with a key of its own, so that the session
-/// may go on.
+/// A key that left at the step of a node, and why: as rev_explain tells it, but with a key of its own, so that the
+/// session may go on.
 #[derive(Drop)]
 pub struct Gone<A: Allocator> {
     pub node: NodeId,

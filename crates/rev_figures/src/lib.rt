@@ -1,15 +1,21 @@
-//! Figures of a trace that was played: where a cache loses its keys, when and why, and which of them are asked for again.
+//! Figures of a trace that was played: where a cache loses its keys, when and why, and which of them are asked for
+//! again.
 #![tactic(auto)]
 
 mod asks;
+mod by_class;
+mod by_slot;
+pub mod classes;
 mod gone;
 mod kinds;
 pub mod path;
 pub mod tables;
 mod walk;
 
+pub use by_slot::{left_by_slot, moves_by_slot};
+pub use classes::{ClassFigures, class_figures};
 pub use gone::has_stored;
 pub use kinds::kind_of;
 pub use path::{Leaving, PageMove, Path, PathStep, QueueBytes, StepKind};
-pub use tables::{CauseCounts, ClassFigures, Totals, Which, class_figures, count_all, is_eviction};
+pub use tables::{CauseCounts, NO_CAUSES, Totals, Which, count_all, is_eviction};
 pub use walk::gather;

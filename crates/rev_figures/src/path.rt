@@ -79,7 +79,8 @@ pub struct QueueBytes {
 pub struct Path<A: Allocator> {
     /// The clock at the root, in seconds.
     pub start: u32,
-    /// How many steps a slot has: at least 1, and so many that there are at most 120 slots. The last slot may have fewer.
+    /// How many steps a slot has: at least 1, and so many that there are at most 120 slots. The last slot may have
+    /// fewer.
     pub slot_length: usize,
     /// A row for each step, from the first.
     pub steps: Vec<PathStep, A>,
@@ -87,7 +88,7 @@ pub struct Path<A: Allocator> {
     pub leavings: Vec<Leaving, A>,
     /// A row for each page that moved, in that order.
     pub moves: Vec<PageMove, A>,
-    /// The bytes of each class that owns a page, after each step that ends a slot: in the order of the steps, and of one
-    /// step by rising class.
+    /// The bytes of each class that owns a page, after each step that ends a slot: in the order of the steps, and of
+    /// one step by rising class.
     pub bytes: Vec<QueueBytes, A>,
 }

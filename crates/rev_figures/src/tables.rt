@@ -2,8 +2,7 @@
 ghost use Rattle.std.specs.Prelude.{◌≡◌, IfOk, length, map, Some, None};
 ghost use Rattle.std.specs.List.{filter};
 ghost use Rattle.rev_figures.specs.declared.path.StepKind.TheVariants as kind;
-ghost use Rattle.rev_figures.specs.declared.tables.Which.TheVariants as which_of;
-ghost use Rattle.rev_figures.specs.Tables.{cause_number, kind_number, is_of, is_eviction, is_one, is_counted, count_left, cause_counts, is_step, count_steps, count_missed, count_misses, wait, waits, IsMiddle, last_second};
+ghost use Rattle.rev_figures.specs.Tables.{cause_number, kind_number, is_of, is_eviction, is_one, is_counted, count_left, cause_counts, is_step, count_steps, wait, waits, IsMedian, last_second};
 
 use crate::path::{Leaving, Path, PathStep, StepKind};
 use rev_model::Cause;
@@ -37,30 +36,17 @@ pub struct Totals {
     pub last_second: u32,
 }
 
-/// What became of the keys of a class.
-#[derive(Clone, Copy)]
-pub struct ClassFigures {
-    /// From 1.
-    pub class: u8,
-    /// Steps that stored a key in it.
-    pub stores: usize,
-    /// Look-ups that found a key in it.
-    pub hits: usize,
-    /// Look-ups of a key that was not there and had left this class last: at most 2^64 - 1.
-    pub misses: u64,
-    /// Keys that left it, by cause.
-    pub left: CauseCounts,
-    /// How many keys were evicted, by a set or the page mover.
-    pub evicted: usize,
-    /// Of these, how many had never been hit since they were stored.
-    pub unfetched: usize,
-    /// Of these, how many were asked for again before the key was stored again.
-    pub asked: usize,
-    /// The middle of the seconds since the evicted were stored or last bumped; none where none was evicted.
-    pub idle: Option<u32>,
-    /// The middle of the seconds until those that were asked for again were; none where none was.
-    pub asked_after: Option<u32>,
-}
+/// None left.
+pub const NO_CAUSES: CauseCounts = CauseCounts {
+    evicted: 0,
+    evicted_by_mover: 0,
+    reclaimed_by_pull: 0,
+    reclaimed_by_crawler: 0,
+    reclaimed_by_hit: 0,
+    reclaimed_by_mover: 0,
+    deleted: 0,
+    dropped_by_failed_set: 0,
+};
 
 /// Which of the keys that left are counted.
 #[derive(Clone, Copy)]
@@ -68,7 +54,7 @@ pub enum Which {
     /// Those that left by this cause.
     By(Cause),
     /// Those that were evicted, by a set or the page mover.
-    Lost,
+    AllEvicted,
     /// Those of them that had never been hit.
     Unfetched,
     /// Those of them that were asked for again.
@@ -92,7 +78,7 @@ fn cause_number(cause: Cause) -> u8
 }
 
 /// The number of a kind.
-fn kind_number(kind: StepKind) -> u8
+pub fn kind_number(kind: StepKind) -> u8
     ensures { result ≡ kind_number kind }
 {
     match kind {
@@ -122,12 +108,12 @@ pub fn is_eviction(cause: Cause) -> bool
 }
 
 /// Whether a key that left is one of these.
-fn is_one(which: Which, leaving: &Leaving) -> bool
+pub fn is_one(which: Which, leaving: &Leaving) -> bool
     ensures { result ≡ is_one which leaving.now }
 {
     match which {
         Which::By(cause) => cause_number(cause) == cause_number(leaving.cause),
-        Which::Lost => is_eviction(leaving.cause),
+        Which::AllEvicted => is_eviction(leaving.cause),
         Which::Unfetched => is_eviction(leaving.cause) && !leaving.fetched,
         Which::Asked => is_eviction(leaving.cause) && 0 < leaving.asks,
     }
@@ -183,33 +169,13 @@ fn count_steps(class: Option<u8>, kind: StepKind, steps: &[PathStep]) -> usize
         .count()
 }
 
-/// A count with the look-ups more that missed a key which left the class.
-fn count_missed(count: u64, class: u8, leaving: &Leaving) -> u64
-    ensures { result ≡ count_missed class count leaving.now }
-{
-    if class == leaving.class {
-        count.saturating_add(u64::from(leaving.asks))
-    } else {
-        count
-    }
-}
-
-/// How many look-ups missed keys that had left the class last.
-fn count_misses(class: u8, leavings: &[Leaving]) -> u64
-    ensures { result ≡ count_misses class leavings.now }
-{
-    leavings
-        .iter()
-        .fold(0, |count, leaving| count_missed(count, class, leaving))
-}
-
 /// The seconds that are told of one of these: until it was asked for again, or since it was used.
 fn wait(which: Which, leaving: &Leaving) -> u32
     ensures { result ≡ wait which leaving.now }
 {
     match which {
         Which::Asked => leaving.asked_after,
-        Which::By(_) | Which::Lost | Which::Unfetched => leaving.idle,
+        Which::By(_) | Which::AllEvicted | Which::Unfetched => leaving.idle,
     }
 }
 
@@ -229,25 +195,25 @@ fn waits<A: Allocator>(
         .collect(alloc)
 }
 
-/// The middle one of some numbers in order, the higher of two; none of none.
-fn middle<A: Allocator + Clone>(numbers: &mut Vec<u32, A>) -> Result<Option<u32>, AllocError>
-    ensures { IfOk result (λ middle. IsMiddle numbers.old.items middle) }
+/// The median of some numbers, the higher of two in the middle; none of none.
+fn median<A: Allocator + Clone>(numbers: &mut Vec<u32, A>) -> Result<Option<u32>, AllocError>
+    ensures { IfOk result (λ median. IsMedian numbers.old.items median) }
 {
     numbers.sort()?;
     Ok(numbers.get(numbers.len() / 2).copied())
 }
 
-/// The middle of the seconds that are told of these.
-fn middle_wait<A: Allocator + Clone>(
+/// The median of the seconds that are told of these.
+pub fn median_wait<A: Allocator + Clone>(
     class: Option<u8>,
     which: Which,
     leavings: &[Leaving],
     alloc: A,
 ) -> Result<Option<u32>, AllocError>
-    ensures { IfOk result (λ middle. IsMiddle (waits class which leavings.now) middle) }
+    ensures { IfOk result (λ median. IsMedian (waits class which leavings.now) median) }
 {
     let mut seconds = waits(class, which, leavings, alloc)?;
-    middle(&mut seconds)
+    median(&mut seconds)
 }
 
 /// The clock after the last of these steps, in seconds, or else the root's.
@@ -279,40 +245,4 @@ pub fn count_all<A: Allocator>(path: &Path<A>) -> Totals
         first_second: path.start,
         last_second: last_second(path.start, &path.steps),
     }
-}
-
-/// The figures of a class. Memory is taken for the seconds of its evictions, and given back.
-///
-/// Err: a growth was refused.
-pub fn class_figures<A: Allocator + Clone>(
-    path: &Path<A>,
-    class: u8,
-    alloc: &A,
-) -> Result<ClassFigures, AllocError>
-    ensures class { IfOk result (λ figures. figures.class ≡ class) }
-    ensures stores { IfOk result (λ figures. figures.stores ≡ count_steps (Some class) kind.Stored path.now.steps.items) }
-    ensures hits { IfOk result (λ figures. figures.hits ≡ count_steps (Some class) kind.Hit path.now.steps.items) }
-    ensures misses { IfOk result (λ figures. figures.misses ≡ count_misses class path.now.leavings.items) }
-    ensures left { IfOk result (λ figures. figures.left ≡ cause_counts (Some class) path.now.leavings.items) }
-    ensures evicted { IfOk result (λ figures. figures.evicted ≡ count_left (Some class) which_of.Lost path.now.leavings.items) }
-    ensures unfetched { IfOk result (λ figures. figures.unfetched ≡ count_left (Some class) which_of.Unfetched path.now.leavings.items) }
-    ensures asked { IfOk result (λ figures. figures.asked ≡ count_left (Some class) which_of.Asked path.now.leavings.items) }
-    ensures idle { IfOk result (λ figures. IsMiddle (waits (Some class) which_of.Lost path.now.leavings.items) figures.idle) }
-    ensures asked_after { IfOk result (λ figures. IsMiddle (waits (Some class) which_of.Asked path.now.leavings.items) figures.asked_after) }
-{
-    let one = Some(class);
-    let idle = middle_wait(one, Which::Lost, &path.leavings, alloc.clone()?)?;
-    let asked_after = middle_wait(one, Which::Asked, &path.leavings, alloc.clone()?)?;
-    Ok(ClassFigures {
-        class,
-        stores: count_steps(one, StepKind::Stored, &path.steps),
-        hits: count_steps(one, StepKind::Hit, &path.steps),
-        misses: count_misses(class, &path.leavings),
-        left: count_causes(one, &path.leavings),
-        evicted: count_left(one, Which::Lost, &path.leavings),
-        unfetched: count_left(one, Which::Unfetched, &path.leavings),
-        asked: count_left(one, Which::Asked, &path.leavings),
-        idle,
-        asked_after,
-    })
 }

@@ -210,8 +210,8 @@ fn add_move<A: Allocator>(
     }
 }
 
-/// What the item of a key tells, where there is one: whether it was hit since it was stored, and how many seconds ago it was
-/// stored or last bumped.
+/// What the item of a key tells, where there is one: whether it was hit since it was stored, and how many seconds ago
+/// it was stored or last bumped.
 fn key_use<A: Allocator>(store: &Store<A>, key: &Key<A>) -> (bool, u32)
     ensures { result ≡ (is_fetched (item_of store.now (find store.now key.now)), idle_of store.now (item_of store.now (find store.now key.now))) }
 {
@@ -349,8 +349,8 @@ fn empty_path<A: Allocator + Clone>(alloc: &A) -> Result<Path<A>, AllocError>
     })
 }
 
-/// Reads the path from the root to the current node, and leaves the session at a node on it: at the root, where no memory
-/// was refused.
+/// Reads the path from the root to the current node, and leaves the session at a node on it: at the root, where no
+/// memory was refused.
 #[tactic(auto, using(crate::proofs::Returning::stays_put))]
 fn read_path<A: Allocator + Clone>(
     session: &mut Session<A>,

@@ -1,10 +1,12 @@
 -- What holds of a request that was read.
 -- Rule of this project: the bounds of `--temp-ttl`, `--heap` and the number of files; and which words ask for an import, for
--- traces to be opened, for what `open` imports, and for a run.
+-- traces to be opened, for what `open` imports, for a run, and for a report.
 use Rattle.std.specs.Prelude.{ℕ, ℤ, pos, negsuc, Bool, true, false, nat_eq, ◌||◌, ◌≡◌, ◌≤◌, List, [], ◌∷◌, take, length, IfSome, Option, None, codes}
 use Rattle.std.specs.Str.{bytes_eq}
 use Rattle.rev_options.specs.declared.Request.{Request}
-use Rattle.rev_options.specs.declared.Request.TheVariants.{Run, Record, ImportWatch, ImportCsv, ImportState, Open, OpenWatch, OpenCsv}
+use Rattle.rev_options.specs.declared.Request.TheVariants.{Run, Record, ImportWatch, ImportCsv, ImportState, Open, OpenWatch, OpenCsv, Report}
+use Rattle.rev_options.specs.declared.reporting.Played.{Played}
+use Rattle.rev_options.specs.declared.reporting.Played.TheVariants.{Traces, Logs, Rows}
 
 -- -1 where no item enters TEMP, else a number of seconds
 abbrev pub is_temp_ttl : ℤ → Bool
@@ -14,6 +16,12 @@ is_temp_ttl (negsuc n) = nat_eq n 0
 -- bytes of a heap that may be asked for: from a page of the machine's memory to 1 GiB
 abbrev pub IsHeap : ℕ → Type 0
 IsHeap bytes = (4096 ≤ bytes) × (bytes ≤ 1073741824)
+
+-- a time to live that there is, where a configuration is asked for
+abbrev pub IsPlayedInRange : Played → Type 0
+IsPlayedInRange (Traces asked) = is_temp_ttl asked.config.temp_ttl ≡ true
+IsPlayedInRange (Logs asked) = Unit {0}
+IsPlayedInRange (Rows asked) = is_temp_ttl asked.config.temp_ttl ≡ true
 
 -- a time to live that there is; for a run a heap that may be asked for, where one is, and none where JSON is; for a recording one to eight files; for an import a log, or a trace
 abbrev pub IsInRange : Request → Type 0
@@ -25,6 +33,7 @@ IsInRange (ImportState asked) = Unit {0}
 IsInRange (Open asked) = is_temp_ttl asked.config.temp_ttl ≡ true
 IsInRange (OpenWatch asked) = Unit {0}
 IsInRange (OpenCsv asked) = is_temp_ttl asked.config.temp_ttl ≡ true
+IsInRange (Report asked) = IsPlayedInRange asked.played
 
 -- the first word says `import`
 abbrev pub asks_import : List (List ℕ) → Bool
@@ -74,3 +83,13 @@ asks_run (word ∷ words) = bytes_eq word (codes "run")
 abbrev pub RunsBy : Bool → Request → Type 0
 RunsBy asks (Run config heap dialect starts json) = asks ≡ true
 RunsBy asks other = asks ≡ false
+
+-- the first word says `report`
+abbrev pub asks_report : List (List ℕ) → Bool
+asks_report [] = false
+asks_report (word ∷ words) = bytes_eq word (codes "report")
+
+-- a report is asked for by that word, and nothing else is
+abbrev pub ReportsBy : Bool → Request → Type 0
+ReportsBy asks (Report asked) = asks ≡ true
+ReportsBy asks other = asks ≡ false

@@ -1,6 +1,6 @@
 //! The words of `lrudb import`.
 ghost use Rattle.std.specs.Prelude.{◌≡◌, ◌≤◌, length, map, true, false, IfOk};
-ghost use Rattle.rev_options.specs.Request.{IsInRange, IsOfWords, OpensBy, BringsBy, RunsBy, asks_import};
+ghost use Rattle.rev_options.specs.Request.{IsInRange, IsOfWords, OpensBy, BringsBy, ReportsBy, RunsBy, asks_import};
 
 use crate::csv::{csv_command, csv_import, sample_of};
 use crate::opening::progress;
@@ -160,8 +160,8 @@ pub fn asks_import<S: AsStr>(words: &[S]) -> bool
     }
 }
 
-// The value of an option, where it is given.
-fn given(
+/// The value of an option, where it is given.
+pub(crate) fn given(
     alloc: Global,
     matches: &ArgMatches<'_>,
     name: &str,
@@ -185,8 +185,8 @@ pub fn number(text: &str) -> Option<u32> {
     text.parse().ok()
 }
 
-// A factor, from its numerator, a slash and its denominator.
-fn factor(text: &str) -> Option<Factor> {
+/// A factor, from its numerator, a slash and its denominator.
+pub(crate) fn factor(text: &str) -> Option<Factor> {
     let (num, den) = text.split_once('/')?;
     Some(Factor {
         num: number(num)?,
@@ -306,6 +306,7 @@ pub fn import(alloc: Global, matches: &ArgMatches<'_>) -> Result<Request, Error>
     ensures opens { IfOk result (OpensBy false) }
     ensures brings { IfOk result (BringsBy false) }
     ensures runs { IfOk result (RunsBy false) }
+    ensures reports { IfOk result (ReportsBy false) }
 {
     if let Some(inner) = matches.subcommand_matches("watch") {
         return Ok(Request::ImportWatch(watch_import(alloc, inner)?));

@@ -5,13 +5,15 @@ mod csv;
 mod import;
 mod number;
 mod opening;
+mod reporting;
 mod state;
 
 ghost use Rattle.std.specs.Prelude.{◌≡◌, ◌≤◌, length, map, IfOk, IfSome, true, false};
-ghost use Rattle.rev_options.specs.Request.{IsInRange, IsHeap, IsOfWords, OpensBy, BringsBy, RunsBy, asks_import, asks_open, asks_run, brings, is_temp_ttl};
+ghost use Rattle.rev_options.specs.Request.{IsInRange, IsHeap, IsOfWords, OpensBy, BringsBy, ReportsBy, RunsBy, asks_import, asks_open, asks_report, asks_run, brings, is_temp_ttl};
 
 use crate::import::{asks_import, import, import_command};
 use crate::opening::{asks_open, brings, open_command, opening_of};
+use crate::reporting::{asks_report, report_command, reporting_of};
 use clap::error::ErrorKind;
 use clap::{Arg, ArgAction, ArgMatches, Command, Error, value_parser};
 pub use csv::CsvImport;
@@ -19,6 +21,7 @@ pub use import::{STANDARD, WatchImport};
 pub use number::Number;
 use number::{NUMBERS, NumberOption};
 pub use opening::{CsvOpening, Manner, Opening, WatchOpening};
+pub use reporting::{Played, Reporting, WhatIf};
 use rev_classes::Config;
 use rev_script::dialect::Dialect;
 pub use state::StateImport;
@@ -70,6 +73,8 @@ pub enum Request {
     OpenWatch(WatchOpening),
     /// The same of what published traces become, as they are read.
     OpenCsv(CsvOpening),
+    /// Play traces, and write a page that tells where the cache loses its keys.
+    Report(Reporting),
 }
 
 /// Why there is no request.
@@ -189,7 +194,8 @@ fn whole_command<'a>(alloc: Global) -> Result<Command<'a>, AllocError> {
         .subcommand(run_command(alloc)?)?
         .subcommand(record_command(alloc)?)?
         .subcommand(import_command(alloc)?)?
-        .subcommand(open_command(alloc)?)
+        .subcommand(open_command(alloc)?)?
+        .subcommand(report_command(alloc)?)
 }
 
 // Each number has a default and passed its parser, so none is absent.
@@ -249,6 +255,7 @@ fn run(alloc: Global, matches: &ArgMatches<'_>) -> Result<Request, Error>
     ensures opens { IfOk result (OpensBy false) }
     ensures brings { IfOk result (BringsBy false) }
     ensures runs { IfOk result (RunsBy true) }
+    ensures reports { IfOk result (ReportsBy false) }
 {
     let config = config_of(matches);
     let heap = heap_of(alloc, matches)?;
@@ -294,6 +301,7 @@ fn recording(alloc: Global, matches: &ArgMatches<'_>) -> Result<Request, Error>
     ensures opens { IfOk result (OpensBy false) }
     ensures brings { IfOk result (BringsBy false) }
     ensures runs { IfOk result (RunsBy false) }
+    ensures reports { IfOk result (ReportsBy false) }
 {
     let config = config_of(matches);
     let dialect = dialect_of(matches);
@@ -329,6 +337,7 @@ fn other_request(
     ensures opens { IfOk result (OpensBy asks_open) }
     ensures brings { IfOk result (BringsBy brings) }
     ensures runs { IfOk result (RunsBy false) }
+    ensures reports { IfOk result (ReportsBy false) }
 {
     if let Some(inner) = matches.subcommand_matches("record") {
         return recording(alloc, inner);
@@ -353,10 +362,26 @@ fn run_request(alloc: Global, matches: &ArgMatches<'_>) -> Result<Request, Error
     ensures opens { IfOk result (OpensBy false) }
     ensures brings { IfOk result (BringsBy false) }
     ensures runs { IfOk result (RunsBy true) }
+    ensures reports { IfOk result (ReportsBy false) }
 {
     match matches.subcommand_matches("run") {
         Some(inner) => run(alloc, inner),
         None => Err(fault(alloc, ErrorKind::MissingSubcommand, "run")?),
+    }
+}
+
+// The report that the words ask for by the parser's reading of them, or the parser's error.
+fn report_request(alloc: Global, matches: &ArgMatches<'_>) -> Result<Request, Error>
+    ensures range { IfOk result IsInRange }
+    ensures words { IfOk result (IsOfWords false) }
+    ensures opens { IfOk result (OpensBy false) }
+    ensures brings { IfOk result (BringsBy false) }
+    ensures runs { IfOk result (RunsBy false) }
+    ensures reports { IfOk result (ReportsBy true) }
+{
+    match matches.subcommand_matches("report") {
+        Some(inner) => reporting_of(alloc, inner),
+        None => Err(fault(alloc, ErrorKind::MissingSubcommand, "report")?),
     }
 }
 
@@ -368,15 +393,20 @@ fn request_of(
     asks_open: bool,
     brings: bool,
     asks_run: bool,
+    asks_report: bool,
 ) -> Result<Request, Error>
+    requires { asks_run ≡ true → asks_report ≡ false }
     ensures range { IfOk result IsInRange }
     ensures words { IfOk result (IsOfWords asks_import) }
     ensures opens { IfOk result (OpensBy asks_open) }
     ensures brings { IfOk result (BringsBy brings) }
     ensures runs { IfOk result (RunsBy asks_run) }
+    ensures reports { IfOk result (ReportsBy asks_report) }
 {
     if asks_run {
         run_request(alloc, matches)
+    } else if asks_report {
+        report_request(alloc, matches)
     } else {
         other_request(alloc, matches, asks_import, asks_open, brings)
     }
@@ -399,6 +429,7 @@ fn parsed<S: AsStr>(alloc: Global, words: &[S]) -> Result<Request, Error>
     ensures opens { IfOk result (OpensBy (asks_open (map S.text words.now))) }
     ensures brings { IfOk result (BringsBy (brings (map S.text words.now))) }
     ensures runs { IfOk result (RunsBy (asks_run (map S.text words.now))) }
+    ensures reports { IfOk result (ReportsBy (asks_report (map S.text words.now))) }
 {
     let matches = whole_command(alloc)?.try_get_matches_from(words)?;
     request_of(
@@ -408,6 +439,7 @@ fn parsed<S: AsStr>(alloc: Global, words: &[S]) -> Result<Request, Error>
         asks_open(words),
         brings(words),
         asks_run(words),
+        asks_report(words),
     )
 }
 
@@ -424,8 +456,8 @@ fn told(alloc: Global, error: Error) -> Refused {
 /// What the words behind the program's name ask for.
 ///
 /// Words that ask for nothing that there is are refused with the parser's text, and so is a wish for help; a want of
-/// memory is told apart. An import is asked for by the first word `import` alone, an opening by `open`, and a run by `run`.
-/// An opening imports only where a word begins with `--watch` or `--csv`. Whether a store can be opened with the numbers is
+/// memory is told apart. An import is asked for by the first word `import` alone, an opening by `open`, a run by `run`, and
+/// a report by `report`. An opening imports only where a word begins with `--watch` or `--csv`. Whether a store can be opened with the numbers is
 /// `rev_classes::fault_of`'s to say.
 pub fn parse_words<S: AsStr>(alloc: Global, words: &[S]) -> Result<Request, Refused>
     ensures range { IfOk result IsInRange }
@@ -433,6 +465,7 @@ pub fn parse_words<S: AsStr>(alloc: Global, words: &[S]) -> Result<Request, Refu
     ensures opens { IfOk result (OpensBy (asks_open (map S.text words.now))) }
     ensures brings { IfOk result (BringsBy (brings (map S.text words.now))) }
     ensures runs { IfOk result (RunsBy (asks_run (map S.text words.now))) }
+    ensures reports { IfOk result (ReportsBy (asks_report (map S.text words.now))) }
 {
     match parsed(alloc, words) {
         Ok(asked) => Ok(asked),

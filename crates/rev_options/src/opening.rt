@@ -1,6 +1,6 @@
 //! The words of `lrudb open`.
 ghost use Rattle.std.specs.Prelude.{◌≡◌, map, true, false, IfOk, IfSome};
-ghost use Rattle.rev_options.specs.Request.{IsInRange, IsOfWords, asks_open, OpensBy, BringsBy, RunsBy, begins_with, brings, is_temp_ttl};
+ghost use Rattle.rev_options.specs.Request.{IsInRange, IsOfWords, asks_open, OpensBy, BringsBy, ReportsBy, RunsBy, begins_with, brings, is_temp_ttl};
 
 use crate::csv::sample_of;
 use crate::import::{STANDARD, factor_of, required, rhythm_of, text};
@@ -79,7 +79,12 @@ fn traces<'a>(alloc: Global) -> Arg<'a> {
 }
 
 // An option whose value is the name of a file, and which may be given again.
-fn names<'a>(alloc: Global, name: &'a str, unit: &'a str, help: &'a str) -> Arg<'a> {
+pub(crate) fn names<'a>(
+    alloc: Global,
+    name: &'a str,
+    unit: &'a str,
+    help: &'a str,
+) -> Arg<'a> {
     text(alloc, name, unit, help).action(ArgAction::Append)
 }
 
@@ -118,7 +123,8 @@ fn csv<'a>(alloc: Global) -> Result<Arg<'a>, AllocError> {
     .conflicts_with("factor")
 }
 
-fn with_imports<'a>(alloc: Global, command: Command<'a>) -> Result<Command<'a>, AllocError> {
+/// The same with the options by which something is imported.
+pub(crate) fn with_imports<'a>(alloc: Global, command: Command<'a>) -> Result<Command<'a>, AllocError> {
     command
         .arg(watch_alone(alloc)?)?
         .arg(text(
@@ -211,18 +217,26 @@ pub fn brings<S: AsStr>(words: &[S]) -> bool
     false
 }
 
+const NO_STANDARD: &str =
+    "open: - is no trace, since the session is read from the standard input";
+
 fn has_standard(names: &Vec<String>) -> bool {
     names.iter().any(|name| name.as_str() == STANDARD)
 }
 
-// The names of traces that an argument has, in order, or the parser's error.
-fn named(alloc: Global, matches: &ArgMatches<'_>, of: &str) -> Result<Vec<String>, Error> {
+/// The names of traces that an argument has, in order, or the parser's error; `no_standard` says why none is `-`.
+pub(crate) fn named(
+    alloc: Global,
+    matches: &ArgMatches<'_>,
+    of: &str,
+    no_standard: &str,
+) -> Result<Vec<String>, Error> {
     let traces = files_of(alloc, matches, of)?;
     if has_standard(&traces) {
         return Err(fault(
             alloc,
             ErrorKind::ValueValidation,
-            "open: - is no trace, since the session is read from the standard input",
+            no_standard,
         )?);
     }
     Ok(traces)
@@ -237,13 +251,14 @@ fn manner_of(matches: &ArgMatches<'_>) -> Manner {
     }
 }
 
-fn watch_opening(
+pub(crate) fn watch_opening(
     alloc: Global,
     matches: &ArgMatches<'_>,
+    manner: Manner,
     logs: Vec<String>,
 ) -> Result<WatchOpening, Error> {
     Ok(WatchOpening {
-        manner: manner_of(matches),
+        manner,
         starts: files_of(alloc, matches, "start")?,
         logs,
         settings: required(alloc, matches, "settings")?,
@@ -252,16 +267,17 @@ fn watch_opening(
     })
 }
 
-fn csv_opening(
+pub(crate) fn csv_opening(
     alloc: Global,
     matches: &ArgMatches<'_>,
+    manner: Manner,
     traces: Vec<String>,
 ) -> Result<CsvOpening, Error>
     ensures { IfOk result (λ asked. is_temp_ttl asked.config.temp_ttl ≡ true) }
 {
     Ok(CsvOpening {
         config: config_of(matches),
-        manner: manner_of(matches),
+        manner,
         starts: files_of(alloc, matches, "start")?,
         traces,
         rhythm: rhythm_of(alloc, matches)?,
@@ -276,14 +292,18 @@ fn brought(alloc: Global, matches: &ArgMatches<'_>) -> Result<Option<Request>, E
     ensures opens { IfOk result (λ asked. IfSome asked (OpensBy true)) }
     ensures brings { IfOk result (λ asked. IfSome asked (BringsBy true)) }
     ensures runs { IfOk result (λ asked. IfSome asked (RunsBy false)) }
+    ensures reports { IfOk result (λ asked. IfSome asked (ReportsBy false)) }
 {
-    let logs = named(alloc, matches, "watch")?;
+    let manner = manner_of(matches);
+    let logs = named(alloc, matches, "watch", NO_STANDARD)?;
     if !logs.is_empty() {
-        return Ok(Some(Request::OpenWatch(watch_opening(alloc, matches, logs)?)));
+        let asked = watch_opening(alloc, matches, manner, logs)?;
+        return Ok(Some(Request::OpenWatch(asked)));
     }
-    let traces = named(alloc, matches, "csv")?;
+    let traces = named(alloc, matches, "csv", NO_STANDARD)?;
     if !traces.is_empty() {
-        return Ok(Some(Request::OpenCsv(csv_opening(alloc, matches, traces)?)));
+        let asked = csv_opening(alloc, matches, manner, traces)?;
+        return Ok(Some(Request::OpenCsv(asked)));
     }
     Ok(None)
 }
@@ -296,6 +316,7 @@ pub fn opening_of(alloc: Global, matches: &ArgMatches<'_>, brings: bool) -> Resu
     ensures opens { IfOk result (OpensBy true) }
     ensures brings { IfOk result (BringsBy brings) }
     ensures runs { IfOk result (RunsBy false) }
+    ensures reports { IfOk result (ReportsBy false) }
 {
     if brings {
         if let Some(asked) = brought(alloc, matches)? {
@@ -306,6 +327,6 @@ pub fn opening_of(alloc: Global, matches: &ArgMatches<'_>, brings: bool) -> Resu
         config: config_of(matches),
         manner: manner_of(matches),
         starts: files_of(alloc, matches, "start")?,
-        traces: named(alloc, matches, "traces")?,
+        traces: named(alloc, matches, "traces", NO_STANDARD)?,
     }))
 }

@@ -4,7 +4,7 @@ use Rattle.std.specs.declared.alloc.Global.{Global}
 use Rattle.std.specs.Io.KnownBytes.{Keeps, Appends}
 use Rattle.rev_program.specs.Fault as fault
 use Rattle.rev_program.specs.Opening.{IsNoted, full_text}
-use Rattle.rev_program.specs.Program.{StopsBy, FailsBy, EndsEarly, EndsBehind, EndsNoted, EndsUnwritten}
+use Rattle.rev_program.specs.Program.{StopsBy, FailsBy, EndsEarly, EndsBehind, EndsNoted, EndsPlainly, EndsUnwritten, IsStatus}
 use Rattle.rev_script.specs.declared.dialect.Dialect.{Dialect}
 use Rattle.rev_program.specs.Recordings.{EndedBy, HasNoRows}
 use Rattle.rev_program.specs.Stop as stop
@@ -79,3 +79,15 @@ noted_of told tells before after n h = record {
 -- nothing was told of an import
 pub unnoted : (told tells : Option (List ℕ)) (before after n : ℕ) → (n ≡ 0 → Keeps told tells) → (n ≢ 0 → EndsEarly told tells before after n) → EndsNoted told tells before after n
 unnoted told tells before after n quiet early = noted_of told tells before after n (plainly told tells before after n quiet early)
+
+-- a program that was stopped, or ended with nothing told
+pub plain_of : (told tells : Option (List ℕ)) (before after : ℕ) (r : Result (Unit {0}) Stop) (n : ℕ) → IsStatus n → MatchResult r (λ _. n ≡ 0) (λ s. n ≡ stop.status s) → (n ≡ 0 → Keeps told tells) →
+    IfErr r (λ s. Told told tells before after (stop.text s)) → EndsPlainly told tells before after n
+plain_of told tells before after r n status is quiet text = record { status_is = status; quiet = quiet; stopped = stopped_of told tells before after r n is text }
+
+-- nothing was told of traces, and no recording ended
+pub behind_of : (told tells : Option (List ℕ)) (before after n : ℕ) → EndsPlainly told tells before after n → EndsBehind told tells before after n
+behind_of told tells before after n h = plainly told tells before after n h.quiet (λ some. inl (h.stopped some))
+
+pub noted_plainly : (told tells : Option (List ℕ)) (before after n : ℕ) → EndsPlainly told tells before after n → EndsNoted told tells before after n
+noted_plainly told tells before after n h = noted_of told tells before after n (behind_of told tells before after n h)

@@ -51,6 +51,12 @@ pub record EndsNoted (told tells : Option (List ℕ)) (before after : ℕ) (resu
   pub quiet : result ≡ 0 → Keeps between tells
   pub early : result ≢ 0 → EndsEarly between tells failures after result
 
+-- the program ended with nothing told at status 0, or it was stopped
+pub record EndsPlainly (told tells : Option (List ℕ)) (before after : ℕ) (result : ℕ) : Type 0 where
+  pub status_is : IsStatus result
+  pub quiet : result ≡ 0 → Keeps told tells
+  pub stopped : result ≢ 0 → (s : Stop) × StopsBy told tells before after result s
+
 -- ended early as above, and nothing was written but where a write failed
 abbrev pub EndsUnwritten : Option (List ℕ) → Option (List ℕ) → ℕ → ℕ → ℕ → Option (List ℕ) → Option (List ℕ) → Type 0
 EndsUnwritten told tells before after result old new =

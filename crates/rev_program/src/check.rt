@@ -119,14 +119,14 @@ impl Fate {
 
 /// How many gets and evictions are alike.
 #[derive(Clone, Copy, Default)]
-struct Tally {
-    // look-ups of the log, and those that the replay answers alike
-    gets: u64,
-    alike: u64,
-    // evictions of the log, those of the replay, and those of both
-    logged: u64,
-    replayed: u64,
-    both: u64,
+pub(crate) struct Tally {
+    /// Look-ups of the log, and those that the replay answers alike.
+    pub(crate) gets: u64,
+    pub(crate) alike: u64,
+    /// Evictions of the log, those of the replay, and those of both.
+    pub(crate) logged: u64,
+    pub(crate) replayed: u64,
+    pub(crate) both: u64,
 }
 
 fn count(number: &mut u64) {
@@ -288,6 +288,8 @@ pub(crate) struct Check {
     // (the program ends behind it, and all its memory goes back at once)
     session: ManuallyDrop<Session<Global>>,
     comparison: Comparison,
+    // how many steps are played and compared yet
+    steps_left: u64,
 }
 
 impl Check {
@@ -298,16 +300,28 @@ impl Check {
         }
         match open_session(&alloc, config) {
             None => Err(Stop::Memory),
-            Some(session) => Ok(Check {
-                alloc,
-                session: ManuallyDrop::new(session),
-                comparison: Comparison::new(alloc),
-            }),
+            Some(session) => Ok(Check::on(alloc, session, u64::MAX)),
         }
+    }
+
+    /// A replay that goes on from a session, of at most so many steps.
+    pub(crate) fn on(alloc: Global, session: Session<Global>, most_steps: u64) -> Check {
+        Check {
+            alloc,
+            session: ManuallyDrop::new(session),
+            comparison: Comparison::new(alloc),
+            steps_left: most_steps,
+        }
+    }
+
+    /// How many gets and evictions are alike.
+    pub(crate) fn tally(&self) -> Tally {
+        self.comparison.tally
     }
 
     // Plays a step, and notes what it tells. Of the tree only its node is kept.
     fn play(&mut self, step: Step<Global>, said: &Said) -> Result<(), AllocError> {
+        self.steps_left = self.steps_left.saturating_sub(1);
         self.session.restart();
         play_quietly(&mut *self.session, step)?;
         let Some((_, step, outcome, _)) = self.session.trail(1) else {
@@ -374,6 +388,9 @@ impl Check {
     fn replay(&mut self, piece: &[u8], events: &[Noted]) -> Result<(), AllocError> {
         let mut lines = Lines::of(self.alloc, FromRead::new(piece), Dialect::CrLf);
         for event in events {
+            if self.steps_left == 0 {
+                return Ok(());
+            }
             self.note(&event.said)?;
             self.play_lines(&mut lines, event.lines, &event.said)?;
         }

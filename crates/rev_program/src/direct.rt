@@ -34,7 +34,7 @@ use std::mem::ManuallyDrop;
 use std::rt::{Clock, Files};
 
 /// All seconds.
-const ALL: Range = Range {
+pub(crate) const ALL: Range = Range {
     first: 0,
     last: u32::MAX,
     sample: Sample { one_of: 1 },
@@ -123,8 +123,8 @@ fn play_rows<R: Files + AllocGlobal, C: Clock, W: Sink>(
     Ok(())
 }
 
-// The session behind the starts. A configuration at fault is told before a file is opened.
-fn begun<R: Files + AllocGlobal, C: Clock, W: Sink>(
+/// The session behind the starts. A configuration at fault is told before a file is opened.
+pub(crate) fn begun<R: Files + AllocGlobal, C: Clock, W: Sink>(
     rt: &R,
     config: &Config,
     dialect: Dialect,
@@ -139,10 +139,14 @@ fn begun<R: Files + AllocGlobal, C: Clock, W: Sink>(
     started(&alloc, config, dialect, files)
 }
 
-// The session, where all went well.
-fn kept(session: Session<Global>, played: Result<(), Stop>) -> Result<Session<Global>, Stop> {
+/// The session with the configuration of its store, where all went well.
+pub(crate) fn kept(
+    session: Session<Global>,
+    config: Config,
+    played: Result<(), Stop>,
+) -> Result<(Session<Global>, Config), Stop> {
     match played {
-        Ok(()) => Ok(session),
+        Ok(()) => Ok((session, config)),
         Err(stop) => {
             // The program ends here, and all memory goes back at once.
             let _session = ManuallyDrop::new(session);
@@ -151,13 +155,13 @@ fn kept(session: Session<Global>, played: Result<(), Stop>) -> Result<Session<Gl
     }
 }
 
-// The session behind what the logs become.
-fn with_logs<R: Files + AllocGlobal, C: Clock, W: Sink>(
+/// The session behind what the logs become, and the configuration of its store.
+pub(crate) fn with_logs<R: Files + AllocGlobal, C: Clock, W: Sink>(
     rt: &R,
     asked: WatchOpening,
     notes: &mut Vec<u8>,
     progress: &Progress<C, W>,
-) -> Result<Session<Global>, Stop> {
+) -> Result<(Session<Global>, Config), Stop> {
     let WatchOpening {
         manner,
         starts,
@@ -183,18 +187,18 @@ fn with_logs<R: Files + AllocGlobal, C: Clock, W: Sink>(
                 notes,
                 progress,
             );
-            kept(session, played)
+            kept(session, config, played)
         }
     }
 }
 
-// The session behind what the traces become.
-fn with_rows<R: Files + AllocGlobal, C: Clock, W: Sink>(
+/// The session behind what the published traces become, and the configuration of its store.
+pub(crate) fn with_rows<R: Files + AllocGlobal, C: Clock, W: Sink>(
     rt: &R,
     asked: CsvOpening,
     notes: &mut Vec<u8>,
     progress: &Progress<C, W>,
-) -> Result<Session<Global>, Stop> {
+) -> Result<(Session<Global>, Config), Stop> {
     let CsvOpening {
         config,
         manner,
@@ -218,7 +222,7 @@ fn with_rows<R: Files + AllocGlobal, C: Clock, W: Sink>(
                 notes,
                 progress,
             );
-            kept(session, played)
+            kept(session, config, played)
         }
     }
 }
@@ -226,7 +230,7 @@ fn with_rows<R: Files + AllocGlobal, C: Clock, W: Sink>(
 // Tells the notes, and answers the session that the reader gives, where there is one, in the manner that is asked for.
 fn answered<I: Read + Drop, O: Write + Drop, E: Sink>(
     alloc: Global,
-    opened: Result<Session<Global>, Stop>,
+    opened: Result<(Session<Global>, Config), Stop>,
     notes: &[u8],
     manner: Manner,
     reader: I,
@@ -238,7 +242,7 @@ fn answered<I: Read + Drop, O: Write + Drop, E: Sink>(
 {
     match opened {
         Err(stop) => ended(Err(stop), errors),
-        Ok(session) => {
+        Ok((session, _)) => {
             tell_bytes(errors, notes);
             ended(answer(alloc, session, manner, reader, writer), errors)
         }

@@ -50,8 +50,8 @@ pub(crate) struct Names {
     start: Option<StartNames>,
 }
 
-// A text and an end.
-fn with_end(alloc: Global, prefix: &str, end: &str) -> Result<String, AllocError> {
+/// A text and an end.
+pub(crate) fn with_end(alloc: Global, prefix: &str, end: &str) -> Result<String, AllocError> {
     let mut name = String::from_str(alloc, prefix)?;
     name.push_str(end)?;
     Ok(name)
@@ -332,8 +332,8 @@ fn make_script_files<R: Files, M: Making + Drop>(
     }
 }
 
-// Gives a file that is whole its name.
-fn rename<R: Files>(rt: &R, alloc: Global, part: &str, name: &str) -> Result<(), Stop> {
+/// Gives a file that is whole its name.
+pub(crate) fn rename<R: Files>(rt: &R, alloc: Global, part: &str, name: &str) -> Result<(), Stop> {
     match fs::rename(rt, part, name) {
         Ok(()) => Ok(()),
         Err(_) => Err(cannot_write(alloc, name)),

@@ -2,6 +2,7 @@
 //! scripts played at once by several players on one session, with the rows that tell how it went.
 #![tactic(auto)]
 
+mod agreement;
 mod check;
 pub mod direct;
 mod fault;
@@ -12,6 +13,7 @@ pub mod opening;
 pub mod play;
 pub mod program;
 pub mod progress;
+pub mod report;
 mod rows;
 mod starts;
 pub mod state;
@@ -19,6 +21,7 @@ mod steps;
 mod stop;
 mod telling;
 pub mod traces;
+mod trials;
 
 pub use fault::RecordingFault;
 pub use stop::Stop;

@@ -133,8 +133,8 @@ pub(crate) fn told_files<'p, R: Files, C, W>(
     Ok(files)
 }
 
-// The files, opened in order, those of the starts first, and what `with_traces` makes of them.
-fn opened_with_traces<R: Files + AllocGlobal, C: Clock, W: Sink>(
+/// The files, opened in order, those of the starts first, and what `with_traces` makes of them.
+pub(crate) fn opened_with_traces<R: Files + AllocGlobal, C: Clock, W: Sink>(
     rt: &R,
     config: &Config,
     dialect: Dialect,

@@ -2,9 +2,9 @@
 ghost use Rattle.std.specs.Prelude.{◌≡◌, ◌≢◌, ◌≤◌, length, map, true, false, Err, IfOk, IfErr, IfSome, MatchResult};
 ghost use Rattle.std.specs.Io.KnownBytes.{Keeps};
 ghost use Rattle.rev_classes.specs.Limits.{IsWithinLimits, fault_of};
-ghost use Rattle.rev_options.specs.Request.{asks_import, asks_open, asks_run, brings};
+ghost use Rattle.rev_options.specs.Request.{asks_import, asks_open, asks_report, asks_run, brings};
 ghost use Rattle.rev_program.specs.Progress.{asks_progress};
-ghost use Rattle.rev_program.specs.Program.{IsStatus, StopsBy, EndsEarly, EndsBehind, EndsNoted, EndsUnwritten, EndsRun, IsCounted, tally_text};
+ghost use Rattle.rev_program.specs.Program.{IsStatus, StopsBy, EndsEarly, EndsBehind, EndsNoted, EndsPlainly, EndsUnwritten, EndsRun, IsCounted, tally_text};
 ghost use Rattle.rev_program.specs.Stop.{status, text, stop_of_config};
 ghost use Rattle.rev_program.specs.Telling.{Told};
 
@@ -14,6 +14,7 @@ use crate::json::run_script_as_json;
 use crate::opening::open_traces;
 use crate::play::play_files;
 use crate::progress::{Progress, asks_progress};
+use crate::report::report;
 use crate::starts::started;
 use crate::state::import_state;
 use crate::stop::Stop;
@@ -347,6 +348,7 @@ fn program_with<
     ensures run { asks_run (map S.text words.now) ≡ true → EndsRun (E.contents errors.old) (E.contents errors.new) (E.failures errors.old) (E.failures errors.new) result }
     ensures noted { asks_import (map S.text words.now) ≡ false → asks_run (map S.text words.now) ≡ false → EndsNoted (E.contents errors.old) (E.contents errors.new) (E.failures errors.old) (E.failures errors.new) result }
     ensures behind { asks_import (map S.text words.now) ≡ false → asks_run (map S.text words.now) ≡ false → brings (map S.text words.now) ≡ false → EndsBehind (E.contents errors.old) (E.contents errors.new) (E.failures errors.old) (E.failures errors.new) result }
+    ensures report { asks_report (map S.text words.now) ≡ true → EndsPlainly (E.contents errors.old) (E.contents errors.new) (E.failures errors.old) (E.failures errors.new) result }
 {
     match parse_words(rt.alloc(), words) {
         Err(refused) => ended(Err(Stop::from(refused)), errors),
@@ -380,6 +382,7 @@ fn program_with<
         Ok(Request::Open(asked)) => open_traces(rt, asked, reader, writer, errors, progress),
         Ok(Request::OpenWatch(asked)) => open_watch(rt, asked, reader, writer, errors, progress),
         Ok(Request::OpenCsv(asked)) => open_csv(rt, asked, reader, writer, errors, progress),
+        Ok(Request::Report(asked)) => report(rt, asked, errors, progress),
     }
 }
 
@@ -387,8 +390,9 @@ fn program_with<
 ///
 /// Answers go to `writer`. At status 0 nothing goes to `errors`, but what an import tells of itself, that of `open` too, what is
 /// told of traces that fill the tree, and which commands of a run were malformed or refused; at any other the text of the
-/// reason does, whole where no write to `errors` has failed. How far traces and imports have come goes to `progress`, and
-/// nothing does where no word asks for it. The players of a recording wait for one another.
+/// reason does, whole where no write to `errors` has failed. A report goes to its files, and only how the program was
+/// stopped is told of it. How far traces and imports have come goes to `progress`, and nothing does where no word asks for
+/// it. The players of a recording wait for one another.
 pub fn program<
     R: Files + Threads + Wait + Clock + Sync + AllocGlobal,
     S: AsStr,
@@ -403,6 +407,7 @@ pub fn program<
     ensures run { asks_run (map S.text words.now) ≡ true → EndsRun (E.contents errors.old) (E.contents errors.new) (E.failures errors.old) (E.failures errors.new) result }
     ensures noted { asks_import (map S.text words.now) ≡ false → asks_run (map S.text words.now) ≡ false → EndsNoted (E.contents errors.old) (E.contents errors.new) (E.failures errors.old) (E.failures errors.new) result }
     ensures behind { asks_import (map S.text words.now) ≡ false → asks_run (map S.text words.now) ≡ false → brings (map S.text words.now) ≡ false → EndsBehind (E.contents errors.old) (E.contents errors.new) (E.failures errors.old) (E.failures errors.new) result }
+    ensures report { asks_report (map S.text words.now) ≡ true → EndsPlainly (E.contents errors.old) (E.contents errors.new) (E.failures errors.old) (E.failures errors.new) result }
     ensures progress { asks_progress (map S.text words.now) ≡ false → Keeps (P.contents progress.old) (P.contents progress.new) }
 {
     if asks_progress(words) {

@@ -1,5 +1,6 @@
 -- How numbers are written.
--- Rule of this project: groups of three digits with a narrow space between them; tenths behind a point, where there are any.
+-- Rule of this project: groups of three digits with a narrow space between them; tenths behind a point, where there are
+-- any.
 use Rattle.std.specs.Prelude.{ℕ, zero, suc, ◌/◌, ◌%◌, cond, nat_eq, List, [], ◌∷◌, ◌++◌, length, codes, decimal}
 
 -- a narrow space at which no line breaks, U+202F, between two groups

@@ -1,4 +1,7 @@
 //! The table by class.
+ghost use Rattle.std.specs.Prelude.{◌≡◌};
+ghost use Rattle.rev_report.specs.Cells.{cells_of};
+
 use crate::figures::{ClassRow, Figures};
 use crate::markup::Piece::{Count, Markup, Tenths};
 use crate::markup::put;
@@ -30,8 +33,20 @@ pub const CELL_NAMES: [&str; CELLS] = [
     "asked again after, median s",
 ];
 
+// The number, in more bits.
+fn wide(n: Option<u32>) -> Option<u64>
+    ensures { result ≡ n }
+{
+    match n {
+        Some(n) => Some(u64::from(n)),
+        None => None,
+    }
+}
+
 /// The figures of a row, in the same order; none where there is nothing to tell.
-pub fn cells(row: &ClassRow) -> [Option<u64>; CELLS] {
+pub fn cells(row: &ClassRow) -> [Option<u64>; CELLS]
+    ensures { result ≡ cells_of row.now }
+{
     let figures = &row.figures;
     let [
         evicted,
@@ -58,9 +73,9 @@ pub fn cells(row: &ClassRow) -> [Option<u64>; CELLS] {
         Some(by_crawler),
         Some(reclaimed),
         Some(figures.unfetched as u64),
-        figures.idle.map(u64::from),
+        wide(figures.idle),
         Some(figures.asked as u64),
-        figures.asked_after.map(u64::from),
+        wide(figures.asked_after),
     ]
 }
 

@@ -1,5 +1,5 @@
 //! The figures of a session that a report is made of.
-use crate::slots::{Slot, slots_of};
+use crate::slots::{Slot, rows_at, slots_of};
 use crate::words::{Clock, cause_numbers};
 use rev_classes::ClassTable;
 use rev_figures::{
@@ -74,8 +74,8 @@ pub fn all_left(left: &CauseCounts) -> u64 {
 // How many pages a class owns at the end, and how many bytes its items have.
 fn held_at_end(path: &Path<Global>, class: usize) -> (u64, u64) {
     let steps = path.steps.len();
-    for row in &path.bytes {
-        if row.step == steps && row.class == class {
+    for row in rows_at(&path.bytes, steps) {
+        if row.class == class {
             let warmer = row.hot.saturating_add(row.warm);
             let colder = row.cold.saturating_add(row.temp);
             return (row.pages as u64, warmer.saturating_add(colder));
@@ -85,9 +85,8 @@ fn held_at_end(path: &Path<Global>, class: usize) -> (u64, u64) {
 }
 
 // Whether a class stored a key, hit one, or lost one.
-fn has_part(path: &Path<Global>, class: u8) -> bool {
-    path.steps.iter().any(|step| step.class == class)
-        || path.leavings.iter().any(|leaving| leaving.class == class)
+fn has_part(figures: &ClassFigures) -> bool {
+    figures.stores > 0 || figures.hits > 0 || all_left(&figures.left) > 0
 }
 
 // The rows of all classes that have a part in the trace.
@@ -97,15 +96,13 @@ fn class_rows(
     table: &ClassTable,
 ) -> Result<Vec<ClassRow>, AllocError> {
     let mut rows = Vec::new(alloc);
-    for number in 1..=62u8 {
-        let class = usize::from(number);
-        if class > table.last() {
-            break;
-        }
+    let all = class_figures(path, table.last() as u8, &alloc)?;
+    for (place, figures) in all.iter().enumerate() {
+        let class = place + 1;
         let (pages, bytes) = held_at_end(path, class);
-        if pages > 0 || has_part(path, number) {
+        if pages > 0 || has_part(figures) {
             rows.push(ClassRow {
-                figures: class_figures(path, number, &alloc)?,
+                figures: *figures,
                 chunk_size: table.chunk_size(class),
                 pages,
                 bytes,
@@ -116,8 +113,8 @@ fn class_rows(
     Ok(rows)
 }
 
-/// The figures of the way from the root to the current node of a session, whose store has this configuration. The session
-/// stands where it stood.
+/// The figures of the way from the root to the current node of a session, whose store has this configuration. The
+/// session stands where it stood.
 pub fn figures_of(
     alloc: Global,
     session: &mut Session<Global>,

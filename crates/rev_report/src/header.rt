@@ -1,10 +1,11 @@
 //! What a report tells first: which cache, which trace, and how it went.
+use crate::agreement::put_agreement;
 use crate::charts::put_fact;
 use crate::figures::{Figures, all_left};
-use crate::markup::Piece::{self, Count, Markup, Tenths};
+use crate::markup::Piece::{Count, Markup};
 use crate::markup::{outside, put};
 use crate::page::Subject;
-use crate::scale::Scale;
+use crate::share::{Share, put_part};
 use crate::words::{put_bytes, put_time};
 use rev_classes::Config;
 use std::alloc::AllocError;
@@ -26,23 +27,20 @@ fn put_names(out: &mut Vec<u8>, names: &[String]) -> Result<(), AllocError> {
     Ok(())
 }
 
-// Puts a number, and how many thousandths of a whole it is, as a share of a hundred.
+// Puts a number, and how many thousandths of the look-ups it is.
 fn put_share(
     out: &mut Vec<u8>,
     name: &'static str,
     part: u64,
+    look_ups: u64,
     thousandths: u32,
 ) -> Result<(), AllocError> {
-    put_fact(
+    put(
         out,
-        name,
-        &[
-            Count(part),
-            Markup(" ("),
-            Tenths(thousandths),
-            Markup("\u{202f}%)"),
-        ],
-    )
+        &[Markup("<div><dt>"), Markup(name), Markup("</dt><dd>")],
+    )?;
+    put_part(out, part, look_ups, thousandths)?;
+    put(out, &[Markup("</dd></div>")])
 }
 
 // Puts how far the clock goes.
@@ -73,18 +71,16 @@ fn put_pages(out: &mut Vec<u8>, config: &Config) -> Result<(), AllocError> {
 fn put_facts(out: &mut Vec<u8>, config: &Config, figures: &Figures) -> Result<(), AllocError> {
     let totals = &figures.totals;
     let (hits, misses) = (totals.hits as u64, totals.misses as u64);
-    let look_ups = hits.saturating_add(misses);
-    let all = if look_ups == 0 { 0 } else { 1000 };
-    let scale = Scale {
-        last: look_ups,
-        length: all,
+    let share = Share {
+        part: hits,
+        whole: hits.saturating_add(misses),
     };
-    let share = scale.at(hits);
+    let of_hits = share.thousandths();
     put(out, &[Markup("<dl>")])?;
     put_fact(out, "Steps", &[Count(totals.steps as u64)])?;
     put_clock_fact(out, figures)?;
-    put_share(out, "Hits", hits, share)?;
-    put_share(out, "Misses", misses, all.saturating_sub(share))?;
+    put_share(out, "Hits", hits, share.whole, of_hits)?;
+    put_share(out, "Misses", misses, share.whole, 1000 - of_hits)?;
     put_fact(out, "Stores", &[Count(totals.stores as u64)])?;
     put_fact(out, "Keys that left", &[Count(all_left(&totals.left))])?;
     put_pages(out, config)?;
@@ -111,7 +107,8 @@ fn put_notes(out: &mut Vec<u8>, notes: &[u8]) -> Result<(), AllocError> {
     put(out, &[Markup("</ul>")])
 }
 
-/// Puts the cache's options, the trace's steps and clock, hits and misses, and what was guessed or left out.
+/// Puts the trace's steps and clock, hits and misses, how far the replay agrees with its log, the cache's options, and
+/// what was guessed or left out.
 pub fn put_header(
     out: &mut Vec<u8>,
     subject: &Subject<'_>,
@@ -126,6 +123,9 @@ pub fn put_header(
     put_names(out, subject.names)?;
     put(out, &[Markup("</p>")])?;
     put_facts(out, subject.config, figures)?;
+    if let Some(agreement) = &subject.agreement {
+        put_agreement(out, agreement)?;
+    }
     put(
         out,
         &[

@@ -2,8 +2,10 @@
 //! the rows that the pictures are made of as CSV.
 #![tactic(auto)]
 
+pub mod agreement;
 mod charts;
 mod classes;
+mod curve;
 mod escape;
 pub mod figures;
 mod header;
@@ -16,7 +18,9 @@ mod plot;
 mod queues;
 pub mod rows;
 mod scale;
+pub mod share;
 pub mod slots;
 mod style;
 mod times;
+pub mod what_if;
 mod words;

@@ -29,8 +29,8 @@ fn is_shown(character: char) -> bool {
     character >= ' ' && character != '\u{7f}' && character != '\u{fffe}' && character != '\u{ffff}'
 }
 
-/// The piece for bytes from outside: a text where they are one, all of whose characters may stand in markup. None of what
-/// is written of it is read as markup.
+/// The piece for bytes from outside: a text where they are one, all of whose characters may stand in markup. None of
+/// what is written of it is read as markup.
 pub fn outside(bytes: &[u8]) -> Piece<'_>
     ensures of { IsOf bytes.now result }
     ensures safe { is_safe (piece_text result) ≡ true }

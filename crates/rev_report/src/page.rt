@@ -1,4 +1,5 @@
 //! The page of a report.
+use crate::agreement::Agreement;
 use crate::classes::put_classes;
 use crate::figures::Figures;
 use crate::header::put_header;
@@ -11,6 +12,7 @@ use crate::queues::{QueueCurve, put_queues, queue_curves};
 use crate::slots::{left_columns, move_columns};
 use crate::style::{FILLS, STYLE};
 use crate::times::put_times;
+use crate::what_if::{WhatIf, put_what_ifs};
 use rev_classes::Config;
 use std::alloc::{AllocError, Global};
 
@@ -24,6 +26,10 @@ pub struct Subject<'a> {
     pub options: &'a [u8],
     /// What was guessed or left out, a line each.
     pub notes: &'a [u8],
+    /// How far the replay agrees with the log of which the trace was made, where there is one.
+    pub agreement: Option<Agreement>,
+    /// The trace with other settings.
+    pub what_ifs: &'a [WhatIf],
 }
 
 /// What the pictures are made of.
@@ -61,6 +67,26 @@ fn put_front(out: &mut Vec<u8>) -> Result<(), AllocError> {
     )
 }
 
+// Puts the tables and pictures of steps, or that there is none.
+fn put_steps(
+    out: &mut Vec<u8>,
+    alloc: Global,
+    subject: &Subject<'_>,
+    figures: &Figures,
+    curves: &Curves,
+) -> Result<(), AllocError> {
+    if figures.totals.steps == 0 {
+        return put(
+            out,
+            &[Markup("<p>The trace has no step, so there is nothing to count or to draw.</p>")],
+        );
+    }
+    put_classes(out, figures)?;
+    put_times(out, figures, &curves.left, &curves.moved)?;
+    put_queues(out, alloc, figures, &curves.queues)?;
+    put_what_ifs(out, alloc, figures, subject.what_ifs)
+}
+
 /// Puts the whole page.
 pub fn put_page(
     out: &mut Vec<u8>,
@@ -72,9 +98,7 @@ pub fn put_page(
 ) -> Result<(), AllocError> {
     put_front(out)?;
     put_header(out, subject, figures)?;
-    put_classes(out, figures)?;
-    put_times(out, figures, &curves.left, &curves.moved)?;
-    put_queues(out, alloc, figures, &curves.queues)?;
+    put_steps(out, alloc, subject, figures, curves)?;
     put_keys(out, figures, lives)?;
     put(out, &[Markup("</main></body></html>\n")])
 }

@@ -116,7 +116,8 @@ impl Plot {
         put(out, &[Markup("</text>")])
     }
 
-    // Puts a tick below the line at so many steps, with their number, and below it the clock where there is one to tell.
+    // Puts a tick below the line at so many steps, with their number, and below it the clock where there is one to
+    // tell.
     fn put_tick(
         &self,
         out: &mut Vec<u8>,

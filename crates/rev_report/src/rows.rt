@@ -1,10 +1,16 @@
 //! The rows of a report's tables and curves, as CSV.
+ghost use Rattle.std.specs.Prelude.{◌≡◌, ◌≢◌, ◌++◌, OnOk, decimal};
+ghost use Rattle.std.specs.Io.KnownBytes.{Appends};
+ghost use Rattle.csv.specs.Writing.{writer_setup, fields_written, text_written, next_sep, field_text};
+ghost use Rattle.csv.specs.declared.writer.QuoteStyle.TheVariants as style;
+
 use crate::classes::{CELL_NAMES, cells};
 use crate::figures::Figures;
 use crate::keys::{cause_words, step_of};
 use crate::life::Life;
 use crate::page::Curves;
 use crate::plot::Column;
+use crate::what_if::{Counts, Trial, Value, WhatIf, own_counts, setting_word};
 use crate::words::{CAUSES, QUEUES, second_after};
 use csv::{Writer, WriterBuilder};
 use itoa::Buffer;
@@ -22,7 +28,9 @@ use thiserror::Error;
 pub struct RowsFailed;
 
 // Puts a field.
-fn put_word<W: Write + Drop>(rows: &mut Writer<W>, word: &[u8]) -> Result<(), RowsFailed> {
+fn put_word<W: Write + Drop>(rows: &mut Writer<W>, word: &[u8]) -> Result<(), RowsFailed>
+    ensures { OnOk result (((writer_setup rows.old).style ≢ style.NonNumeric) → Appends (text_written W.contents rows.old) (text_written W.contents rows.new) (next_sep (writer_setup rows.old) (fields_written rows.old) ++ field_text (writer_setup rows.old) word.now)) }
+{
     match rows.write_field(word) {
         Ok(()) => Ok(()),
         Err(_) => Err(RowsFailed),
@@ -30,7 +38,9 @@ fn put_word<W: Write + Drop>(rows: &mut Writer<W>, word: &[u8]) -> Result<(), Ro
 }
 
 // Puts a field that is a number.
-fn put_number<W: Write + Drop>(rows: &mut Writer<W>, n: u64) -> Result<(), RowsFailed> {
+fn put_number<W: Write + Drop>(rows: &mut Writer<W>, n: u64) -> Result<(), RowsFailed>
+    ensures { OnOk result (((writer_setup rows.old).style ≢ style.NonNumeric) → Appends (text_written W.contents rows.old) (text_written W.contents rows.new) (next_sep (writer_setup rows.old) (fields_written rows.old) ++ field_text (writer_setup rows.old) (decimal n))) }
+{
     let mut digits = Buffer::new();
     put_word(rows, digits.format(n).as_bytes())
 }
@@ -237,6 +247,80 @@ pub fn write_lives<W: Write + Drop>(
     end(&mut rows)?;
     for life in lives {
         put_life(&mut rows, &figures.path, life)?;
+    }
+    sent(rows)
+}
+
+// Puts what the steps did.
+fn put_counts<W: Write + Drop>(rows: &mut Writer<W>, counts: &Counts) -> Result<(), RowsFailed> {
+    put_numbers(
+        rows,
+        &[
+            counts.hits,
+            counts.misses,
+            u64::from(counts.share().thousandths()),
+            counts.evictions,
+        ],
+    )
+}
+
+// Puts a setting's value, as a number and what it is divided by, and which run it is of.
+fn put_run<W: Write + Drop>(
+    rows: &mut Writer<W>,
+    what_if: &WhatIf,
+    value: Option<Value>,
+    run: &str,
+) -> Result<(), RowsFailed> {
+    put_word(rows, setting_word(what_if.setting).as_bytes())?;
+    match value {
+        Some(value) => put_numbers(rows, &[u64::from(value.num), u64::from(value.den)])?,
+        None => put_words(rows, &["", ""])?,
+    }
+    put_word(rows, run.as_bytes())
+}
+
+fn put_trial<W: Write + Drop>(
+    rows: &mut Writer<W>,
+    what_if: &WhatIf,
+    trial: &Trial,
+) -> Result<(), RowsFailed> {
+    put_run(rows, what_if, Some(trial.value), "what if")?;
+    match &trial.counts {
+        Some(counts) => put_counts(rows, counts)?,
+        None => put_words(rows, &["", "", "", ""])?,
+    }
+    end(rows)
+}
+
+/// Writes what other settings would have done, with a row for the trace itself in front of each setting's.
+pub fn write_what_ifs<W: Write + Drop>(
+    writer: W,
+    figures: &Figures,
+    what_ifs: &[WhatIf],
+) -> Result<(), RowsFailed> {
+    let mut rows = WriterBuilder::new().from_writer(writer);
+    put_words(
+        &mut rows,
+        &[
+            "setting",
+            "value",
+            "divided by",
+            "run",
+            "hits",
+            "misses",
+            "hit share, thousandths",
+            "evictions",
+        ],
+    )?;
+    end(&mut rows)?;
+    let own = own_counts(figures);
+    for what_if in what_ifs {
+        put_run(&mut rows, what_if, what_if.own, "this trace")?;
+        put_counts(&mut rows, &own)?;
+        end(&mut rows)?;
+        for trial in &what_if.trials {
+            put_trial(&mut rows, what_if, trial)?;
+        }
     }
     sent(rows)
 }

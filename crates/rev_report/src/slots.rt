@@ -1,8 +1,12 @@
 //! The parts of a trace, one behind another, and what happened in each.
+ghost use Rattle.std.specs.Prelude.{◌≡◌, ◌∷◌, [], ℕ, IfOk, Some, slice_get};
+ghost use Rattle.rev_figures.specs.Slots.{slot_counts, slot_moves};
+ghost use Rattle.rev_report.specs.Cells.{causes_of};
+ghost use Rattle.rev_report.specs.declared.plot.Column.{Column};
+
 use crate::plot::Column;
 use crate::words::cause_numbers;
-use rev_figures::{CauseCounts, Leaving, PageMove, Path, QueueBytes};
-use rev_model::Cause;
+use rev_figures::{Path, QueueBytes, left_by_slot, moves_by_slot};
 use std::alloc::{AllocError, Global};
 
 /// The most slots of a path.
@@ -33,44 +37,11 @@ pub fn slots_of(alloc: Global, path: &Path<Global>) -> Result<Vec<Slot>, AllocEr
     Ok(slots)
 }
 
-// One more that left by a cause.
-fn count(counts: &mut CauseCounts, cause: Cause) {
-    let count = match cause {
-        Cause::Evicted => &mut counts.evicted,
-        Cause::EvictedByMover => &mut counts.evicted_by_mover,
-        Cause::ReclaimedByPull => &mut counts.reclaimed_by_pull,
-        Cause::ReclaimedByCrawler => &mut counts.reclaimed_by_crawler,
-        Cause::ReclaimedByHit => &mut counts.reclaimed_by_hit,
-        Cause::ReclaimedByMover => &mut counts.reclaimed_by_mover,
-        Cause::Deleted => &mut counts.deleted,
-        Cause::DroppedByFailedSet => &mut counts.dropped_by_failed_set,
-    };
-    *count = count.saturating_add(1);
-}
-
-// How many keys left in a slot, by cause.
-fn left_in(leavings: &[Leaving], slot: Slot) -> CauseCounts {
-    let mut counts = CauseCounts {
-        evicted: 0,
-        evicted_by_mover: 0,
-        reclaimed_by_pull: 0,
-        reclaimed_by_crawler: 0,
-        reclaimed_by_hit: 0,
-        reclaimed_by_mover: 0,
-        deleted: 0,
-        dropped_by_failed_set: 0,
-    };
-    let first = leavings.partition_point(|leaving| leaving.step <= slot.from);
-    let last = leavings.partition_point(|leaving| leaving.step <= slot.to);
-    if let Some(inside) = leavings.get(first..last) {
-        for leaving in inside {
-            count(&mut counts, leaving.cause);
-        }
-    }
-    counts
-}
-
-fn column(slot: Slot, values: [u64; 8]) -> Column {
+fn column(slot: Slot, values: [u64; 8]) -> Column
+    ensures from { result.from ≡ slot.from }
+    ensures to { result.to ≡ slot.to }
+    ensures values { result.values ≡ values }
+{
     Column {
         from: slot.from as u64,
         to: slot.to as u64,
@@ -83,20 +54,15 @@ pub fn left_columns(
     alloc: Global,
     path: &Path<Global>,
     slots: &[Slot],
-) -> Result<Vec<Column>, AllocError> {
+) -> Result<Vec<Column>, AllocError>
+    ensures values { IfOk result (λ columns. (i : ℕ) (c : Column) → slice_get columns.items i ≡ Some c → c.values ≡ causes_of (slot_counts path.now.slot_length i path.now.leavings.items)) }
+{
+    let counts = left_by_slot(path, slots.len(), &alloc)?;
     let mut columns = Vec::new(alloc);
-    for slot in slots {
-        let left = left_in(&path.leavings, *slot);
-        columns.push(column(*slot, cause_numbers(&left)))?;
+    for place in 0..slots.len() {
+        columns.push(column(slots[place], cause_numbers(&counts[place])))?;
     }
     Ok(columns)
-}
-
-// How many pages moved in a slot.
-fn moved_in(moves: &[PageMove], slot: Slot) -> u64 {
-    let first = moves.partition_point(|moved| moved.step <= slot.from);
-    let last = moves.partition_point(|moved| moved.step <= slot.to);
-    last.saturating_sub(first) as u64
 }
 
 /// How many pages moved in each slot.
@@ -104,18 +70,28 @@ pub fn move_columns(
     alloc: Global,
     path: &Path<Global>,
     slots: &[Slot],
-) -> Result<Vec<Column>, AllocError> {
+) -> Result<Vec<Column>, AllocError>
+    ensures values { IfOk result (λ columns. (i : ℕ) (c : Column) → slice_get columns.items i ≡ Some c → c.values ≡ slot_moves path.now.slot_length i path.now.moves.items ∷ 0 ∷ 0 ∷ 0 ∷ 0 ∷ 0 ∷ 0 ∷ 0 ∷ []) }
+{
+    let counts = moves_by_slot(path, slots.len(), &alloc)?;
     let mut columns = Vec::new(alloc);
-    for slot in slots {
-        columns.push(column(*slot, [moved_in(&path.moves, *slot), 0, 0, 0, 0, 0, 0, 0]))?;
+    for place in 0..slots.len() {
+        columns.push(column(slots[place], [counts[place] as u64, 0, 0, 0, 0, 0, 0, 0]))?;
     }
     Ok(columns)
 }
 
+/// The rows behind so many steps, of rows in the order of their steps.
+pub fn rows_at(rows: &[QueueBytes], step: usize) -> &[QueueBytes] {
+    let first = rows.partition_point(|row| row.step < step);
+    let last = rows.partition_point(|row| row.step <= step);
+    rows.get(first..last).unwrap_or(&[])
+}
+
 // The bytes of a class's queues behind so many steps.
 fn bytes_at(rows: &[QueueBytes], class: usize, step: usize) -> [u64; 8] {
-    for row in rows {
-        if row.step == step && row.class == class {
+    for row in rows_at(rows, step) {
+        if row.class == class {
             return [row.hot, row.warm, row.cold, row.temp, 0, 0, 0, 0];
         }
     }

@@ -1,8 +1,10 @@
 //! Words and numbers as a reader sees them.
-ghost use Rattle.std.specs.Prelude.{◌≡◌, [], ◌∷◌};
+ghost use Rattle.std.specs.Prelude.{◌≡◌};
+ghost use Rattle.rev_report.specs.Cells.{causes_of};
 
 use crate::markup::Piece::{Count, Markup, Plain, Tenths};
 use crate::markup::put;
+use crate::what_if::Value;
 use rev_figures::{CauseCounts, Path};
 use std::alloc::{AllocError, Global};
 
@@ -25,8 +27,7 @@ pub const CAUSE_FILLS: [&str; 8] = [
 
 /// The numbers of causes, in the same order.
 pub fn cause_numbers(left: &CauseCounts) -> [u64; 8]
-    ensures { result ≡ left.now.evicted ∷ left.now.evicted_by_mover ∷ left.now.deleted ∷ left.now.dropped_by_failed_set
-        ∷ left.now.reclaimed_by_hit ∷ left.now.reclaimed_by_pull ∷ left.now.reclaimed_by_crawler ∷ left.now.reclaimed_by_mover ∷ [] }
+    ensures { result ≡ causes_of left.now }
 {
     [
         left.evicted as u64,
@@ -110,6 +111,48 @@ fn put_two(out: &mut Vec<u8>, n: u64) -> Result<(), AllocError> {
     } else {
         put(out, &[Plain(n)])
     }
+}
+
+// Puts a number of three digits.
+fn put_three(out: &mut Vec<u8>, n: u64) -> Result<(), AllocError> {
+    if n < 100 {
+        put(out, &[Markup("0")])?;
+    }
+    put_two(out, n)
+}
+
+/// Puts so many thousandths, with no more digits behind the point than it takes.
+pub fn put_thousandths(out: &mut Vec<u8>, n: u64) -> Result<(), AllocError> {
+    let rest = n % 1000;
+    put(out, &[Count(n / 1000)])?;
+    if rest == 0 {
+        return Ok(());
+    }
+    put(out, &[Markup(".")])?;
+    if rest % 100 == 0 {
+        put(out, &[Plain(rest / 100)])
+    } else if rest % 10 == 0 {
+        put_two(out, rest / 10)
+    } else {
+        put_three(out, rest)
+    }
+}
+
+/// Puts the value of a setting.
+pub fn put_value(out: &mut Vec<u8>, value: Value) -> Result<(), AllocError> {
+    put(out, &[Count(u64::from(value.num))])?;
+    if value.den == 1 {
+        return Ok(());
+    }
+    put(
+        out,
+        &[
+            Markup("/"),
+            Count(u64::from(value.den)),
+            Markup("\u{202f}=\u{202f}"),
+        ],
+    )?;
+    put_thousandths(out, value.thousandths())
 }
 
 /// Puts seconds as minutes and seconds, with hours in front of them where there are any.

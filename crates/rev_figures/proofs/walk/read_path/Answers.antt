@@ -1,6 +1,5 @@
-use Rattle.std.proofs.Common.{◌++◌, reverse, length, ◌∙◌, ap}
+use Rattle.std.proofs.Common.{◌++◌, reverse, ◌∙◌, ap}
 use Rattle.std.proofs.lemmas.List.{reverse-reverse}
-use Rattle.rev_undotree.specs.Machine.{lineage}
 use Rattle.rev_figures.specs.Paths.{slot_length, path_bytes}
 use Rattle.rev_figures.proofs.Returning.{clock_there}
 use Rattle.rev_figures.proofs.walk.read_path.Goals as goal

@@ -1,5 +1,5 @@
 use Rattle.std.proofs.Common.{◌≡◌, true, false, inl, rules, sym, ◌∙◌, Err}
-use Rattle.rev_program.proofs.Ends.{stopped_of, plainly, unnoted, noted_of, early_of}
+use Rattle.rev_program.proofs.Ends.{stopped_of, plainly, plain_of, unnoted, noted_of, noted_plainly, behind_of, early_of}
 use Rattle.rev_program.proofs.Tallies.{run_stopped}
 use Rattle.rev_program.proofs.program.program_with.Goals as goal
 
@@ -39,3 +39,24 @@ returns-in-Ok-OpenWatch-clause-noted g c = λ i r. c.open_watch.ensures.ends
 
 pub returns-in-Ok-OpenCsv-clause-noted : goal.returns-in-Ok-OpenCsv-clause-noted
 returns-in-Ok-OpenCsv-clause-noted g c = λ i r. c.open_csv.ensures.ends
+
+pub returns-in-Err-clause-report : goal.returns-in-Err-clause-report
+returns-in-Err-clause-report g c = λ asks. plain_of _ _ _ _ (Err c.from.result) _ c.ended.ensures.range c.ended.ensures.status c.ended.ensures.quiet c.ended.ensures.told
+
+pub returns-in-Ok-Report-clause-status : goal.returns-in-Ok-Report-clause-status
+returns-in-Ok-Report-clause-status g c = c.report.ensures.ends.status_is
+
+pub returns-in-Ok-Report-clause-early : goal.returns-in-Ok-Report-clause-early
+returns-in-Ok-Report-clause-early g c = λ some other. inl (c.report.ensures.ends.stopped some)
+
+pub returns-in-Ok-Report-clause-quiet : goal.returns-in-Ok-Report-clause-quiet
+returns-in-Ok-Report-clause-quiet g c = λ none i o r. c.report.ensures.ends.quiet none
+
+pub returns-in-Ok-Report-clause-noted : goal.returns-in-Ok-Report-clause-noted
+returns-in-Ok-Report-clause-noted g c = λ i r. noted_plainly _ _ _ _ _ c.report.ensures.ends
+
+pub returns-in-Ok-Report-clause-behind : goal.returns-in-Ok-Report-clause-behind
+returns-in-Ok-Report-clause-behind g c = λ i r b. behind_of _ _ _ _ _ c.report.ensures.ends
+
+pub returns-in-Ok-Report-clause-report : goal.returns-in-Ok-Report-clause-report
+returns-in-Ok-Report-clause-report g c = λ asks. c.report.ensures.ends

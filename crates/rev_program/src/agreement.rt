@@ -1,0 +1,79 @@
+//! How far the replay of logs agrees with them.
+
+use crate::check::{Check, CheckedLogs, Tally};
+use crate::direct::{ALL, begun};
+use crate::import::{Making, all_opened, setup_of};
+use crate::progress::Progress;
+use crate::stop::Stop;
+use rev_intake::intake::Intake;
+use rev_options::WatchOpening;
+use rev_output::{Sink, ToWrite};
+use rev_report::agreement::Agreement;
+use rev_report::share::Share;
+use rev_undotree::MAX_NODES;
+use std::alloc::{AllocError, Global};
+use std::io;
+use std::io::Read;
+use std::rt::{Clock, Files};
+
+// Plays what the logs become beside them. The script itself is wanted nowhere.
+fn compare<F: Read + Drop>(
+    intake: &mut Intake<Global>,
+    names: &[String],
+    logs: Vec<F>,
+    check: &mut Check,
+) -> Result<(), Stop> {
+    let logs = CheckedLogs {
+        intake,
+        names,
+        logs,
+        check,
+    };
+    logs.make(&mut ToWrite::new(io::sink()))
+}
+
+// What a report tells of it.
+fn told(tally: Tally) -> Agreement {
+    Agreement {
+        gets: Share {
+            part: tally.alike,
+            whole: tally.gets,
+        },
+        evictions: Share {
+            part: tally.both,
+            whole: tally.logged,
+        },
+        others: tally.replayed.saturating_sub(tally.both),
+    }
+}
+
+/// Copies of names.
+pub(crate) fn copies(alloc: Global, names: &[String]) -> Result<Vec<String>, AllocError> {
+    let mut copies = Vec::new(alloc);
+    for name in names {
+        copies.push(String::from_str(alloc, name.as_str())?)?;
+    }
+    Ok(copies)
+}
+
+/// How far a replay of the logs, behind the starts, agrees with them, of as many steps as a tree has room for. The logs
+/// are read for it, and what they become is played as `import watch --check` plays it.
+pub(crate) fn agreement_of<R: Files + AllocGlobal, C: Clock, W: Sink>(
+    rt: &R,
+    asked: &WatchOpening,
+    progress: &Progress<C, W>,
+) -> Result<Agreement, Stop> {
+    let alloc = rt.alloc();
+    let setup = setup_of(rt, asked.settings.as_str(), asked.factor)?;
+    let config = setup.config;
+    let mut intake = Intake::open(alloc, setup, asked.rhythm, ALL, None)?;
+    let (starts, names) = (asked.starts.as_slice(), asked.logs.as_slice());
+    progress.expect(rt, starts);
+    progress.expect(rt, names);
+    let starts = copies(alloc, starts)?;
+    let session = begun(rt, &config, asked.manner.dialect, starts, progress)?;
+    let mut check = Check::on(alloc, session, u64::from(MAX_NODES));
+    let logs = all_opened(rt, alloc, names, io::empty(), progress)?;
+    compare(&mut intake, names, logs, &mut check)?;
+    Ok(told(check.tally()))
+}

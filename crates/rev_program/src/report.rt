@@ -1,0 +1,420 @@
+//! `lrudb report`: traces are played as `open` plays them, and a page tells where the cache loses its keys.
+ghost use Rattle.std.specs.Prelude.{◌≡◌, IfSome};
+ghost use Rattle.rev_program.specs.Program.{EndsPlainly, StopsBy};
+ghost use Rattle.rev_program.specs.Reporting.{played_fault};
+ghost use Rattle.rev_program.specs.Stop.{stop_of_config};
+
+use crate::agreement::{agreement_of, copies};
+use crate::direct::{kept, with_logs, with_rows};
+use crate::import::{cannot_write, rename, with_end};
+use crate::opening::{Full, opened_with_traces};
+use crate::program::ended;
+use crate::progress::Progress;
+use crate::stop::Stop;
+use crate::trials::what_ifs;
+use rev_classes::{ClassTable, Config, ConfigFault, fault_of};
+use rev_intake::report::put_part;
+use rev_intake::words::put_all_options;
+use rev_items::{Key, KeyFault};
+use rev_options::{Opening, Played, Reporting};
+use rev_output::Sink;
+use rev_report::agreement::Agreement;
+use rev_report::figures::{Figures, figures_of};
+use rev_report::life::{Life, life_of};
+use rev_report::page::{Curves, Subject, curves_of, put_page};
+use rev_report::rows::{
+    RowsFailed, write_classes, write_left, write_lives, write_moves, write_queues, write_what_ifs,
+};
+use rev_report::what_if::WhatIf;
+use rev_undotree::Session;
+use std::alloc::{AllocError, Global};
+use std::fs;
+use std::mem::ManuallyDrop;
+use std::rt::{Clock, Files};
+use std::thread::Threads;
+
+/// A file that is written: its name, its name until it is whole, and what it holds.
+#[derive(Drop)]
+struct Output {
+    name: String,
+    part: String,
+    text: Vec<u8>,
+}
+
+impl Output {
+    // An empty file whose name is a prefix and an end.
+    fn new(alloc: Global, prefix: &str, end: &str) -> Result<Output, AllocError> {
+        let name = with_end(alloc, prefix, end)?;
+        Ok(Output {
+            part: with_end(alloc, name.as_str(), ".part")?,
+            name,
+            text: Vec::new(alloc),
+        })
+    }
+}
+
+/// What is told of a trace beside its figures.
+#[derive(Drop)]
+struct Told {
+    // the names of the traces
+    names: Vec<String>,
+    config: Config,
+    // what was guessed or left out, a line each
+    notes: Vec<u8>,
+    agreement: Option<Agreement>,
+    what_ifs: Vec<WhatIf>,
+}
+
+// Adds where the traces fill the tree, if they do.
+fn add_full(notes: &mut Vec<u8>, full: Option<Full>) -> Result<(), Stop> {
+    let Some(full) = full else {
+        return Ok(());
+    };
+    notes.extend_from_slice(full.file.as_bytes())?;
+    put_part(
+        notes,
+        b": line ",
+        full.line,
+        b": no room in the tree for this step and what follows; --start FILE plays any number of steps before the traces\n",
+    )?;
+    Ok(())
+}
+
+// The session behind the traces, and the configuration of its store.
+fn with_scripts<R: Files + AllocGlobal, C: Clock, W: Sink>(
+    rt: &R,
+    asked: Opening,
+    notes: &mut Vec<u8>,
+    progress: &Progress<C, W>,
+) -> Result<(Session<Global>, Config), Stop> {
+    let Opening {
+        config,
+        manner,
+        starts,
+        traces,
+    } = asked;
+    if let Some(fault) = fault_of(&config) {
+        return Err(Stop::from(fault));
+    }
+    match opened_with_traces(rt, &config, manner.dialect, starts, traces, progress) {
+        Err(stop) => Err(stop),
+        Ok((session, full)) => {
+            let told = add_full(notes, full);
+            kept(session, config, told)
+        }
+    }
+}
+
+// The session behind what is played, and the configuration of its store.
+fn session_of<R: Files + AllocGlobal, C: Clock, W: Sink>(
+    rt: &R,
+    asked: Played,
+    notes: &mut Vec<u8>,
+    progress: &Progress<C, W>,
+) -> Result<(Session<Global>, Config), Stop> {
+    match asked {
+        Played::Traces(asked) => with_scripts(rt, asked, notes, progress),
+        Played::Logs(asked) => with_logs(rt, asked, notes, progress),
+        Played::Rows(asked) => with_rows(rt, asked, notes, progress),
+    }
+}
+
+// How far a replay agrees with the logs that are played, where logs are.
+fn agreement_with<R: Files + AllocGlobal, C: Clock, W: Sink>(
+    rt: &R,
+    asked: &Played,
+    progress: &Progress<C, W>,
+) -> Result<Option<Agreement>, Stop> {
+    match asked {
+        Played::Logs(asked) => Ok(Some(agreement_of(rt, asked, progress)?)),
+        Played::Traces(_) | Played::Rows(_) => Ok(None),
+    }
+}
+
+// The first limit that the configuration breaks, where one is asked for.
+fn played_fault(asked: &Played) -> Option<ConfigFault>
+    ensures { result ≡ played_fault asked.now }
+{
+    match asked {
+        Played::Traces(asked) => fault_of(&asked.config),
+        Played::Rows(asked) => fault_of(&asked.config),
+        Played::Logs(_) => None,
+    }
+}
+
+// The names of what is played, in order.
+fn names_of(asked: &Played) -> &[String] {
+    match asked {
+        Played::Traces(asked) => asked.traces.as_slice(),
+        Played::Logs(asked) => asked.logs.as_slice(),
+        Played::Rows(asked) => asked.traces.as_slice(),
+    }
+}
+
+// The key that a word names.
+fn key_of(alloc: Global, word: &str) -> Result<Key<Global>, Stop> {
+    match Key::new(alloc, word.as_bytes()) {
+        Ok(key) => Ok(key),
+        Err(KeyFault::Memory) => Err(Stop::Memory),
+        Err(KeyFault::BadKey) => Err(Stop::Usage(String::from_str(
+            alloc,
+            "error: --key: 1 to 250 bytes are wanted, none of them a space or a control character\n",
+        )?)),
+    }
+}
+
+fn keys_of(alloc: Global, words: &[String]) -> Result<Vec<Key<Global>>, Stop> {
+    let mut keys = Vec::new(alloc);
+    for word in words {
+        let key = key_of(alloc, word.as_str())?;
+        if keys.push(key).is_err() {
+            return Err(Stop::Memory);
+        }
+    }
+    Ok(keys)
+}
+
+// The lives of the keys, in order.
+fn lives_of(
+    alloc: Global,
+    session: &Session<Global>,
+    figures: &Figures,
+    keys: &[Key<Global>],
+) -> Result<Vec<Life>, AllocError> {
+    let mut lives = Vec::new(alloc);
+    for key in keys {
+        lives.push(life_of(alloc, session, &figures.path, key)?)?;
+    }
+    Ok(lives)
+}
+
+// The words of the options for a run.
+fn options_of(alloc: Global, config: &Config) -> Result<Vec<u8>, AllocError> {
+    let mut words = Vec::new(alloc);
+    put_all_options(&mut words, config)?;
+    let _end_of_line = words.pop();
+    Ok(words)
+}
+
+// The table of a store's classes.
+fn table_of(config: &Config) -> Result<ClassTable, Stop> {
+    match ClassTable::build(config) {
+        Ok(table) => Ok(table),
+        Err(fault) => Err(Stop::from(fault)),
+    }
+}
+
+// The rows of a table or a curve are written to memory, which is what may be refused.
+fn in_memory(written: Result<(), RowsFailed>) -> Result<(), AllocError> {
+    match written {
+        Ok(()) => Ok(()),
+        Err(_) => Err(AllocError),
+    }
+}
+
+// Adds the files of tables and curves.
+fn add_data(
+    outputs: &mut Vec<Output>,
+    alloc: Global,
+    prefix: &str,
+    figures: &Figures,
+    curves: &Curves,
+    lives: &[Life],
+    what_ifs: &[WhatIf],
+) -> Result<(), AllocError> {
+    let mut classes = Output::new(alloc, prefix, ".classes.csv")?;
+    in_memory(write_classes(&mut classes.text, figures))?;
+    outputs.push(classes)?;
+    let mut left = Output::new(alloc, prefix, ".left.csv")?;
+    in_memory(write_left(&mut left.text, figures, curves))?;
+    outputs.push(left)?;
+    let mut moves = Output::new(alloc, prefix, ".moves.csv")?;
+    in_memory(write_moves(&mut moves.text, figures, curves))?;
+    outputs.push(moves)?;
+    let mut queues = Output::new(alloc, prefix, ".queues.csv")?;
+    in_memory(write_queues(&mut queues.text, figures, curves))?;
+    outputs.push(queues)?;
+    if !lives.is_empty() {
+        let mut keys = Output::new(alloc, prefix, ".keys.csv")?;
+        in_memory(write_lives(&mut keys.text, figures, lives))?;
+        outputs.push(keys)?;
+    }
+    if !what_ifs.is_empty() {
+        let mut trials = Output::new(alloc, prefix, ".what-if.csv")?;
+        in_memory(write_what_ifs(&mut trials.text, figures, what_ifs))?;
+        outputs.push(trials)?;
+    }
+    Ok(())
+}
+
+// The page, and the files of its tables and curves where they are asked for.
+fn outputs_of(
+    alloc: Global,
+    session: &mut Session<Global>,
+    table: &ClassTable,
+    told: &Told,
+    out: &str,
+    data: &Option<String>,
+    keys: &[Key<Global>],
+) -> Result<Vec<Output>, AllocError> {
+    let figures = figures_of(alloc, session, table)?;
+    let curves = curves_of(alloc, &figures)?;
+    let lives = lives_of(alloc, session, &figures, keys)?;
+    let options = options_of(alloc, &told.config)?;
+    let subject = Subject {
+        names: told.names.as_slice(),
+        config: &told.config,
+        options: options.as_slice(),
+        notes: told.notes.as_slice(),
+        agreement: told.agreement,
+        what_ifs: told.what_ifs.as_slice(),
+    };
+    let mut outputs = Vec::new(alloc);
+    let mut page = Output::new(alloc, out, "")?;
+    put_page(
+        &mut page.text,
+        alloc,
+        &subject,
+        &figures,
+        &curves,
+        lives.as_slice(),
+    )?;
+    outputs.push(page)?;
+    if let Some(prefix) = data {
+        add_data(
+            &mut outputs,
+            alloc,
+            prefix.as_str(),
+            &figures,
+            &curves,
+            lives.as_slice(),
+            subject.what_ifs,
+        )?;
+    }
+    Ok(outputs)
+}
+
+// Writes all files, each under another name until all are whole.
+fn write_parts<R: Files>(rt: &R, alloc: Global, outputs: &[Output]) -> Result<(), Stop> {
+    for output in outputs {
+        if fs::write(rt, output.part.as_str(), output.text.as_slice()).is_err() {
+            return Err(cannot_write(alloc, output.name.as_str()));
+        }
+    }
+    Ok(())
+}
+
+// Gives the files their names, or takes away those that have theirs.
+fn name_all<R: Files>(rt: &R, alloc: Global, outputs: &[Output]) -> Result<(), Stop> {
+    for (place, output) in outputs.iter().enumerate() {
+        if let Err(stop) = rename(rt, alloc, output.part.as_str(), output.name.as_str()) {
+            for named in outputs.iter().take(place) {
+                let _ = fs::remove_file(rt, named.name.as_str());
+            }
+            return Err(stop);
+        }
+    }
+    Ok(())
+}
+
+// Writes all files. Where that fails, nothing is left of them.
+fn put_files<R: Files>(rt: &R, alloc: Global, outputs: &[Output]) -> Result<(), Stop> {
+    let put = match write_parts(rt, alloc, outputs) {
+        Ok(()) => name_all(rt, alloc, outputs),
+        Err(stop) => Err(stop),
+    };
+    if put.is_err() {
+        for output in outputs {
+            // A file that is not there cannot be removed.
+            let _ = fs::remove_file(rt, output.part.as_str());
+        }
+    }
+    put
+}
+
+// Plays what is asked for, and writes the report of it.
+fn make_files<R: Files + Threads + Sync + AllocGlobal, C: Clock, W: Sink>(
+    rt: &R,
+    asked: Reporting,
+    keys: &[Key<Global>],
+    progress: &Progress<C, W>,
+) -> Result<(), Stop> {
+    let Reporting {
+        played,
+        out,
+        data,
+        keys: _,
+        what_ifs: others,
+    } = asked;
+    let alloc = rt.alloc();
+    let names = copies(alloc, names_of(&played))?;
+    let agreement = agreement_with(rt, &played, progress)?;
+    let mut notes = Vec::new(alloc);
+    let (session, config) = session_of(rt, played, &mut notes, progress)?;
+    // The program ends behind it, and all its memory goes back at once.
+    let mut session = ManuallyDrop::new(session);
+    let what_ifs = what_ifs(rt, &*session, &config, others.as_slice())?;
+    let table = table_of(&config)?;
+    let told = Told {
+        names,
+        config,
+        notes,
+        agreement,
+        what_ifs,
+    };
+    let outputs = outputs_of(
+        alloc,
+        &mut *session,
+        &table,
+        &told,
+        out.as_str(),
+        &data,
+        keys,
+    )?;
+    put_files(rt, alloc, outputs.as_slice())
+}
+
+// Sees that the page can be written. A part of it is there then, of no byte.
+fn claim<R: Files>(rt: &R, alloc: Global, page: &Output) -> Result<(), Stop> {
+    match fs::write(rt, page.part.as_str(), b"") {
+        Ok(()) => Ok(()),
+        Err(_) => Err(cannot_write(alloc, page.name.as_str())),
+    }
+}
+
+// Makes the report that is asked for, where its page can be written. Where that fails, nothing is left of it.
+fn make<R: Files + Threads + Sync + AllocGlobal, C: Clock, W: Sink>(
+    rt: &R,
+    asked: Reporting,
+    progress: &Progress<C, W>,
+) -> Result<(), Stop> {
+    let keys = keys_of(rt.alloc(), asked.keys.as_slice())?;
+    let page = Output::new(rt.alloc(), asked.out.as_str(), "")?;
+    claim(rt, rt.alloc(), &page)?;
+    let made = make_files(rt, asked, keys.as_slice(), progress);
+    if made.is_err() {
+        let _ = fs::remove_file(rt, page.part.as_str());
+    }
+    made
+}
+
+/// Makes the report that is asked for: plays the trace as `open` does, and writes the page, and its tables and curves
+/// as CSV, where they are asked for. A file that cannot be written whole is not left, and neither are the others. Answers
+/// the exit status, 0 or 2 to 5. At status 0 nothing goes to `errors`, at any other the text of the reason. A configuration
+/// at fault is told before a file is opened, and that the page cannot be written before one is read.
+pub fn report<R: Files + Threads + Sync + AllocGlobal, E: Sink, C: Clock, W: Sink>(
+    rt: &R,
+    asked: Reporting,
+    errors: &mut E,
+    progress: &Progress<C, W>,
+) -> u8
+    ensures config { IfSome (played_fault asked.played) (λ fault. StopsBy (E.contents errors.old) (E.contents errors.new) (E.failures errors.old) (E.failures errors.new) result (stop_of_config fault)) }
+    ensures ends { EndsPlainly (E.contents errors.old) (E.contents errors.new) (E.failures errors.old) (E.failures errors.new) result }
+{
+    if let Some(fault) = played_fault(&asked.played) {
+        return ended(Err(Stop::from(fault)), errors);
+    }
+    let done = make(rt, asked, progress);
+    progress.end();
+    ended(done, errors)
+}
