@@ -80,8 +80,8 @@ fn figures_of<A: Allocator + Clone>(
     })
 }
 
-/// The figures of the classes from 1 up to a last one, in order. All rows are read once, and those of the keys that left
-/// once more for each median. Memory is taken for the seconds of a class's evictions, and given back.
+/// The figures of the classes from 1 up to a last one, in order. All rows are read once, and those of the keys that
+/// left once more for each median. Memory is taken for the seconds of a class's evictions, and given back.
 ///
 /// Err: a growth was refused.
 pub fn class_figures<A: Allocator + Clone>(

@@ -41,7 +41,8 @@ abbrev pub got_lines : List ℕ → Bool → List ScriptLine
 got_lines key true = []
 got_lines key false = get key ∷ []
 
--- one that did not find its key, by whether it is the look-up of another command, and whether the key was deleted before
+-- one that did not find its key, by whether it is the look-up of another command, and whether the key was deleted
+-- before
 abbrev pub miss_lines : List ℕ → Bool → Bool → List ScriptLine
 miss_lines key own deletes = dropped_lines key deletes ++ got_lines key own
 

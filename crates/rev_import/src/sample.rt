@@ -36,8 +36,8 @@ impl Sample {
         }
     }
 
-    /// The bytes of a page in the place of one of these bytes: so many times fewer, and a multiple of 8. None where they
-    /// would be under 256.
+    /// The bytes of a page in the place of one of these bytes: so many times fewer, and a multiple of 8. None where
+    /// they would be under 256.
     pub fn page_size(self, bytes: u32) -> Option<u32>
         ensures { result ≡ page_size self.one_of bytes }
     {

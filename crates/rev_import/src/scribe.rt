@@ -84,8 +84,8 @@ pub fn storing_of(command: StoreCommand, outcome: StoreOutcome) -> Storing
     }
 }
 
-/// The expiry time of a line for a time to live that was logged at this second: up to thirty days as it is, a longer one
-/// as a moment, or none where the moment is past what a line can say; one of 2^31 or more was over as it came.
+/// The expiry time of a line for a time to live that was logged at this second: up to thirty days as it is, a longer
+/// one as a moment, or none where the moment is past what a line can say; one of 2^31 or more was over as it came.
 pub fn exptime_of(now: u32, ttl: u32) -> i32
     ensures { result ≡ exptime_of now ttl }
 {

@@ -119,8 +119,8 @@ fn storage_name(command: Storing) -> &'static [u8]
     }
 }
 
-/// Stores filler: `set KEY FLAGS EXPTIME SIZE`, or another storage command, and the data. The expiry time is protocol.txt's:
-/// 0 never, negative at once, up to thirty days from now, else a moment.
+/// Stores filler: `set KEY FLAGS EXPTIME SIZE`, or another storage command, and the data. The expiry time is
+/// protocol.txt's: 0 never, negative at once, up to thirty days from now, else a moment.
 pub fn put_store<A: Allocator, B: Allocator>(
     out: &mut Vec<u8, A>,
     command: Storing,

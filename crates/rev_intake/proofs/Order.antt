@@ -1,5 +1,5 @@
--- The order in which events become lines is that of rev_watch's window, so its laws hold of it: the numbers rise strictly, and no event is
--- lost or made.
+-- The order in which events become lines is that of rev_watch's window, so its laws hold of it: the numbers rise
+-- strictly, and no event is lost or made.
 use Rattle.std.proofs.Common.{◌≡◌, ℕ, None, List, [], ◌∷◌, ◌++◌, map, append_assoc, refl, sym, ◌∙◌, ap}
 use Rattle.std.proofs.lemmas.List.{map-append}
 use Rattle.rev_watch.proofs.Order.{given_line, given, Ascends}

@@ -1,6 +1,6 @@
--- The events of logs: which are asked for, and in which order they become lines of a script.
--- Rule of this project: the events of a range of seconds, of the keys that a sample takes or of none, by rising numbers as far as they
--- come near enough.
+-- The events of logs: which are asked for, and in which order they become lines of a script. Rule of this project: the
+-- events of a range of seconds, of the keys that a sample takes or of none, by rising numbers as far as they come near
+-- enough.
 use Rattle.std.specs.Prelude.{◌≡◌, ℕ, Bool, true, false, ◌&&◌, nat_le, if◌then◌else◌, List, [], ◌∷◌, ◌++◌, map, Ok}
 use Rattle.rev_import.specs.Sample.{takes_event}
 use Rattle.rev_watch.specs.Line.{line_of}

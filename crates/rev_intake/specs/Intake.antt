@@ -23,9 +23,9 @@ use Rattle.rev_intake.specs.declared.fault.IntakeFault.{IntakeFault}
 use Rattle.rev_intake.specs.declared.fault.IntakeFault.TheVariants as faults
 use Rattle.rev_intake.specs.declared.intake.Range.{Range}
 
--- what a contract sees of an intake: which events it takes, those that the window and the import hold back, what waits to be sent, what
--- was counted; and the second in front of which a start ends, where one is to end and has not, and how many lines of events it had when
--- it ended
+-- what a contract sees of an intake: which events it takes, those that the window and the import hold back, what waits
+-- to be sent, what was counted; and the second in front of which a start ends, where one is to end and has not, and how
+-- many lines of events it had when it ended
 pub record PlainIntake (A : Type 0) : Type 0 where
   pub range : Range
   pub window : PlainWindow (LogLine A)

@@ -75,7 +75,8 @@ pub record TakesLog {S A : Type 0} (told : S → Told) (log read : LogReader S) 
   pub ended : IsAtEnd (ahead told read)
   pub takes : TakesLogs old new (says ∷ []) held holds before after
 
--- what is so where a log was not taken in to its end for this reason: of a line that is none, those in front of it are whole
+-- what is so where a log was not taken in to its end for this reason: of a line that is none, those in front of it are
+-- whole
 abbrev pub SpoilsBy : {S : Type 0} (A : Type 0) → (S → Told) → LogReader S → LogReader S → ℕ → ℕ → IntakeFault → Type 0
 SpoilsBy A told log read before after faults.Memory = Unit {0}
 SpoilsBy A told log read before after faults.Read = (told (source_in read)).last ≡ Failed

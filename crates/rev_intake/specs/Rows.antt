@@ -1,5 +1,5 @@
--- Traces, one after another, whose rows are taken in.
--- Rule of this project: which rows become lines of the script, what is counted of them, and why traces do not become a script.
+-- Traces, one after another, whose rows are taken in. Rule of this project: which rows become lines of the script, what
+-- is counted of them, and why traces do not become a script.
 use Rattle.std.specs.Prelude.{◌≡◌, ℕ, ◌+◌, max, Bool, true, false, nat_lt, if◌then◌else◌, List, [], ◌∷◌, ◌++◌, length, Option, ⊤}
 use Rattle.std.specs.Io.KnownBytes.{Appends}
 use Rattle.rev_output.specs.Sink.{one_more}
@@ -88,8 +88,8 @@ counted sample latest (row ∷ rows) c = counted sample (latest_of latest (asked
 
 -- ---- an intake
 
--- what a contract sees of an intake: which keys it takes, where the clock began, the latest second of a row that was asked for, what waits to
--- be sent, and what was counted
+-- what a contract sees of an intake: which keys it takes, where the clock began, the latest second of a row that was
+-- asked for, what waits to be sent, and what was counted
 pub record PlainRowIntake : Type 0 where
   pub sample : Sample
   pub start : ℕ

@@ -15,8 +15,8 @@ pub record Sends (waited waits text : List ℕ) (held holds : Option (List ℕ))
   pub same : waited ++ text ≡ sent ++ waits
   pub none_failed : after ≡ before
 
--- of these events those in front became lines of clients, in their order; the others wait. The lines were written behind what waited to
--- be sent, and some of all that was sent
+-- of these events those in front became lines of clients, in their order; the others wait. The lines were written
+-- behind what waited to be sent, and some of all that was sent
 pub record Passes {A : Type 0} (events waiting : List (LogLine A)) (waited waits : List ℕ) (held holds : Option (List ℕ)) (before after : ℕ) : Type 0 where
   pub text : List ℕ
   pub moves : Moves events waiting [] text

@@ -14,8 +14,8 @@ options_text config =
     option (codes "--page-size ") config.page_size ++ option (codes " --pages ") config.pages ++ option (codes " --num ") config.num ++ option (codes " --den ") config.den
     ++ codes "\n"
 
--- all that a configuration has: pages, their size and the growth factor, the bump queue's capacity, the buckets of the index and where the
--- clock begins, and TEMP, where it is in use
+-- all that a configuration has: pages, their size and the growth factor, the bump queue's capacity, the buckets of the
+-- index and where the clock begins, and TEMP, where it is in use
 abbrev pub size_parts : Config → List (List ℕ)
 size_parts config =
     option (codes "--page-size ") config.page_size ∷ option (codes " --pages ") config.pages ∷ option (codes " --num ") config.num ∷ option (codes " --den ") config.den ∷ []

@@ -56,11 +56,11 @@ impl<'a, F: Read + Drop> LogFeed<'a, F> {
         }
     }
 
-    /// Takes in a little more: at most one event becomes lines. All that is written of the script goes behind `out`. The
-    /// answer is whether there may be more.
+    /// Takes in a little more: at most one event becomes lines. All that is written of the script goes behind `out`.
+    /// The answer is whether there may be more.
     ///
-    /// Err: memory was refused, a read failed, a line that begins like one of the log is none, there are more lines than
-    /// can be counted, or no event was asked for. The feed is no longer of use.
+    /// Err: memory was refused, a read failed, a line that begins like one of the log is none, there are more lines
+    /// than can be counted, or no event was asked for. The feed is no longer of use.
     pub fn feed(&mut self, out: &mut Vec<u8>) -> Result<bool, IntakeFault> {
         let mut sink = ToWrite::new(out);
         let taken = match self.take(&mut sink) {
@@ -166,8 +166,8 @@ impl<'a, F: Read + Drop> RowFeed<'a, F> {
 
     /// Takes in a little more, and writes what it becomes behind `out`. The answer is whether there may be more.
     ///
-    /// Err: memory was refused, a read failed, a row is none, there are more rows than can be counted, or no row was asked
-    /// for. The feed is no longer of use.
+    /// Err: memory was refused, a read failed, a row is none, there are more rows than can be counted, or no row was
+    /// asked for. The feed is no longer of use.
     pub fn feed(&mut self, out: &mut Vec<u8>) -> Result<bool, RowsFault> {
         let mut sink = ToWrite::new(out);
         let taken = match self.take(&mut sink) {

@@ -73,8 +73,8 @@ impl<A: Allocator + Copy> Intake<A> {
     ghost use Rattle.rev_intake.specs.Intake.{Rests, Takes, Ends, StopsEnding};
     ghost use Rattle.rev_intake.specs.Logs.{TakesLog, Spoils};
 
-    /// No log was taken in. The script begins with the lines that this setup asks for. With `split` it begins with a start,
-    /// which ends in front of this second, by the Unix clock.
+    /// No log was taken in. The script begins with the lines that this setup asks for. With `split` it begins with a
+    /// start, which ends in front of this second, by the Unix clock.
     ///
     /// Err: memory was refused.
     pub fn open(
@@ -338,8 +338,8 @@ impl<A: Allocator + Copy> Intake<A> {
         }
     }
 
-    /// Behind the last log, takes in the next event that is held back, or writes the lines of one that waits, as `finish`
-    /// does with all. The answer is whether there may be more.
+    /// Behind the last log, takes in the next event that is held back, or writes the lines of one that waits, as
+    /// `finish` does with all. The answer is whether there may be more.
     pub(crate) fn take_held<K: Outlet>(&mut self, sink: &mut K) -> Result<bool, IntakeFault> {
         let has_asked = self.counts.asked > 0;
         if !has_asked {

@@ -1,5 +1,5 @@
-//! From logs to a script: the lines of `watch` logs in, and the script's bytes out, with what was counted, and the words
-//! for a run of it. And from traces to a script, in the same way.
+//! From logs to a script: the lines of `watch` logs in, and the script's bytes out, with what was counted, and the
+//! words for a run of it. And from traces to a script, in the same way.
 #![tactic(auto)]
 
 pub mod counts;

@@ -51,12 +51,12 @@ fn take_files<A: Allocator + Copy, F: Read + Drop, K: Outlet>(
 }
 
 /// Makes the script of the logs that the files hold, in their order, and sends it whole, behind what waits to be sent.
-/// Where it is to begin with a start, this ends in front of the first event of the second of the split or of a later one,
-/// or behind all events. The intake is no longer of use.
+/// Where it is to begin with a start, this ends in front of the first event of the second of the split or of a later
+/// one, or behind all events. The intake is no longer of use.
 ///
-/// Err: the place of a log, from 0 on, and why it was not taken in: memory was refused, a read or a write failed, a line
-/// that begins like one of the log is none, or there are more lines than can be counted. Or no event was asked for, and
-/// then the place is 0, as it is where it was the end that failed.
+/// Err: the place of a log, from 0 on, and why it was not taken in: memory was refused, a read or a write failed, a
+/// line that begins like one of the log is none, or there are more lines than can be counted. Or no event was asked
+/// for, and then the place is 0, as it is where it was the end that failed.
 pub fn make_script<A: Allocator + Copy, F: Read + Drop, K: Outlet>(
     intake: &mut Intake<A>,
     files: Vec<F, A>,

@@ -131,8 +131,8 @@ fn put_wrote<A: Allocator>(out: &mut Vec<u8, A>, figures: &Figures) -> Result<()
     put_part(out, b", ", figures.misses, b" misses\n")
 }
 
-/// Writes what an import tells of itself: which lines it read, what was left out, what the server did not log, where that
-/// is known, what was inferred, and how many steps it wrote, a line for each.
+/// Writes what an import tells of itself: which lines it read, what was left out, what the server did not log, where
+/// that is known, what was inferred, and how many steps it wrote, a line for each.
 pub fn put_report<A: Allocator>(
     out: &mut Vec<u8, A>,
     counts: &LineCounts,

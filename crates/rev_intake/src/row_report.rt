@@ -64,8 +64,8 @@ fn put_others<A: Allocator>(
     put_part(out, b"wrote: ", figures.lines, b" steps\n")
 }
 
-/// Writes what an import of traces tells of itself: how many rows it read of each operation, how many were late, of unknown
-/// operations, left out and too large, and how many steps it wrote.
+/// Writes what an import of traces tells of itself: how many rows it read of each operation, how many were late, of
+/// unknown operations, left out and too large, and how many steps it wrote.
 pub fn put_row_report<A: Allocator>(
     out: &mut Vec<u8, A>,
     counts: &RowCounts,

@@ -42,8 +42,8 @@ impl Model for RowIntake {
 }
 
 impl RowIntake {
-    /// No trace was taken in. The script is for a store of these classes, whose clock begins at `start`, and has the rows
-    /// of the keys that the sample takes. No memory is taken.
+    /// No trace was taken in. The script is for a store of these classes, whose clock begins at `start`, and has the
+    /// rows of the keys that the sample takes. No memory is taken.
     pub fn new(
         alloc: Global,
         classes: ClassTable,
@@ -89,8 +89,8 @@ impl RowIntake {
 
     /// Takes in the rows of a trace, behind those of the traces before it, and sends the script as far as it is known.
     ///
-    /// Err: memory was refused; a read or a write failed; a row is none; or there are more rows than can be counted. The
-    /// intake is no longer of use.
+    /// Err: memory was refused; a read or a write failed; a row is none; or there are more rows than can be counted.
+    /// The intake is no longer of use.
     pub fn take_trace<F: Read + Drop, K: Sink>(
         &mut self,
         file: F,

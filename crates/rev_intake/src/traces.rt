@@ -32,11 +32,12 @@ fn take_files<F: Read + Drop, K: Sink>(
     }
 }
 
-/// Makes the script of the traces that the files hold, in their order, and sends it whole. The intake is no longer of use.
+/// Makes the script of the traces that the files hold, in their order, and sends it whole. The intake is no longer of
+/// use.
 ///
-/// Err: the place of a trace, from 0 on, and why it was not taken in: memory was refused, a read or a write failed, a row
-/// is none, or there are more rows than can be counted. Or no row was asked for, and then the place is 0, as it is where it
-/// was the end that failed.
+/// Err: the place of a trace, from 0 on, and why it was not taken in: memory was refused, a read or a write failed, a
+/// row is none, or there are more rows than can be counted. Or no row was asked for, and then the place is 0, as it is
+/// where it was the end that failed.
 pub fn make_row_script<F: Read + Drop, K: Sink>(
     intake: &mut RowIntake,
     files: Vec<F>,

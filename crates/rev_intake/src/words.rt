@@ -20,8 +20,8 @@ fn put_option<A: Allocator>(
     out.extend_from_slice(digits.format(number).as_bytes())
 }
 
-/// Writes the words by which `lrudb run` is opened as the script wants it, on one line: pages, their size and the growth
-/// factor. What else a configuration has is as `lrudb run` has it, or is set by the script's first lines.
+/// Writes the words by which `lrudb run` is opened as the script wants it, on one line: pages, their size and the
+/// growth factor. What else a configuration has is as `lrudb run` has it, or is set by the script's first lines.
 pub fn put_options<A: Allocator>(out: &mut Vec<u8, A>, config: &Config) -> Result<(), AllocError>
     ensures { OnOk result (out.new.items ≡ out.old.items ++ options_text config.entry.now) }
 {

@@ -1,6 +1,6 @@
--- What holds of a request that was read.
--- Rule of this project: the bounds of `--temp-ttl`, `--heap` and the number of files; and which words ask for an import, for
--- traces to be opened, for what `open` imports, for a run, and for a report.
+-- What holds of a request that was read. Rule of this project: the bounds of `--temp-ttl`, `--heap` and the number of
+-- files; and which words ask for an import, for traces to be opened, for what `open` imports, for a run, and for a
+-- report.
 use Rattle.std.specs.Prelude.{ℕ, ℤ, pos, negsuc, Bool, true, false, nat_eq, ◌||◌, ◌≡◌, ◌≤◌, List, [], ◌∷◌, take, length, IfSome, Option, None, codes}
 use Rattle.std.specs.Str.{bytes_eq}
 use Rattle.rev_options.specs.declared.Request.{Request}
@@ -23,7 +23,8 @@ IsPlayedInRange (Traces asked) = is_temp_ttl asked.config.temp_ttl ≡ true
 IsPlayedInRange (Logs asked) = Unit {0}
 IsPlayedInRange (Rows asked) = is_temp_ttl asked.config.temp_ttl ≡ true
 
--- a time to live that there is; for a run a heap that may be asked for, where one is, and none where JSON is; for a recording one to eight files; for an import a log, or a trace
+-- a time to live that there is; for a run a heap that may be asked for, where one is, and none where JSON is; for a
+-- recording one to eight files; for an import a log, or a trace
 abbrev pub IsInRange : Request → Type 0
 IsInRange (Run config heap dialect starts json) = (is_temp_ttl config.temp_ttl ≡ true) × IfSome heap IsHeap × (json ≡ true → heap ≡ None)
 IsInRange (Record config dialect starts files) = (is_temp_ttl config.temp_ttl ≡ true) × (1 ≤ length files.items) × (length files.items ≤ 8)

@@ -43,9 +43,9 @@ pub const MAX_HEAP: usize = 1073741824;
 /// What a command line asks for.
 #[derive(Debug, Drop)]
 pub enum Request {
-    /// Run the script of the standard input, from the state that the steps of the files `starts` leave. With `heap`, all
-    /// that the run keeps lies in one heap of so many bytes. The script and the files are read in the dialect. With `json`, and
-    /// no heap then, answers are told as JSON.
+    /// Run the script of the standard input, from the state that the steps of the files `starts` leave. With `heap`,
+    /// all that the run keeps lies in one heap of so many bytes. The script and the files are read in the dialect. With
+    /// `json`, and no heap then, answers are told as JSON.
     Run {
         config: Config,
         heap: Option<usize>,
@@ -53,8 +53,8 @@ pub enum Request {
         starts: Vec<String>,
         json: bool,
     },
-    /// Play the scripts of one to eight files at once, each as an actor, from the state that the steps of `starts` leave.
-    /// All files are read in the dialect.
+    /// Play the scripts of one to eight files at once, each as an actor, from the state that the steps of `starts`
+    /// leave. All files are read in the dialect.
     Record {
         config: Config,
         dialect: Dialect,
@@ -322,9 +322,9 @@ fn recording(alloc: Global, matches: &ArgMatches<'_>) -> Result<Request, Error>
     })
 }
 
-// What the words ask for other than a run, by the parser's reading of them, or the parser's error. Whether the first word
-// says `import` or `open`, and whether one names what `open` is to import, is told apart, since the parser's contracts do
-// not say so.
+// What the words ask for other than a run, by the parser's reading of them, or the parser's error. Whether the first
+// word says `import` or `open`, and whether one names what `open` is to import, is told apart, since the parser's
+// contracts do not say so.
 fn other_request(
     alloc: Global,
     matches: &ArgMatches<'_>,
@@ -385,7 +385,8 @@ fn report_request(alloc: Global, matches: &ArgMatches<'_>) -> Result<Request, Er
     }
 }
 
-// What the words ask for by the parser's reading of them, or the parser's error. What the first word says is told apart.
+// What the words ask for by the parser's reading of them, or the parser's error. What the first word says is told
+// apart.
 fn request_of(
     alloc: Global,
     matches: &ArgMatches<'_>,
@@ -456,9 +457,9 @@ fn told(alloc: Global, error: Error) -> Refused {
 /// What the words behind the program's name ask for.
 ///
 /// Words that ask for nothing that there is are refused with the parser's text, and so is a wish for help; a want of
-/// memory is told apart. An import is asked for by the first word `import` alone, an opening by `open`, a run by `run`, and
-/// a report by `report`. An opening imports only where a word begins with `--watch` or `--csv`. Whether a store can be opened with the numbers is
-/// `rev_classes::fault_of`'s to say.
+/// memory is told apart. An import is asked for by the first word `import` alone, an opening by `open`, a run by `run`,
+/// and a report by `report`. An opening imports only where a word begins with `--watch` or `--csv`. Whether a store can
+/// be opened with the numbers is `rev_classes::fault_of`'s to say.
 pub fn parse_words<S: AsStr>(alloc: Global, words: &[S]) -> Result<Request, Refused>
     ensures range { IfOk result IsInRange }
     ensures words { IfOk result (IsOfWords (asks_import (map S.text words.now))) }

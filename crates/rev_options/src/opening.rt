@@ -27,7 +27,8 @@ pub struct Manner {
     pub json: bool,
 }
 
-/// Traces to look around in: their steps are played, each as a node, and a session is read from the standard input then.
+/// Traces to look around in: their steps are played, each as a node, and a session is read from the standard input
+/// then.
 #[derive(Debug, Drop)]
 pub struct Opening {
     pub config: Config,
@@ -301,8 +302,8 @@ fn brought(alloc: Global, matches: &ArgMatches<'_>) -> Result<Option<Request>, E
     Ok(None)
 }
 
-/// The session that the words ask for, or the parser's error. Whether a word names what is to be imported is told apart,
-/// since the parser's contracts do not say so.
+/// The session that the words ask for, or the parser's error. Whether a word names what is to be imported is told
+/// apart, since the parser's contracts do not say so.
 pub fn opening_of(alloc: Global, matches: &ArgMatches<'_>, brings: bool) -> Result<Request, Error>
     ensures range { IfOk result IsInRange }
     ensures words { IfOk result (IsOfWords false) }

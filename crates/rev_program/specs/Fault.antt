@@ -7,7 +7,8 @@ use Rattle.rev_program.specs.declared.steps.ScriptFault.TheVariants as script
 use Rattle.rev_program.specs.declared.fault.RecordingFault.{RecordingFault}
 use Rattle.rev_program.specs.declared.fault.RecordingFault.TheVariants.{NotAStep, CannotRead, TooLong, Memory, CannotWrite, LogDiffers}
 
--- the statuses that a recording may end with: 0 done, 3 memory, 4 input or output, 5 a line that is not a step, 6 the log differs
+-- the statuses that a recording may end with: 0 done, 3 memory, 4 input or output, 5 a line that is not a step, 6 the
+-- log differs
 abbrev pub IsStatus : ℕ → Type 0
 IsStatus n = (n ≤ 6) × (n ≢ 1) × (n ≢ 2)
 

@@ -1,6 +1,6 @@
--- What `lrudb open` begins with: a tree in which traces were played.
--- Rule of this project: the steps of each trace are played, each as a node, from where those before it leave the session; the
--- first step that the tree has no room for ends it, which is told, and the session begins there.
+-- What `lrudb open` begins with: a tree in which traces were played. Rule of this project: the steps of each trace are
+-- played, each as a node, from where those before it leave the session; the first step that the tree has no room for
+-- ends it, which is told, and the session begins there.
 use Rattle.std.specs.Prelude.{◌≡◌, ◌⊎◌, ℕ, List, [], ◌∷◌, ◌++◌, Option, None, Some, String, codes, decimal, string_bytes}
 use Rattle.std.specs.Io.KnownBytes.{Keeps}
 use Rattle.std.specs.declared.alloc.Global.{Global}
@@ -27,7 +27,8 @@ pub record FillsUp (d : Dialect) (number : ℕ) (bytes : List ℕ) (m t : Sessio
   pub bytes_are : bytes ≡ read ++ rest
   pub full : IsFull number (lines d read) m t
 
--- of a trace with this name: it was played, or filled the tree; where its bytes are known it is said from which session to which
+-- of a trace with this name: it was played, or filled the tree; where its bytes are known it is said from which session
+-- to which
 abbrev pub IsTrace : Dialect → Option (List ℕ) → String Global → SessionState → SessionState → Option Full → Type 0
 IsTrace d None name m t None = Unit {0}
 IsTrace d None name m t (Some full) = full.file ≡ name

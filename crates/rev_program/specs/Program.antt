@@ -13,8 +13,8 @@ use Rattle.rev_program.specs.declared.fault.RecordingFault.TheVariants.{CannotWr
 use Rattle.rev_program.specs.declared.opening.Full.{Full}
 use Rattle.rev_program.specs.declared.stop.Stop.{Stop}
 
--- 0 done, 2 command line or configuration, 3 memory, 4 input or output, 5 a file of steps has a line that is not a step,
--- or what is imported is at fault, 6 the log of a recording differs
+-- 0 done, 2 command line or configuration, 3 memory, 4 input or output, 5 a file of steps has a line that is not a
+-- step, or what is imported is at fault, 6 the log of a recording differs
 abbrev pub IsStatus : ℕ → Type 0
 IsStatus n = (n ≤ 6) × (n ≢ 1)
 
@@ -41,8 +41,8 @@ pub record EndsBehind (told tells : Option (List ℕ)) (before after : ℕ) (res
   pub quiet : result ≡ 0 → Keeps between tells
   pub early : result ≢ 0 → EndsEarly between tells failures after result
 
--- behind what may have been told of what was imported, and of traces that fill the tree: nothing at status 0, else why the
--- program ended early
+-- behind what may have been told of what was imported, and of traces that fill the tree: nothing at status 0, else why
+-- the program ended early
 pub record EndsNoted (told tells : Option (List ℕ)) (before after : ℕ) (result : ℕ) : Type 0 where
   pub notes : List ℕ
   pub between : Option (List ℕ)
@@ -63,7 +63,8 @@ EndsUnwritten told tells before after result old new =
     ((s : Stop) × StopsBy told tells before after result s × Keeps old new)
     ⊎ ((e : RecordingFault) × FailsBy told tells before after result e × (e ≢ CannotWrite → Keeps old new))
 
--- what is told of commands that were so: nothing where there was none, else how many there were and the number of the first
+-- what is told of commands that were so: nothing where there was none, else how many there were and the number of the
+-- first
 abbrev pub tally_text : Tally → List ℕ → List ℕ
 tally_text t so =
     cond (nat_eq t.count 0) []

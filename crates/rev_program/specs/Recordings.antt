@@ -36,7 +36,8 @@ AreScripts d remaining [] (steps ∷ scripts) = ⊥
 AreScripts d remaining (file ∷ files) [] = ⊥
 AreScripts d remaining (file ∷ files) (steps ∷ scripts) = IsScript d (remaining file.1) (map plain_step steps.items) × AreScripts d remaining files scripts
 
--- why a file of this name did not become steps: of a line that makes no step, it is the first such line of the bytes read
+-- why a file of this name did not become steps: of a line that makes no step, it is the first such line of the bytes
+-- read
 abbrev pub Spoils : Dialect → Option (List ℕ) → String Global → RecordingFault → Type 0
 Spoils d reader name (NotAStep file line) = (file ≡ name) × ((read : List ℕ) × (rest : Option (List ℕ)) × Consumes reader rest read × IsFirstOther line (lines d read))
 Spoils d reader name (CannotRead file) = file ≡ name
@@ -59,8 +60,8 @@ pub record IsSpoilt (d : Dialect) {F : Type 0} (remaining : F → Option (List �
 abbrev pub AreAllScripts : Dialect → {F : Type 0} → (F → Option (List ℕ)) → List (String Global × F) → Type 0
 AreAllScripts d remaining files = (scripts : List (Vec (Step Global))) × AreScripts d remaining files scripts
 
--- why a recording ended without its rows: the first file that is not steps; or, where all are, what came when they were played or
--- printed. Memory may be wanted at any time.
+-- why a recording ended without its rows: the first file that is not steps; or, where all are, what came when they were
+-- played or printed. Memory may be wanted at any time.
 abbrev pub EndedBy : Dialect → {F : Type 0} → (F → Option (List ℕ)) → List (String Global × F) → RecordingFault → Type 0
 EndedBy d remaining files (NotAStep file line) = IsSpoilt d remaining files (NotAStep file line)
 EndedBy d remaining files (CannotRead file) = IsSpoilt d remaining files (CannotRead file)
@@ -77,7 +78,8 @@ IsOfPlay e = (e ≡ Memory) ⊎ (e ≡ LogDiffers)
 abbrev pub IsOfPrint : RecordingFault → Type 0
 IsOfPrint e = (e ≡ Memory) ⊎ (e ≡ CannotWrite)
 
--- hands that ran these scripts came back so, each to its script's end or stopped by a limit of the tree; these are the lines of those
+-- hands that ran these scripts came back so, each to its script's end or stopped by a limit of the tree; these are the
+-- lines of those
 pub record HaveRun {A : Type 0} (seal : ℕ) (hands : List PlainHand) (scripts : List (Vec (Step A))) (back : List PlainHand) (stopped : List ℕ) : Type 0 where
   pub done : List (PlainHand × Result (Unit {0}) RecordFault)
   pub ran : AllRan seal (zip hands scripts) done
@@ -108,8 +110,8 @@ pub record IsRecorded (d : Dialect) {F : Type 0} (remaining : F → Option (List
   pub played : IsPlayed scripts log session stopped
   pub wrote : Appends old new (recording_text log session stopped)
 
--- the recording ended without its rows: the status and what the user was told are those of the reason, and nothing was written but where a
--- write failed
+-- the recording ended without its rows: the status and what the user was told are those of the reason, and nothing was
+-- written but where a write failed
 pub record HasNoRows (d : Dialect) {F : Type 0} (remaining : F → Option (List ℕ)) (files : List (String Global × F)) (old new told tells : Option (List ℕ)) (before after : ℕ) (result : ℕ) (e : RecordingFault) : Type 0 where
   pub why : EndedBy d remaining files e
   pub status_is : result ≡ status e

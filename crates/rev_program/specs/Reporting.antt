@@ -1,5 +1,5 @@
--- What ends a report before a file is opened.
--- Rule of this project: a configuration that is asked for is looked at first; a server's settings tell that of its logs.
+-- What ends a report before a file is opened. Rule of this project: a configuration that is asked for is looked at
+-- first; a server's settings tell that of its logs.
 use Rattle.std.specs.Prelude.{Option, None}
 use Rattle.rev_classes.specs.Limits.{fault_of}
 use Rattle.rev_classes.specs.declared.ConfigFault.{ConfigFault}

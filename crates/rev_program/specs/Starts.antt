@@ -16,7 +16,8 @@ use Rattle.rev_shell.specs.declared.quiet.TraceFault.{TraceFault}
 use Rattle.rev_program.specs.Stop.{stop_of_trace}
 use Rattle.rev_program.specs.declared.stop.Stop.{Stop}
 
--- the steps of the bytes' lines, in a dialect, lead from the state in which a session stands to the root of one without other nodes
+-- the steps of the bytes' lines, in a dialect, lead from the state in which a session stands to the root of one without
+-- other nodes
 abbrev pub StartsWith : Dialect → List ℕ → SessionState → SessionState → Type 0
 StartsWith d bytes m t = (steps : List Step) × (all_steps (lines d bytes) ≡ Some steps) × (t ≡ from_state (run_forward (state_of m) steps))
 

@@ -17,8 +17,8 @@ use Rattle.rev_program.specs.declared.steps.ScriptFault.TheVariants.{NotAStep, M
 abbrev pub Adds : List model.Step → List model.Step → ScriptLine → Type 0
 Adds old new line = joined (Some old) (steps_of line) ≡ Some new
 
--- why the bytes read did not become steps: the first line that makes none; or one read failed, the last, or more bytes were
--- read than may be, and all lines that lie whole in the bytes (in those that a script may have) make steps
+-- why the bytes read did not become steps: the first line that makes none; or one read failed, the last, or more bytes
+-- were read than may be, and all lines that lie whole in the bytes (in those that a script may have) make steps
 abbrev pub Because : ScriptFault → Dialect → List ℕ → Told → Told → Type 0
 Because (NotAStep line) d read old new = IsFirstOther line (lines d read)
 Because Memory d read old new = Unit {0}

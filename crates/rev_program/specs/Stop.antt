@@ -25,8 +25,8 @@ use Rattle.rev_program.specs.Telling.{joined}
 use Rattle.rev_program.specs.declared.stop.Stop.{Stop}
 use Rattle.rev_program.specs.declared.stop.Stop.TheVariants.{Usage, BadPage, BadFactor, TooManyClasses, BadLimit, Memory, CannotRead, CannotOpen, NotAStep, CannotWrite, TooLong, CannotWriteFile, BadLine, BadStats, NoEvent, BadRow, NoRow, BadImport}
 
--- the exit status: 2 the command line or the configuration, 3 memory, 4 input or output, 5 a line that is not a step, or what
--- is imported
+-- the exit status: 2 the command line or the configuration, 3 memory, 4 input or output, 5 a line that is not a step,
+-- or what is imported
 abbrev pub status : Stop → ℕ
 status (Usage told) = 2
 status BadPage = 2

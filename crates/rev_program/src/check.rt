@@ -151,8 +151,8 @@ fn put_share(out: &mut Vec<u8>, part: u64, whole: u64, back: &[u8]) -> Result<()
 }
 
 impl Tally {
-    // A look-up that found its key, or not, is answered alike or not by a step of this outcome, or not at all. A hit may
-    // have become a delete.
+    // A look-up that found its key, or not, is answered alike or not by a step of this outcome, or not at all. A hit
+    // may have become a delete.
     fn answer(&mut self, found: bool, outcome: Outcome) {
         let is_alike = match outcome {
             Outcome::Hit { .. } => found,
@@ -195,8 +195,8 @@ impl Tally {
     }
 }
 
-/// What log and replay told so far. An eviction is a key, and which store of it was evicted. Memory is taken for the keys
-/// that were stored or evicted.
+/// What log and replay told so far. An eviction is a key, and which store of it was evicted. Memory is taken for the
+/// keys that were stored or evicted.
 #[derive(Drop)]
 struct Comparison {
     alloc: Global,

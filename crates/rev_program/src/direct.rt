@@ -1,5 +1,5 @@
-//! `lrudb open` of logs and of published traces: what an import would write is played as they are read, and then a session
-//! is answered.
+//! `lrudb open` of logs and of published traces: what an import would write is played as they are read, and then a
+//! session is answered.
 ghost use Rattle.std.specs.Prelude.{IfSome};
 ghost use Rattle.rev_classes.specs.Limits.{fault_of};
 ghost use Rattle.rev_program.specs.Program.{IsStatus, StopsBy, EndsNoted};
@@ -249,9 +249,9 @@ fn answered<I: Read + Drop, O: Write + Drop, E: Sink>(
     }
 }
 
-/// Plays what the logs become that are asked for, each step as a node, as they are read, and answers the session that the
-/// reader gives. What the import tells of itself, and where the tree is full, is told before the session is read. Answers
-/// the exit status, and tells why where it is not 0.
+/// Plays what the logs become that are asked for, each step as a node, as they are read, and answers the session that
+/// the reader gives. What the import tells of itself, and where the tree is full, is told before the session is read.
+/// Answers the exit status, and tells why where it is not 0.
 pub fn open_watch<
     R: Files + AllocGlobal,
     I: Read + Drop,
@@ -285,8 +285,8 @@ pub fn open_watch<
     )
 }
 
-/// Plays what the published traces become that are asked for, in the same way. A configuration at fault is told before a
-/// file is opened.
+/// Plays what the published traces become that are asked for, in the same way. A configuration at fault is told before
+/// a file is opened.
 pub fn open_csv<
     R: Files + AllocGlobal,
     I: Read + Drop,

@@ -37,8 +37,8 @@ impl RecordingFault {
         }
     }
 
-    /// The status that the program ends with: 3 for memory, 4 for input or output, 5 for a line that is not a step, 6 where
-    /// the log differs (this project's own numbers).
+    /// The status that the program ends with: 3 for memory, 4 for input or output, 5 for a line that is not a step, 6
+    /// where the log differs (this project's own numbers).
     pub fn status(&self) -> u8
         ensures status { result ≡ status self.now }
         ensures some { result ≢ 0 }

@@ -415,8 +415,8 @@ fn to_files<R: Files, M: Making + Drop>(
     }
 }
 
-/// Makes a script where it is asked for: in the files of this prefix, with the words for a run of it, or, where the prefix
-/// is `-`, on the standard output.
+/// Makes a script where it is asked for: in the files of this prefix, with the words for a run of it, or, where the
+/// prefix is `-`, on the standard output.
 pub(crate) fn send<R: Files + AllocGlobal, M: Making + Drop, O: Write>(
     rt: &R,
     prefix: &str,
@@ -602,7 +602,8 @@ fn add_check(notes: &mut Vec<u8>, check: &Option<Check>) -> Result<(), AllocErro
     }
 }
 
-// Adds how the script in files is run: with its start, where it has one, of which so many steps were written of the setup.
+// Adds how the script in files is run: with its start, where it has one, of which so many steps were written of the
+// setup.
 fn add_run(
     notes: &mut Vec<u8>,
     asked: &WatchImport,
@@ -682,8 +683,8 @@ fn import<R: Files + AllocGlobal, I: Read + Drop, O: Write, C: Clock, W: Sink>(
     }
 }
 
-/// Makes the script that is asked for. Answers the exit status, 0, 3, 4 or 5. At status 0 what the import tells of itself
-/// goes to `errors`, at any other the text of the reason, whole where no write to it has failed.
+/// Makes the script that is asked for. Answers the exit status, 0, 3, 4 or 5. At status 0 what the import tells of
+/// itself goes to `errors`, at any other the text of the reason, whole where no write to it has failed.
 pub fn import_watch<R: Files + AllocGlobal, I: Read + Drop, O: Write, E: Sink, C: Clock, W: Sink>(
     rt: &R,
     asked: WatchImport,

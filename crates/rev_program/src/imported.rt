@@ -122,7 +122,8 @@ fn has_stopped() -> io::Error {
     io::Error::from(ErrorKind::InvalidData)
 }
 
-// Sees that the piece has bytes behind the place, where there are more. What ends the script early ends each call behind it.
+// Sees that the piece has bytes behind the place, where there are more. What ends the script early ends each call
+// behind it.
 fn refresh<T: Feed>(
     feed: &mut T,
     piece: &mut Vec<u8>,

@@ -1,5 +1,5 @@
-//! The whole program but for its streams: words, a reader, a writer and a place for messages in, an exit status out; and
-//! scripts played at once by several players on one session, with the rows that tell how it went.
+//! The whole program but for its streams: words, a reader, a writer and a place for messages in, an exit status out;
+//! and scripts played at once by several players on one session, with the rows that tell how it went.
 #![tactic(auto)]
 
 mod agreement;

@@ -116,8 +116,8 @@ fn note<E: Sink>(full: &Option<Full>, errors: &mut E)
     }
 }
 
-/// The files of the names, opened in order, whose progress is told as they are read. The first that cannot be opened ends
-/// it.
+/// The files of the names, opened in order, whose progress is told as they are read. The first that cannot be opened
+/// ends it.
 pub(crate) fn told_files<'p, R: Files, C, W>(
     rt: &R,
     alloc: Global,

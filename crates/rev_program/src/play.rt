@@ -209,7 +209,8 @@ fn print<W: Write>(played: Played, writer: &mut W) -> Result<(), RecordingFault>
 {
     let Played { settled, stopped } = played;
     let text = text_of(settled.log.as_slice(), &settled.session, stopped);
-    // The program ends with the recording, and all memory goes back at once: nothing is gained by taking the tree apart.
+    // The program ends with the recording, and all memory goes back at once: nothing is gained by taking the tree
+    // apart.
     let _settled = ManuallyDrop::new(settled);
     let Ok(text) = text else {
         return Err(RecordingFault::Memory);
@@ -252,10 +253,10 @@ fn record<R: Threads + Wait + Sync + AllocGlobal, F: Read + Drop, W: Write>(
 }
 
 /// `lrudb record` once its files are open, each a name and a reader: reads them in order, in the dialect, plays them at
-/// once on the session, the i-th file from 0 as player i, and writes the rows to `writer`. A file that is not steps from
-/// its first line to its last ends it before anything of it is played. Answers the exit status, 0, 3, 4, 5 or 6. At status 0 nothing goes to
-/// `errors`; at any other the text of the reason does, whole where no write to `errors` has failed, and nothing is written
-/// to `writer` but where a write to it failed. Threads may wait for one another.
+/// once on the session, the i-th file from 0 as player i, and writes the rows to `writer`. A file that is not steps
+/// from its first line to its last ends it before anything of it is played. Answers the exit status, 0, 3, 4, 5 or 6.
+/// At status 0 nothing goes to `errors`; at any other the text of the reason does, whole where no write to `errors` has
+/// failed, and nothing is written to `writer` but where a write to it failed. Threads may wait for one another.
 pub fn play_files<R: Threads + Wait + Sync + AllocGlobal, F: Read + Drop, W: Write, E: Sink>(
     rt: &R,
     session: Session<Global>,

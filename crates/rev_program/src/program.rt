@@ -104,7 +104,8 @@ where
     }
 }
 
-// Runs the script of the reader behind the steps of the starts, with all that the run keeps in one heap of so many bytes.
+// Runs the script of the reader behind the steps of the starts, with all that the run keeps in one heap of so many
+// bytes.
 fn run_in_heap<F: Read + Drop, I: Read + Drop, O: Write + Drop>(
     alloc: Global,
     bytes: usize,
@@ -194,10 +195,10 @@ fn run_told<R: Files + AllocGlobal, I: Read + Drop, O: Write + Drop>(
     }
 }
 
-/// Runs the script of the reader, from the state that the steps of the files `starts` leave one after another, and writes
-/// its answers. With `heap`, all that the run keeps lies in one heap of so many bytes, but for the buffers of the streams.
-/// A configuration at fault is told before a file is opened, and a file that cannot be opened before anything is read and
-/// before the heap is made. CR LF ends data.
+/// Runs the script of the reader, from the state that the steps of the files `starts` leave one after another, and
+/// writes its answers. With `heap`, all that the run keeps lies in one heap of so many bytes, but for the buffers of
+/// the streams. A configuration at fault is told before a file is opened, and a file that cannot be opened before
+/// anything is read and before the heap is made. CR LF ends data.
 pub fn run_script<R: Files + AllocGlobal, I: Read + Drop, O: Write + Drop>(
     rt: &R,
     config: Config,
@@ -304,9 +305,9 @@ fn opened_for_recording<R: Files + AllocGlobal>(
     Ok((session, files))
 }
 
-// Plays the scripts of the files at once, each as a player, from the state that the steps of the files `starts` leave, and
-// writes the rows. A configuration at fault is told before a file is opened, and a file that cannot be opened before one
-// is read. Answers the exit status, and tells as `play_files` does.
+// Plays the scripts of the files at once, each as a player, from the state that the steps of the files `starts` leave,
+// and writes the rows. A configuration at fault is told before a file is opened, and a file that cannot be opened
+// before one is read. Answers the exit status, and tells as `play_files` does.
 fn record_files<R: Files + Threads + Wait + Sync + AllocGlobal, O: Write, E: Sink>(
     rt: &R,
     config: Config,
@@ -388,11 +389,11 @@ fn program_with<
 
 /// The whole program: does what the words behind its name ask for, and answers its exit status, 0 or 2 to 6.
 ///
-/// Answers go to `writer`. At status 0 nothing goes to `errors`, but what an import tells of itself, that of `open` too, what is
-/// told of traces that fill the tree, and which commands of a run were malformed or refused; at any other the text of the
-/// reason does, whole where no write to `errors` has failed. A report goes to its files, and only how the program was
-/// stopped is told of it. How far traces and imports have come goes to `progress`, and nothing does where no word asks for
-/// it. The players of a recording wait for one another.
+/// Answers go to `writer`. At status 0 nothing goes to `errors`, but what an import tells of itself, that of `open`
+/// too, what is told of traces that fill the tree, and which commands of a run were malformed or refused; at any other
+/// the text of the reason does, whole where no write to `errors` has failed. A report goes to its files, and only how
+/// the program was stopped is told of it. How far traces and imports have come goes to `progress`, and nothing does
+/// where no word asks for it. The players of a recording wait for one another.
 pub fn program<
     R: Files + Threads + Wait + Clock + Sync + AllocGlobal,
     S: AsStr,

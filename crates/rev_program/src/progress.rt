@@ -1,4 +1,5 @@
-//! How far a work has come that reads files. It is told on a stream of its own, over and over on one line of a terminal.
+//! How far a work has come that reads files. It is told on a stream of its own, over and over on one line of a
+//! terminal.
 ghost use Rattle.std.specs.Prelude.{◌≡◌, map, true, false, None, Some};
 ghost use Rattle.rev_program.specs.Progress.{asks_progress, percent, rate, progress_text};
 ghost use Rattle.rev_program.specs.Telling.{Told};

@@ -399,9 +399,9 @@ fn make<R: Files + Threads + Sync + AllocGlobal, C: Clock, W: Sink>(
 }
 
 /// Makes the report that is asked for: plays the trace as `open` does, and writes the page, and its tables and curves
-/// as CSV, where they are asked for. A file that cannot be written whole is not left, and neither are the others. Answers
-/// the exit status, 0 or 2 to 5. At status 0 nothing goes to `errors`, at any other the text of the reason. A configuration
-/// at fault is told before a file is opened, and that the page cannot be written before one is read.
+/// as CSV, where they are asked for. A file that cannot be written whole is not left, and neither are the others.
+/// Answers the exit status, 0 or 2 to 5. At status 0 nothing goes to `errors`, at any other the text of the reason. A
+/// configuration at fault is told before a file is opened, and that the page cannot be written before one is read.
 pub fn report<R: Files + Threads + Sync + AllocGlobal, E: Sink, C: Clock, W: Sink>(
     rt: &R,
     asked: Reporting,

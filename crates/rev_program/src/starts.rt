@@ -55,9 +55,9 @@ fn play_files<A: Allocator + Clone, F: Read + Drop>(
     Ok(())
 }
 
-/// The session that a program begins with: the steps of the files, each a name and a reader, were read in the dialect and
-/// played in order on an empty store, and no node stands but the root. Or memory was refused, or it is told why the first
-/// file that is at fault is no start.
+/// The session that a program begins with: the steps of the files, each a name and a reader, were read in the dialect
+/// and played in order on an empty store, and no node stands but the root. Or memory was refused, or it is told why the
+/// first file that is at fault is no start.
 pub fn started<A: Allocator + Clone, F: Read + Drop>(
     alloc: &A,
     config: &Config,

@@ -189,8 +189,8 @@ fn import<R: Files + AllocGlobal>(rt: &R, asked: &StateImport) -> Result<Vec<u8>
     }
 }
 
-/// Makes the start that is asked for. Answers the exit status, 0, 3, 4 or 5. At status 0 what the import tells of itself
-/// goes to `errors`, at any other the text of the reason, whole where no write to it has failed.
+/// Makes the start that is asked for. Answers the exit status, 0, 3, 4 or 5. At status 0 what the import tells of
+/// itself goes to `errors`, at any other the text of the reason, whole where no write to it has failed.
 pub fn import_state<R: Files + AllocGlobal, E: Sink>(
     rt: &R,
     asked: StateImport,

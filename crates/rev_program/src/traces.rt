@@ -172,8 +172,8 @@ fn import<R: Files + AllocGlobal, I: Read + Drop, O: Write, C: Clock, W: Sink>(
     }
 }
 
-/// Makes the script that is asked for. Answers the exit status, 0 or 2 to 5. At status 0 what the import tells of itself
-/// goes to `errors`, at any other the text of the reason, whole where no write to it has failed.
+/// Makes the script that is asked for. Answers the exit status, 0 or 2 to 5. At status 0 what the import tells of
+/// itself goes to `errors`, at any other the text of the reason, whole where no write to it has failed.
 pub fn import_csv<R: Files + AllocGlobal, I: Read + Drop, O: Write, E: Sink, C: Clock, W: Sink>(
     rt: &R,
     asked: CsvImport,

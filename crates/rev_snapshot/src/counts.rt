@@ -122,8 +122,8 @@ impl Counts {
         self.classes.get(class).copied().unwrap_or_default()
     }
 
-    /// The first class that has fewer chunks than items of the dump, or than its queues have, or no queue for an item of the
-    /// dump.
+    /// The first class that has fewer chunks than items of the dump, or than its queues have, or no queue for an item
+    /// of the dump.
     pub fn unfit<A: Allocator>(&self, items: &[Item<A>]) -> Option<Unfit> {
         let mut held = [0u64; CLASSES];
         for item in items {

@@ -1,7 +1,8 @@
 //! What a running memcached tells of its items, made into a script that brings them about.
 //!
-//! [`dump::read_items`] reads what `lru_crawler metadump all` sent, and [`counts`] the texts of `stats items` and `stats
-//! slabs`. [`rounds`] tells in which queue each item stands, [`order`] when each is set, and [`start`] writes the script.
+//! [`dump::read_items`] reads what `lru_crawler metadump all` sent, and [`counts`] the texts of `stats items` and
+//! `stats slabs`. [`rounds`] tells in which queue each item stands, [`order`] when each is set, and [`start`] writes
+//! the script.
 #![tactic(auto)]
 
 pub mod counts;

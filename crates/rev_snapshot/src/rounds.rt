@@ -1,6 +1,6 @@
-//! In which queue each item of a dump stands. A dump goes round by round over the queues HOT, WARM, COLD and TEMP, and by
-//! rising class over each, an item of each class; a class whose queue has ended is passed by. So items whose classes rise
-//! are of one queue, and which one it is tell the counts of the queues.
+//! In which queue each item of a dump stands. A dump goes round by round over the queues HOT, WARM, COLD and TEMP, and
+//! by rising class over each, an item of each class; a class whose queue has ended is passed by. So items whose classes
+//! rise are of one queue, and which one it is tell the counts of the queues.
 
 use crate::counts::Counts;
 use crate::dump::{CLASSES, Item};

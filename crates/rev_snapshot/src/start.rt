@@ -1,7 +1,7 @@
 //! The script that brings lrudb to the state of a running memcached.
 //!
-//! First each class gets its pages: filler is stored in them and taken away again. Then each item is set at its second, into
-//! HOT or TEMP. At last those that stand in WARM or COLD are pulled out of HOT, in their order.
+//! First each class gets its pages: filler is stored in them and taken away again. Then each item is set at its second,
+//! into HOT or TEMP. At last those that stand in WARM or COLD are pulled out of HOT, in their order.
 ghost use Rattle.std.specs.Prelude.{◌≡◌, ◌≤◌, [], ◌∷◌, length, nat_lt, true, false, OnOk, IfOk, IfSome};
 ghost use Rattle.rev_import.specs.Writing.{Writes};
 ghost use Rattle.rev_snapshot.specs.Start.{is_fill_key, is_warm, hit_lines, set_lines, stored_lines, item_lines, items_lines, Fills, Starts};
@@ -357,8 +357,8 @@ fn latest<A: Allocator>(items: &[Placed<A>]) -> u32 {
     latest
 }
 
-/// Writes the script that brings lrudb, opened as the setup says, to the state that was told: `items` in the order in which
-/// they are set. Each line makes one step.
+/// Writes the script that brings lrudb, opened as the setup says, to the state that was told: `items` in the order in
+/// which they are set. Each line makes one step.
 ///
 /// Err: memory was refused.
 pub fn put_start<A: Allocator + Copy>(

@@ -1,4 +1,5 @@
--- A step and its record, by the states at its two ends: what the record tells of a key, and that a key which it does not name stays as it was.
+-- A step and its record, by the states at its two ends: what the record tells of a key, and that a key which it does
+-- not name stays as it was.
 use Rattle.std.specs.Prelude.{ℕ, ◌≡◌, Bool, true, false, cond, nat_eq, List, [], ◌∷◌, ◌++◌, Option, None, Some, is_some, refl}
 use Rattle.std.specs.Option.{option_map}
 use Rattle.std.proofs.Common.{sym, ◌∙◌, ap, subst, inl, inr, eq-eqb}

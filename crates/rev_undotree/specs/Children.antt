@@ -27,6 +27,7 @@ next_number k [] = None
 next_number zero (e ∷ es) = Some e.number
 next_number (suc k) (e ∷ es) = next_number k es
 
--- the children of the node behind the first k of the run: the run's next node, and the first of each fork that leaves there
+-- the children of the node behind the first k of the run: the run's next node, and the first of each fork that leaves
+-- there
 abbrev pub children_at : PlainBranch → ℕ → List ℕ
 children_at b k = put_in (next_number k b.run) (firsts k b.forks)

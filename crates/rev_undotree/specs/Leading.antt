@@ -24,7 +24,8 @@ pub record IsIndex (i : PlainIndex) (b : PlainBranch) (issued : ℕ) : Type 0 wh
   pub closed : IsClosed i
   pub leads : LeadsTo i b
 
--- the next node was noted below node n, which stands at the end of the way w: it stands at the end of w, too, or of a branch that leaves there
+-- the next node was noted below node n, which stands at the end of the way w: it stands at the end of w, too, or of a
+-- branch that leaves there
 pub data Notes (i : PlainIndex) (n : ℕ) (w : List Junction) : PlainIndex → List Junction → Type 0 where
   noted_along : Notes i n w (noted i n None) w
   noted_off : (p : Junction) → Notes i n w (noted i n (Some p)) (w ++ p ∷ [])

@@ -37,7 +37,8 @@ abbrev pub IsFirst : ℕ → ℕ → ℕ → Option ℕ → Type 0
 IsFirst z l f None = Unit {0}
 IsFirst z l f (Some n) = (z ≤ f) × (l < n)
 
--- the forks of a run nest at most k deep, leave it where it is, at z or later, and stand in the order of their numbers, all over l
+-- the forks of a run nest at most k deep, leave it where it is, at z or later, and stand in the order of their numbers,
+-- all over l
 abbrev pub Fitted : Forks → List PlainNode → ℕ → ℕ → ℕ → Type 0
 Fitted bare run k l z = Unit {0}
 Fitted (fork f r i m) run k l z = (0 < k) × (f ≤ length run) × IsFirst z l f (head_number r) × Fitted i r (k - 1) 0 1 × Fitted m run k (bar l (head_number r)) z

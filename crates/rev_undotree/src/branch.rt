@@ -29,8 +29,8 @@ pub struct Branch<A: Allocator> {
     forks: Vec<Fork<A>, A>,
 }
 
-/// A branch that forks from a run. A run may have thousands of forks, so the place where it leaves the run stands beside the
-/// box: who looks for the forks at one place waits for no memory of the others.
+/// A branch that forks from a run. A run may have thousands of forks, so the place where it leaves the run stands
+/// beside the box: who looks for the forks at one place waits for no memory of the others.
 #[cycle(tree)]
 #[derive(Drop)]
 struct Fork<A: Allocator> {
@@ -130,8 +130,8 @@ impl<A: Allocator> Branch<A> {
 
     /// Where the node `number` stands in the run.
     ///
-    /// Numbers rise along a run, so a node stands at most as far in as its number is above the first one's, and just there
-    /// where all before it were played in a row. That place is looked at first.
+    /// Numbers rise along a run, so a node stands at most as far in as its number is above the first one's, and just
+    /// there where all before it were played in a row. That place is looked at first.
     fn place_in_run(&self, number: u32) -> Option<usize>
         requires { RisesRun self.now.run }
         ensures some { IfSome result (λ k. (k < length self.now.run) × ((get_or self.now.run k no_node).number ≡ number)) }
@@ -263,7 +263,8 @@ impl<A: Allocator> Branch<A> {
         }
     }
 
-    /// Adds a fork of the node that is held out, which leaves its parent's run at `from`, to the branch at the end of `way`.
+    /// Adds a fork of the node that is held out, which leaves its parent's run at `from`, to the branch at the end of
+    /// `way`.
     ///
     /// Err: a growth was refused, and the node is still there.
     pub fn split(
@@ -361,8 +362,8 @@ impl<A: Allocator> Fork<A> {
     }
 }
 
-// Adds a branch of the node that is held out, which leaves its parent's run at `from`. Err: a growth was refused, and the
-// node is still there.
+// Adds a branch of the node that is held out, which leaves its parent's run at `from`. Err: a growth was refused, and
+// the node is still there.
 fn sprout<A: Allocator + Clone>(
     forks: &mut Vec<Fork<A>, A>,
     alloc: &A,

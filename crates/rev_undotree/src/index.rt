@@ -8,17 +8,17 @@ use arrayvec::ArrayVec;
 use std::alloc::{AllocError, Allocator};
 use std::marker::Model;
 
-/// Where a branch leaves the run of another. Branches go by their order: 0 is the base branch, and the others are counted
-/// from 1 as they fork.
+/// Where a branch leaves the run of another. Branches go by their order: 0 is the base branch, and the others are
+/// counted from 1 as they fork.
 #[derive(Clone, Copy, Drop)]
 pub struct Leaving {
     pub branch: usize,
     pub junction: Junction,
 }
 
-/// The branch of each node, and where each branch leaves another: so the way to a node takes as many steps as its branch
-/// is deep, whatever the size of the tree. It still has the nodes that were taken out since, so who asks it looks in the
-/// tree: a node stands where it says, or nowhere.
+/// The branch of each node, and where each branch leaves another: so the way to a node takes as many steps as its
+/// branch is deep, whatever the size of the tree. It still has the nodes that were taken out since, so who asks it
+/// looks in the tree: a node stands where it says, or nowhere.
 #[derive(Drop)]
 pub struct Index<A: Allocator> {
     branches: Vec<usize, A>,
@@ -56,7 +56,8 @@ impl<A: Allocator> Index<A> {
         self.leavings.clear();
     }
 
-    /// Notes the next node: it is played below the node `parent`, where a new branch leaves the run, or at the run's end.
+    /// Notes the next node: it is played below the node `parent`, where a new branch leaves the run, or at the run's
+    /// end.
     ///
     /// Err: a growth was refused, and the index is as it was.
     pub fn note(&mut self, parent: u32, fork: Option<Junction>) -> Result<(), AllocError>

@@ -36,9 +36,9 @@ fn eighth_more(entries: usize) -> usize {
     entries.saturating_add(entries / 8 + 1)
 }
 
-/// Which hash was mentioned at which node, in the order of the nodes. A look-up goes back along the entries of one bucket,
-/// many at a time where they are of later nodes than it asks for, and takes no memory; a bucket has four entries at most,
-/// on average, where there is memory for so many buckets.
+/// Which hash was mentioned at which node, in the order of the nodes. A look-up goes back along the entries of one
+/// bucket, many at a time where they are of later nodes than it asks for, and takes no memory; a bucket has four
+/// entries at most, on average, where there is memory for so many buckets.
 #[derive(Drop)]
 pub struct Mentions<A: Allocator> {
     heads: Vec<Head, A>,
@@ -136,8 +136,8 @@ impl<A: Allocator> Mentions<A> {
             || self.says(count.saturating_sub(2), hash, node)
     }
 
-    // Makes four times as many buckets where they have as many entries as they may. Where memory is refused they stay as they
-    // are until there are an eighth more entries.
+    // Makes four times as many buckets where they have as many entries as they may. Where memory is refused they stay
+    // as they are until there are an eighth more entries.
     fn make_room(&mut self)
     where
         A: Clone,
@@ -182,8 +182,8 @@ impl<A: Allocator> Mentions<A> {
     }
 
     /// Gives the memory back that more buckets took: the log has those that it began with, and more are asked for once
-    /// there are an eighth more entries. The answer is whether there were more. It takes no memory, and time in the number
-    /// of entries.
+    /// there are an eighth more entries. The answer is whether there were more. It takes no memory, and time in the
+    /// number of entries.
     pub fn narrow(&mut self) -> bool
         ensures { self.new ≡ self.old }
     {

@@ -138,8 +138,8 @@ fn mention_record<A: Allocator + Clone>(
     Ok(())
 }
 
-/// Mentions the keys that a step names which answered `outcome`, left `store` and is undone by `undo`: under the number of
-/// its node.
+/// Mentions the keys that a step names which answered `outcome`, left `store` and is undone by `undo`: under the number
+/// of its node.
 ///
 /// Err: a growth was refused; some may be mentioned.
 pub fn mention<A: Allocator + Clone>(

@@ -131,8 +131,8 @@ impl<A: Allocator> Position<A> {
         self.base.reach(way).number(here - 1)
     }
 
-    /// Where node `number` stands, if the tree has it, which has no number over `issued`. The index leads to each node that
-    /// stands, so one that does not stand where it leads was taken out.
+    /// Where node `number` stands, if the tree has it, which has no number over `issued`. The index leads to each node
+    /// that stands, so one that does not stand where it leads was taken out.
     pub fn find(
         &self,
         number: u32,
@@ -330,7 +330,8 @@ impl<A: Allocator> Position<A> {
         self.enter(junction.fork);
     }
 
-    /// Goes to a position of the tree, back to the last common node and on from there. The answer is the number of turns.
+    /// Goes to a position of the tree, back to the last common node and on from there. The answer is the number of
+    /// turns.
     pub fn go(&mut self, target: &[Junction], at: usize) -> u32
         requires stands { Stands (rewind self.old.base self.old.way.items self.old.here self.old.store) self.old.store self.old.base self.old.way.items self.old.here }
         requires proper { Proper self.old.way.items self.old.here }

@@ -17,8 +17,8 @@ struct Extent {
     is_turned: bool,
 }
 
-/// Records of steps, one behind another. They are read and turned where they stand, so who turns them in a row goes through
-/// memory in a row.
+/// Records of steps, one behind another. They are read and turned where they stand, so who turns them in a row goes
+/// through memory in a row.
 #[derive(Drop)]
 pub struct Records<A: Allocator> {
     changes: Vec<Change<A>, A>,
@@ -60,8 +60,8 @@ impl<A: Allocator> Records<A> {
         self.extents.len()
     }
 
-    /// Moves a record behind the others; it then has no moves left. A record has at most 65535 changes, and all together
-    /// at most 2^32.
+    /// Moves a record behind the others; it then has no moves left. A record has at most 65535 changes, and all
+    /// together at most 2^32.
     ///
     /// Err: a growth was refused, or there would be more changes; nothing is changed.
     pub fn push(&mut self, undo: &mut Record<A>) -> Result<(), AllocError>
@@ -111,8 +111,8 @@ impl<A: Allocator> Records<A> {
         RecordRef::new(changes, extent.is_turned)
     }
 
-    /// Plays the i-th record, from its last move to its first. It then holds the reverses, each with the note that it had,
-    /// and turns the store back. It takes no memory.
+    /// Plays the i-th record, from its last move to its first. It then holds the reverses, each with the note that it
+    /// had, and turns the store back. It takes no memory.
     pub fn turn(&mut self, i: usize, store: &mut Store<A>)
         requires within { i < length self.old }
         requires well { WellFormed store.old }

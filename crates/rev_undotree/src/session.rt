@@ -187,8 +187,8 @@ impl<A: Allocator + Clone> Session<A> {
         }
     }
 
-    /// Plays a step as `play` does, with the buckets that there are: who meets a want of memory may `narrow` and play it
-    /// again, as `play` does.
+    /// Plays a step as `play` does, with the buckets that there are: who meets a want of memory may `narrow` and play
+    /// it again, as `play` does.
     pub fn play_once(&mut self, step: Step<A>) -> Result<Played, (PlayFault, Step<A>)>
         ensures ok { IfOk result (λ p. self.new ≡ record { root = self.old.root; rows = self.old.rows ++ Some (row self.old.current (plain_step step) (not (is_continued self.old.rows self.old.current))) ∷ []; current = p.node.0 }) }
         ensures node { IfOk result (λ p. p.node.0 ≡ length self.old.rows + 1) }
@@ -247,9 +247,10 @@ impl<A: Allocator + Clone> Session<A> {
         }
     }
 
-    /// Gives the memory back that was taken for speed alone: that of more buckets, for the index of the store and for the
-    /// log of mentions, than the session began with. More are asked for again once there are an eighth more keys, or
-    /// mentions. The answer is whether there was such memory. It takes none, and time in the number of keys and mentions.
+    /// Gives the memory back that was taken for speed alone: that of more buckets, for the index of the store and for
+    /// the log of mentions, than the session began with. More are asked for again once there are an eighth more keys,
+    /// or mentions. The answer is whether there was such memory. It takes none, and time in the number of keys and
+    /// mentions.
     pub fn narrow(&mut self) -> bool
         ensures { self.new ≡ self.old }
     {
@@ -266,8 +267,8 @@ impl<A: Allocator + Clone> Session<A> {
         &self.position.store
     }
 
-    /// Begins anew where the session stands: the current state is the root from now on, and the tree is let go with all its
-    /// steps and records. No memory is taken.
+    /// Begins anew where the session stands: the current state is the root from now on, and the tree is let go with all
+    /// its steps and records. No memory is taken.
     pub fn restart(&mut self)
         ensures { self.new ≡ record { root = at self.old.root self.old.rows self.old.current; rows = []; current = 0 } }
     {
@@ -297,8 +298,8 @@ impl<A: Allocator + Clone> Session<A> {
         self.position.depth()
     }
 
-    /// The node at `depth` of the way to the current node, from 1, with its step, the step's outcome, and its record, which
-    /// leads back to its parent and tells which keys the step took out of the index, each with its cause.
+    /// The node at `depth` of the way to the current node, from 1, with its step, the step's outcome, and its record,
+    /// which leads back to its parent and tells which keys the step took out of the index, each with its cause.
     pub fn trail<'a>(
         &'a self,
         depth: usize,
@@ -330,8 +331,8 @@ impl<A: Allocator + Clone> Session<A> {
         }
     }
 
-    // A depth, from `first` to `depth`, behind which each node of the way up to `depth` has a number over `number`. It is
-    // looked for from `first` on, in steps that double.
+    // A depth, from `first` to `depth`, behind which each node of the way up to `depth` has a number over `number`. It
+    // is looked for from `first` on, in steps that double.
     fn depth_of(&self, number: u32, first: usize, depth: usize) -> usize
         requires { first ≤ depth }
         ensures within { result ≤ depth }
@@ -351,9 +352,9 @@ impl<A: Allocator + Clone> Session<A> {
         high
     }
 
-    /// A depth, at most `depth`, behind which nothing befell the key up to `depth` on the way to the current node: it had
-    /// no event there, and stayed where it was. It is found by the last node that mentions the key's hash; that it is not
-    /// further down than it must be is speed, and not promised.
+    /// A depth, at most `depth`, behind which nothing befell the key up to `depth` on the way to the current node: it
+    /// had no event there, and stayed where it was. It is found by the last node that mentions the key's hash; that it
+    /// is not further down than it must be is speed, and not promised.
     pub fn last_mention(&self, key: &Key<A>, depth: usize) -> usize
         ensures within { result ≤ depth }
         ensures still { IsStill self.now key.now result depth }
@@ -402,8 +403,8 @@ impl<A: Allocator + Clone> Session<A> {
         }
     }
 
-    /// The parent, the step and the outcome of a node that is held, none for the root: what `parent` and `row` tell, by one
-    /// search for the node.
+    /// The parent, the step and the outcome of a node that is held, none for the root: what `parent` and `row` tell, by
+    /// one search for the node.
     #[inline(always)]
     pub fn row_with_parent<'a>(&'a self, node: NodeId) -> Option<(NodeId, &'a Step<A>, Outcome)>
         ensures some { IfSome result (λ x. (r : Row) × (row_of self.now.rows node.0 ≡ Some r) × (x.0.0 ≡ r.parent) × (plain_step x.1.now ≡ r.step) × (x.2 ≡ outcome_of (at self.now.root self.now.rows r.parent) r.step)) }
@@ -509,8 +510,8 @@ impl<A: Allocator + Clone> Session<A> {
     }
 }
 
-// Mentions the keys that the step of the node that is held out names, adds the node below the position and moves to it. The
-// store stands there already. Err: a growth was refused, and the node is still there.
+// Mentions the keys that the step of the node that is held out names, adds the node below the position and moves to it.
+// The store stands there already. Err: a growth was refused, and the node is still there.
 fn add<A: Allocator + Clone>(
     position: &mut Position<A>,
     mentions: &mut Mentions<A>,

@@ -6,7 +6,8 @@ use Rattle.rev_program.specs.Recordings.{AreScripts, IsSpoilt}
 use Rattle.rev_program.specs.declared.fault.RecordingFault.{RecordingFault}
 use Rattle.rev_program.proofs.play.read_files.Given as goal
 
--- with scripts of the files that are left, there is one for each file; and where one of those left is at fault, it is one of all
+-- with scripts of the files that are left, there is one for each file; and where one of those left is at fault, it is
+-- one of all
 abbrev pub invariant-loop-name : goal.invariant-loop-name
 invariant-loop-name g l = record {
   count : length l.scripts.items + length l.rest.items ≡ length l.fn.files.items;
