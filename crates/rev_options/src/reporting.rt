@@ -57,7 +57,8 @@ fn traces<'a>(alloc: Global) -> Result<Arg<'a>, AllocError> {
         .num_args(1..)
         .action(ArgAction::Append)
         .help("Scripts without questions, whose steps are played in order")
-        .required_unless_present_any(&["watch", "csv"])
+        .required_unless_present("watch")?
+        .required_unless_present("csv")
 }
 
 // Another setting is played from an empty store on, which is not where starts lead.
