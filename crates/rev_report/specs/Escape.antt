@@ -1,7 +1,7 @@
 -- How a text stands in markup, so that none of its bytes is read as markup.
 -- Rule of this project: five bytes are written as the entities that XML and HTML share; of bytes that are no text,
 -- those that do not print are written as their hexadecimal digits behind a backslash and an x.
-use Rattle.std.specs.Prelude.{ℕ, ◌+◌, ◌/◌, ◌%◌, Bool, true, false, cond, nat_eq, nat_lt, not, ◌||◌, ◌&&◌, List, [], ◌∷◌, ◌++◌, codes}
+use Rattle.std.specs.Prelude.{ℕ, ◌+◌, ◌/◌, ◌%◌, Bool, true, cond, nat_eq, nat_lt, not, ◌||◌, ◌&&◌, List, [], ◌∷◌, ◌++◌, codes}
 
 -- what stands for a byte
 abbrev pub escape : ℕ → List ℕ

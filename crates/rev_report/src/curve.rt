@@ -286,6 +286,14 @@ fn put_point(out: &mut Vec<u8>, x: u32, y: u32, is_own: bool) -> Result<(), Allo
     }
 }
 
+// Ends a caption: says which point is the trace's own, if one is.
+fn put_own(out: &mut Vec<u8>, points: &[Point]) -> Result<(), AllocError> {
+    if points.iter().any(|point| point.is_own) {
+        put(out, &[Markup("; the diamond is this trace")])?;
+    }
+    put(out, &[Markup(".</figcaption></figure>")])
+}
+
 /// Puts the curve of the look-ups that hit.
 pub fn put_shares(out: &mut Vec<u8>, setting: Varied, points: &[Point]) -> Result<(), AllocError> {
     let curve = Curve {
@@ -302,10 +310,11 @@ pub fn put_shares(out: &mut Vec<u8>, setting: Varied, points: &[Point]) -> Resul
         &[Markup("<figcaption>How many of a hundred look-ups hit")],
     )?;
     if curve.up.first > 0 {
-        put(out, &[Markup("; the lowest line is at ")])?;
+        put(out, &[Markup(", from ")])?;
         put_per_cent(out, curve.up.first.min(1000) as u32)?;
+        put(out, &[Markup(" up")])?;
     }
-    put(out, &[Markup(".</figcaption></figure>")])
+    put_own(out, points)
 }
 
 /// Puts the curve of evictions.
@@ -325,8 +334,7 @@ pub fn put_evictions(
     curve.put(out)?;
     put(
         out,
-        &[Markup(
-            "<figcaption>How many keys were evicted, by a set or by the page mover.</figcaption></figure>",
-        )],
-    )
+        &[Markup("<figcaption>How many keys were evicted, by a set or by the page mover")],
+    )?;
+    put_own(out, points)
 }

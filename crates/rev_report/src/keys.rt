@@ -304,6 +304,12 @@ fn put_life(out: &mut Vec<u8>, figures: &Figures, life: &Life) -> Result<(), All
             Markup("</h3>"),
         ],
     )?;
+    if life.events.is_empty() && life.asks.is_empty() {
+        return put(
+            out,
+            &[Markup("<p class=\"soft\">No step stored the key or asked for it.</p></figure>")],
+        );
+    }
     put_band(out, figures, life)?;
     put_leavings(out, figures, life)?;
     put_sentence(out, life)?;

@@ -1,4 +1,4 @@
-use Rattle.std.proofs.Common.{◌≡◌, ◌≤◌, ◌<◌, ◌*◌, max, arith, rules}
+use Rattle.std.proofs.Common.{◌≤◌, ◌<◌, ◌*◌, arith}
 use Rattle.rev_report.proofs.Marks.{marks_reach, more_reaches}
 use Rattle.rev_report.proofs.scale.marks_over.Goals as goal
 

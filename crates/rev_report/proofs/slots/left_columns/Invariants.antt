@@ -1,4 +1,4 @@
-use Rattle.std.proofs.Common.{◌≡◌, ◌∷◌, [], ℕ, Some, length, slice_get}
+use Rattle.std.proofs.Common.{◌≡◌, ℕ, Some, length, slice_get}
 use Rattle.rev_figures.specs.Slots.{slot_counts}
 use Rattle.rev_report.specs.Cells.{causes_of}
 use Rattle.rev_report.specs.declared.plot.Column.{Column}
