@@ -79,12 +79,7 @@ fn traces<'a>(alloc: Global) -> Arg<'a> {
 }
 
 // An option whose value is the name of a file, and which may be given again.
-pub(crate) fn names<'a>(
-    alloc: Global,
-    name: &'a str,
-    unit: &'a str,
-    help: &'a str,
-) -> Arg<'a> {
+pub(crate) fn names<'a>(alloc: Global, name: &'a str, unit: &'a str, help: &'a str) -> Arg<'a> {
     text(alloc, name, unit, help).action(ArgAction::Append)
 }
 
@@ -124,7 +119,10 @@ fn csv<'a>(alloc: Global) -> Result<Arg<'a>, AllocError> {
 }
 
 /// The same with the options by which something is imported.
-pub(crate) fn with_imports<'a>(alloc: Global, command: Command<'a>) -> Result<Command<'a>, AllocError> {
+pub(crate) fn with_imports<'a>(
+    alloc: Global,
+    command: Command<'a>,
+) -> Result<Command<'a>, AllocError> {
     command
         .arg(watch_alone(alloc)?)?
         .arg(text(
@@ -217,8 +215,7 @@ pub fn brings<S: AsStr>(words: &[S]) -> bool
     false
 }
 
-const NO_STANDARD: &str =
-    "open: - is no trace, since the session is read from the standard input";
+const NO_STANDARD: &str = "open: - is no trace, since the session is read from the standard input";
 
 fn has_standard(names: &Vec<String>) -> bool {
     names.iter().any(|name| name.as_str() == STANDARD)
@@ -233,11 +230,7 @@ pub(crate) fn named(
 ) -> Result<Vec<String>, Error> {
     let traces = files_of(alloc, matches, of)?;
     if has_standard(&traces) {
-        return Err(fault(
-            alloc,
-            ErrorKind::ValueValidation,
-            no_standard,
-        )?);
+        return Err(fault(alloc, ErrorKind::ValueValidation, no_standard)?);
     }
     Ok(traces)
 }

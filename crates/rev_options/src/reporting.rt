@@ -191,6 +191,7 @@ fn factors_of(alloc: Global, list: &str) -> Result<Option<Vec<Factor>>, AllocErr
 
 // The most pages, and the most per cent of HOT or WARM.
 const MOST_PAGES: u32 = 4096;
+
 const MOST_SHARE: u32 = 79;
 
 // The values of a setting of this name, if there is one and they are some of it.

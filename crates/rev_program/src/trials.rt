@@ -36,10 +36,12 @@ fn add_settings(settings: &mut Vec<Setting>, asked: &Asked) -> Result<(), AllocE
             settings.extend(values.iter().map(|it| Setting::TempTtl(*it)))?
         }
         Asked::Factor(values) => {
-            settings.extend(values.iter().map(|it| Setting::Factor {
-                num: it.num,
-                den: it.den,
-            }))?
+            settings.extend(
+                values.iter().map(|it| Setting::Factor {
+                    num: it.num,
+                    den: it.den,
+                }),
+            )?
         }
     }
     Ok(())
