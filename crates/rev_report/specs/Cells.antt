@@ -1,7 +1,8 @@
 -- What stands in the table by class, and the numbers that are drawn.
 -- Rule of this project: each number of a row is a figure of the class, as it was counted.
-use Rattle.std.specs.Prelude.{ℕ, List, [], ◌∷◌, Option, Some}
+use Rattle.std.specs.Prelude.{ℕ, List, [], ◌∷◌, Option, None, Some}
 use Rattle.rev_figures.specs.declared.tables.CauseCounts.{CauseCounts}
+use Rattle.rev_report.specs.Numbers.{grouped}
 use Rattle.rev_report.specs.declared.figures.ClassRow.{ClassRow}
 
 -- how many keys left by each cause, in the order in which causes are told
@@ -38,3 +39,8 @@ cells_of row =
     ∷ Some row.figures.asked
     ∷ row.figures.asked_after
     ∷ []
+
+-- what is shown of a number: its digits in groups, or a dash (U+2013)
+abbrev pub shown : Option ℕ → List ℕ
+shown None = 226 ∷ 128 ∷ 147 ∷ []
+shown (Some n) = grouped n

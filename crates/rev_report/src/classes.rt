@@ -1,10 +1,11 @@
 //! The table by class.
-ghost use Rattle.std.specs.Prelude.{◌≡◌};
-ghost use Rattle.rev_report.specs.Cells.{cells_of};
+ghost use Rattle.std.specs.Prelude.{◌≡◌, ◌++◌, OnOk};
+ghost use Rattle.rev_report.specs.Cells.{cells_of, shown};
 
 use crate::figures::{ClassRow, Figures};
 use crate::markup::Piece::{Count, Markup, Tenths};
 use crate::markup::put;
+use crate::numbers::put_grouped;
 use crate::scale::Scale;
 use crate::words::cause_numbers;
 use std::alloc::AllocError;
@@ -128,6 +129,16 @@ fn put_bar(out: &mut Vec<u8>, value: u64, largest: u64) -> Result<(), AllocError
     )
 }
 
+// Puts a figure, or a dash where there is nothing to tell.
+fn put_figure(out: &mut Vec<u8>, figure: Option<u64>) -> Result<(), AllocError>
+    ensures { OnOk result (out.new.items ≡ out.old.items ++ shown figure) }
+{
+    match figure {
+        Some(n) => put_grouped(out, n),
+        None => out.extend_from_slice("\u{2013}".as_bytes()),
+    }
+}
+
 fn put_cell(
     out: &mut Vec<u8>,
     name: &'static str,
@@ -142,12 +153,10 @@ fn put_cell(
             Markup("\"><span class=\"n\">"),
         ],
     )?;
-    match value {
-        Some(value) => {
-            put(out, &[Count(value), Markup("</span>")])?;
-            put_bar(out, value, largest)?;
-        }
-        None => put(out, &[Markup("\u{2013}</span>")])?,
+    put_figure(out, value)?;
+    put(out, &[Markup("</span>")])?;
+    if let Some(value) = value {
+        put_bar(out, value, largest)?;
     }
     put(out, &[Markup("</td>")])
 }
