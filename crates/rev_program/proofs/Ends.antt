@@ -1,10 +1,10 @@
 -- What the status tells of how the program ended.
-use Rattle.std.proofs.Common.{◌≡◌, ◌≢◌, ◌⊎◌, inl, inr, ℕ, List, [], ◌++◌, Option, None, Some, String, Result, Ok, Err, IsErr, OnOk, IfErr, MatchResult, refl, sym, ◌∙◌, append-nil}
+use Rattle.std.proofs.Common.{◌≡◌, ◌≢◌, inl, inr, ℕ, List, [], Option, None, Some, String, Result, Ok, Err, IsErr, OnOk, IfErr, MatchResult, refl, sym, ◌∙◌, append-nil}
 use Rattle.std.specs.declared.alloc.Global.{Global}
 use Rattle.std.specs.Io.KnownBytes.{Keeps, Appends}
 use Rattle.rev_program.specs.Fault as fault
 use Rattle.rev_program.specs.Opening.{IsNoted, full_text}
-use Rattle.rev_program.specs.Program.{StopsBy, FailsBy, EndsEarly, EndsBehind, EndsNoted, EndsPlainly, EndsUnwritten, IsStatus}
+use Rattle.rev_program.specs.Program.{StopsBy, EndsEarly, EndsBehind, EndsNoted, EndsPlainly, EndsUnwritten, IsStatus}
 use Rattle.rev_script.specs.declared.dialect.Dialect.{Dialect}
 use Rattle.rev_program.specs.Recordings.{EndedBy, HasNoRows}
 use Rattle.rev_program.specs.Stop as stop

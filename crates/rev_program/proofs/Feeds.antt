@@ -1,5 +1,5 @@
 -- What a feed gave, piece by piece.
-use Rattle.std.proofs.Common.{◌≡◌, ℕ, List, [], ◌++◌, Option, None, Some, refl, sym, ◌∙◌, ap, append-nil, append_assoc}
+use Rattle.std.proofs.Common.{ℕ, List, [], ◌++◌, Option, None, Some, refl, sym, ◌∙◌, ap, append-nil, append_assoc}
 use Rattle.std.specs.Io.KnownBytes.{Keeps, prepend_known}
 use Rattle.rev_program.specs.Feeding.{Feeds}
 

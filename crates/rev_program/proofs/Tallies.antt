@@ -1,5 +1,5 @@
 -- What is told at a run's end.
-use Rattle.std.proofs.Common.{◌≡◌, ◌≢◌, ◌≤◌, ℕ, Bool, true, false, cond, nat_eq, inl, inr, List, [], ◌∷◌, Option, codes, decimal, refl, sym, ◌∙◌, subst, arith, eqb-true}
+use Rattle.std.proofs.Common.{◌≡◌, ℕ, false, nat_eq, inl, inr, List, [], ◌∷◌, Option, codes, decimal, refl, sym, ◌∙◌, subst, arith, eqb-true}
 use Rattle.std.proofs.lemmas.Bool.{cases_Bool}
 use Rattle.rev_shell.specs.declared.run.Tally.{Tally}
 use Rattle.rev_shell.specs.declared.run.Summary.{Summary}

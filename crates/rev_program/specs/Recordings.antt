@@ -1,6 +1,6 @@
 -- A whole recording: what the files ask for, what was played, and what is printed of it.
 -- Rule of this project: what `lrudb record` prints is what was played, whatever the threads did.
-use Rattle.std.specs.Prelude.{ℕ, Bool, ◌≡◌, ◌≢◌, ◌⊎◌, List, [], ◌∷◌, ◌++◌, length, map, All, codes, Option, None, Some, Result, String}
+use Rattle.std.specs.Prelude.{ℕ, ◌≡◌, ◌≢◌, ◌⊎◌, List, [], ◌∷◌, ◌++◌, length, map, All, codes, Option, None, Some, Result, String}
 use Rattle.std.specs.List.{zip}
 use Rattle.std.specs.Global.{Vec}
 use Rattle.std.specs.declared.alloc.Global.{Global}

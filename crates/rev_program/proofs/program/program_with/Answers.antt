@@ -1,4 +1,4 @@
-use Rattle.std.proofs.Common.{◌≡◌, true, false, inl, rules, sym, ◌∙◌, Err}
+use Rattle.std.proofs.Common.{inl, rules, Err}
 use Rattle.rev_program.proofs.Ends.{stopped_of, plainly, plain_of, unnoted, noted_of, noted_plainly, behind_of, early_of}
 use Rattle.rev_program.proofs.Tallies.{run_stopped}
 use Rattle.rev_program.proofs.program.program_with.Goals as goal

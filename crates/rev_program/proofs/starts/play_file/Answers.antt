@@ -1,4 +1,4 @@
-use Rattle.std.proofs.Common.{rules, sym, subst}
+use Rattle.std.proofs.Common.{subst}
 use Rattle.rev_shell.specs.Traces.{IsCutOff}
 use Rattle.rev_program.proofs.starts.play_file.Goals as goal
 

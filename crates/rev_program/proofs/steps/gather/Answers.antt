@@ -1,4 +1,4 @@
-use Rattle.std.proofs.Common.{◌≡◌, [], Some, inl, refl, sym, ap, arith, map}
+use Rattle.std.proofs.Common.{[], Some, inl, refl, sym, ap, arith, map}
 use Rattle.rev_requests.specs.Plain.{plain_step}
 use Rattle.rev_script.specs.Script.{onwards, cuts}
 use Rattle.rev_script.proofs.Known.{Took-refl}
