@@ -2,7 +2,7 @@
 ghost use Rattle.std.specs.Prelude.{◌≡◌, map, true, false, IfOk};
 ghost use Rattle.rev_options.specs.Request.{IsInRange, IsOfWords, IsPlayedInRange, OpensBy, BringsBy, ReportsBy, RunsBy, asks_report};
 
-use crate::import::{factor, given, number, required, text};
+use crate::import::{STANDARD, factor, given, number, required, text};
 use crate::opening::{
     CsvOpening, Manner, Opening, WatchOpening, csv_opening, named, names, progress, watch_opening,
     with_imports,
@@ -232,6 +232,19 @@ fn what_ifs_of(alloc: Global, matches: &ArgMatches<'_>) -> Result<Vec<WhatIf>, E
     Ok(asked)
 }
 
+// The file that the page goes to.
+fn page_of(alloc: Global, matches: &ArgMatches<'_>) -> Result<String, Error> {
+    let page = required(alloc, matches, "out")?;
+    if page.as_str() == STANDARD {
+        return Err(fault(
+            alloc,
+            ErrorKind::ValueValidation,
+            "--out: a page is written to a file, and - is none",
+        )?);
+    }
+    Ok(page)
+}
+
 /// The report that the words ask for, or the parser's error.
 pub(crate) fn reporting_of(alloc: Global, matches: &ArgMatches<'_>) -> Result<Request, Error>
     ensures range { IfOk result IsInRange }
@@ -243,7 +256,7 @@ pub(crate) fn reporting_of(alloc: Global, matches: &ArgMatches<'_>) -> Result<Re
 {
     Ok(Request::Report(Reporting {
         played: played_of(alloc, matches)?,
-        out: required(alloc, matches, "out")?,
+        out: page_of(alloc, matches)?,
         data: given(alloc, matches, "data")?,
         keys: files_of(alloc, matches, "key")?,
         what_ifs: what_ifs_of(alloc, matches)?,

@@ -8,6 +8,9 @@ use rev_whatif::{Setting, Trial as Tried, try_settings};
 use std::alloc::{AllocError, Global};
 use std::thread::Threads;
 
+// The most trials that run side by side: each holds a cache of its own.
+const MOST_AT_ONCE: usize = 16;
+
 fn whole(number: u32) -> Value {
     Value {
         num: number,
@@ -100,8 +103,10 @@ fn what_if<R: Threads + Sync + AllocGlobal>(
     let mut settings = Vec::new(rt.alloc());
     add_settings(&mut settings, asked)?;
     let mut trials = Vec::new(rt.alloc());
-    for tried in &try_settings(rt, session, config, settings.as_slice())? {
-        trials.push(trial_of(tried))?;
+    for settings in settings.chunks(MOST_AT_ONCE) {
+        for tried in &try_settings(rt, session, config, settings)? {
+            trials.push(trial_of(tried))?;
+        }
     }
     let setting = setting_of(asked);
     Ok(WhatIf {
@@ -112,7 +117,7 @@ fn what_if<R: Threads + Sync + AllocGlobal>(
 }
 
 /// What the trace from the session's root to its current node does with the values that are asked for, of one setting
-/// after another: those of one side by side.
+/// after another: those of one side by side, 16 at a time.
 pub(crate) fn what_ifs<R: Threads + Sync + AllocGlobal>(
     rt: &R,
     session: &Session<Global>,

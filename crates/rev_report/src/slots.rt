@@ -1,5 +1,5 @@
 //! The parts of a trace, one behind another, and what happened in each.
-ghost use Rattle.std.specs.Prelude.{◌≡◌, ◌∷◌, [], ℕ, IfOk, Some, slice_get};
+ghost use Rattle.std.specs.Prelude.{◌≡◌, ◌∷◌, [], ℕ, IfOk, Some, length, slice_get};
 ghost use Rattle.rev_figures.specs.Slots.{slot_counts, slot_moves};
 ghost use Rattle.rev_report.specs.Cells.{causes_of};
 ghost use Rattle.rev_report.specs.declared.plot.Column.{Column};
@@ -49,12 +49,13 @@ fn column(slot: Slot, values: [u64; 8]) -> Column
     }
 }
 
-/// How many keys left in each slot, by cause.
+/// How many keys left in each slot, by cause: a column for each slot.
 pub fn left_columns(
     alloc: Global,
     path: &Path<Global>,
     slots: &[Slot],
 ) -> Result<Vec<Column>, AllocError>
+    ensures count { IfOk result (λ columns. length columns.items ≡ length slots.now) }
     ensures values { IfOk result (λ columns. (i : ℕ) (c : Column) → slice_get columns.items i ≡ Some c → c.values ≡ causes_of (slot_counts path.now.slot_length i path.now.leavings.items)) }
 {
     let counts = left_by_slot(path, slots.len(), &alloc)?;
@@ -65,12 +66,13 @@ pub fn left_columns(
     Ok(columns)
 }
 
-/// How many pages moved in each slot.
+/// How many pages moved in each slot: a column for each slot.
 pub fn move_columns(
     alloc: Global,
     path: &Path<Global>,
     slots: &[Slot],
 ) -> Result<Vec<Column>, AllocError>
+    ensures count { IfOk result (λ columns. length columns.items ≡ length slots.now) }
     ensures values { IfOk result (λ columns. (i : ℕ) (c : Column) → slice_get columns.items i ≡ Some c → c.values ≡ slot_moves path.now.slot_length i path.now.moves.items ∷ 0 ∷ 0 ∷ 0 ∷ 0 ∷ 0 ∷ 0 ∷ 0 ∷ []) }
 {
     let counts = moves_by_slot(path, slots.len(), &alloc)?;
