@@ -1,31 +1,19 @@
 -- What the status tells of how the program ended.
-use Rattle.std.proofs.Common.{◌≡◌, ◌≢◌, inl, inr, ℕ, List, [], Option, None, Some, String, Result, Ok, Err, IsErr, OnOk, IfErr, MatchResult, refl, sym, ◌∙◌, append-nil}
+use Rattle.std.proofs.Common.{◌≡◌, ◌≢◌, inl, inr, ℕ, List, [], Option, None, Some, String, Result, Ok, Err, IfErr, MatchResult, refl, sym, ◌∙◌, append-nil}
 use Rattle.std.specs.declared.alloc.Global.{Global}
 use Rattle.std.specs.Io.KnownBytes.{Keeps, Appends}
-use Rattle.rev_program.specs.Fault as fault
 use Rattle.rev_program.specs.Opening.{IsNoted, full_text}
-use Rattle.rev_program.specs.Program.{StopsBy, EndsEarly, EndsBehind, EndsNoted, EndsPlainly, EndsUnwritten, IsStatus}
+use Rattle.rev_messages.specs.Ends.{StopsBy, EndsPlainly, IsStatus}
+use Rattle.rev_program.specs.Program.{EndsEarly, EndsBehind, EndsNoted, EndsUnwritten}
 use Rattle.rev_script.specs.declared.dialect.Dialect.{Dialect}
-use Rattle.rev_program.specs.Recordings.{EndedBy, HasNoRows}
-use Rattle.rev_program.specs.Stop as stop
-use Rattle.rev_program.specs.Telling.{Told}
-use Rattle.rev_program.specs.declared.fault.RecordingFault.{RecordingFault}
-use Rattle.rev_program.specs.declared.fault.RecordingFault.TheVariants.{CannotWrite}
+use Rattle.rev_recordings.specs.Recordings.{HasNoRows}
+use Rattle.rev_messages.specs.Stop as stop
+use Rattle.rev_messages.specs.Telling.{Told}
+use Rattle.rev_recordings.specs.declared.fault.RecordingFault.{RecordingFault}
 use Rattle.rev_program.specs.declared.opening.Full.{Full}
-use Rattle.rev_program.specs.declared.stop.Stop.{Stop}
-
--- only what ended well has the status 0
-pub rows_of : {F : Type 0} (r : Result (Unit {0}) F) (n : ℕ) (X : Type 0) → OnOk r X → (IsErr r → n ≢ 0) → n ≡ 0 → X
-rows_of (Ok t) n X done some e = done
-rows_of (Err f) n X done some e = absurd (some refl e)
+use Rattle.rev_messages.specs.declared.stop.Stop.{Stop}
 
 module _ (told tells : Option (List ℕ)) (before after : ℕ) where
-  pub no_rows_of : (d : Dialect) {F : Type 0} (remaining : F → Option (List ℕ)) (files : List (String Global × F)) (old new : Option (List ℕ)) (r : Result (Unit {0}) RecordingFault) (n : ℕ) →
-      MatchResult r (λ _. n ≡ 0) (λ f. n ≡ fault.status f) → IfErr r (λ e. EndedBy d remaining files e) → IfErr r (λ e. e ≢ CannotWrite → Keeps old new) → IfErr r (λ e. Told told tells before after (fault.text e)) →
-      n ≢ 0 → (e : RecordingFault) × HasNoRows d remaining files old new told tells before after n e
-  no_rows_of d remaining files old new (Ok t) n is why kept text some = absurd (some is)
-  no_rows_of d remaining files old new (Err f) n is why kept text some = (f, record { why = why; status_is = is; text_is = text; unwritten = kept })
-
   pub stopped_of : (r : Result (Unit {0}) Stop) (n : ℕ) →
       MatchResult r (λ _. n ≡ 0) (λ s. n ≡ stop.status s) → IfErr r (λ s. Told told tells before after (stop.text s)) → n ≢ 0 → (s : Stop) × StopsBy told tells before after n s
   stopped_of (Ok t) n is text some = absurd (some is)

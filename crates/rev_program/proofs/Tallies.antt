@@ -3,11 +3,12 @@ use Rattle.std.proofs.Common.{◌≡◌, ℕ, false, nat_eq, inl, inr, List, [],
 use Rattle.std.proofs.lemmas.Bool.{cases_Bool}
 use Rattle.rev_shell.specs.declared.run.Tally.{Tally}
 use Rattle.rev_shell.specs.declared.run.Summary.{Summary}
-use Rattle.rev_program.specs.Program.{IsStatus, EndsRun, IsCounted, tally_text}
-use Rattle.rev_program.specs.Stop.{status, text}
-use Rattle.rev_program.specs.Telling.{Told, joined}
-use Rattle.rev_program.specs.declared.stop.Stop.{Stop}
-use Rattle.rev_program.specs.declared.stop.Stop.TheVariants.{Usage, BadPage, BadFactor, TooManyClasses, BadLimit, Memory, CannotRead, CannotOpen, NotAStep, CannotWrite, TooLong, CannotWriteFile, BadLine, BadStats, NoEvent, BadRow, NoRow, BadImport}
+use Rattle.rev_messages.specs.Ends.{IsStatus}
+use Rattle.rev_program.specs.Program.{EndsRun, IsCounted, tally_text}
+use Rattle.rev_messages.specs.Stop.{status, text}
+use Rattle.rev_messages.specs.Telling.{Told, joined}
+use Rattle.rev_messages.specs.declared.stop.Stop.{Stop}
+use Rattle.rev_messages.specs.declared.stop.Stop.TheVariants.{Usage, BadPage, BadFactor, TooManyClasses, BadLimit, Memory, CannotRead, CannotOpen, NotAStep, CannotWrite, TooLong, CannotWriteFile, BadLine, BadStats, NoEvent, BadRow, NoRow, BadImport}
 
 other : (n m : ℕ) → (n ≡ m → ⊥) → nat_eq n m ≡ false
 other n m differs = elim (cases_Bool (nat_eq n m)) [

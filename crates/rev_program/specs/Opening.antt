@@ -12,8 +12,8 @@ use Rattle.rev_script.specs.Steps.{all_steps}
 use Rattle.rev_script.specs.declared.dialect.Dialect.{Dialect}
 use Rattle.rev_shell.specs.Kept.{Plays, IsFull}
 use Rattle.rev_shell.specs.Run.{opened}
+use Rattle.rev_messages.specs.Telling.{Told}
 use Rattle.rev_program.specs.Starts.{AreStarts}
-use Rattle.rev_program.specs.Telling.{Told}
 use Rattle.rev_program.specs.declared.opening.Full.{Full}
 
 -- the bytes are lines, in a dialect, that make steps, and all of these are played

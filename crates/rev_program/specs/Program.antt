@@ -1,27 +1,17 @@
 -- How the program may end.
--- Rule of this project: its exit statuses.
-use Rattle.std.specs.Prelude.{◌≡◌, ◌≢◌, ◌≤◌, ◌⊎◌, ℕ, List, [], ◌∷◌, Option, cond, nat_eq, codes, decimal}
+-- Rule of this project: what its user is told, and when nothing.
+use Rattle.std.specs.Prelude.{◌≡◌, ◌≢◌, ◌⊎◌, ℕ, List, [], ◌∷◌, Option, cond, nat_eq, codes, decimal}
 use Rattle.std.specs.Io.KnownBytes.{Keeps}
-use Rattle.rev_program.specs.Fault as fault
-use Rattle.rev_program.specs.Opening.{IsNoted}
-use Rattle.rev_program.specs.Stop as stop
-use Rattle.rev_program.specs.Telling.{Told, joined}
+use Rattle.rev_recordings.specs.Fault as fault
+use Rattle.rev_messages.specs.Ends.{IsStatus, StopsBy}
+use Rattle.rev_messages.specs.Telling.{Told, joined}
 use Rattle.rev_shell.specs.declared.run.Summary.{Summary}
 use Rattle.rev_shell.specs.declared.run.Tally.{Tally}
-use Rattle.rev_program.specs.declared.fault.RecordingFault.{RecordingFault}
-use Rattle.rev_program.specs.declared.fault.RecordingFault.TheVariants.{CannotWrite}
+use Rattle.rev_recordings.specs.declared.fault.RecordingFault.{RecordingFault}
+use Rattle.rev_recordings.specs.declared.fault.RecordingFault.TheVariants.{CannotWrite}
+use Rattle.rev_messages.specs.declared.stop.Stop.{Stop}
+use Rattle.rev_program.specs.Opening.{IsNoted}
 use Rattle.rev_program.specs.declared.opening.Full.{Full}
-use Rattle.rev_program.specs.declared.stop.Stop.{Stop}
-
--- 0 done, 2 command line or configuration, 3 memory, 4 input or output, 5 a file of steps has a line that is not a
--- step, or what is imported is at fault, 6 the log of a recording differs
-abbrev pub IsStatus : ℕ → Type 0
-IsStatus n = (n ≤ 6) × (n ≢ 1)
-
--- the program was stopped so: this is its status, and its user was told why
-pub record StopsBy (told tells : Option (List ℕ)) (before after : ℕ) (result : ℕ) (s : Stop) : Type 0 where
-  pub status_is : result ≡ stop.status s
-  pub text_is : Told told tells before after (stop.text s)
 
 -- a recording ended so: this is the status, and the user was told why
 pub record FailsBy (told tells : Option (List ℕ)) (before after : ℕ) (result : ℕ) (e : RecordingFault) : Type 0 where
@@ -50,12 +40,6 @@ pub record EndsNoted (told tells : Option (List ℕ)) (before after : ℕ) (resu
   pub noted : Told told between before failures notes
   pub quiet : result ≡ 0 → Keeps between tells
   pub early : result ≢ 0 → EndsEarly between tells failures after result
-
--- the program ended with nothing told at status 0, or it was stopped
-pub record EndsPlainly (told tells : Option (List ℕ)) (before after : ℕ) (result : ℕ) : Type 0 where
-  pub status_is : IsStatus result
-  pub quiet : result ≡ 0 → Keeps told tells
-  pub stopped : result ≢ 0 → (s : Stop) × StopsBy told tells before after result s
 
 -- ended early as above, and nothing was written but where a write failed
 abbrev pub EndsUnwritten : Option (List ℕ) → Option (List ℕ) → ℕ → ℕ → ℕ → Option (List ℕ) → Option (List ℕ) → Type 0

@@ -13,8 +13,8 @@ use Rattle.rev_shell.specs.Answers.{state_of}
 use Rattle.rev_shell.specs.Start.{from_state, run_forward}
 use Rattle.rev_shell.specs.Traces.{IsCutOff}
 use Rattle.rev_shell.specs.declared.quiet.TraceFault.{TraceFault}
-use Rattle.rev_program.specs.Stop.{stop_of_trace}
-use Rattle.rev_program.specs.declared.stop.Stop.{Stop}
+use Rattle.rev_messages.specs.declared.stop.Stop.{Stop}
+use Rattle.rev_program.specs.Stopping.{stop_of_trace}
 
 -- the steps of the bytes' lines, in a dialect, lead from the state in which a session stands to the root of one without
 -- other nodes

@@ -1,11 +1,11 @@
 //! How far the replay of logs agrees with them.
 
-use crate::check::{Check, CheckedLogs, Tally};
 use crate::direct::{ALL, begun};
-use crate::import::{Making, all_opened, setup_of};
-use crate::progress::Progress;
-use crate::stop::Stop;
+use rev_import_commands::check::{Check, CheckedLogs, Tally};
+use rev_import_commands::import::{Making, all_opened, setup_of};
 use rev_intake::intake::Intake;
+use rev_messages::Stop;
+use rev_messages::progress::Progress;
 use rev_options::WatchOpening;
 use rev_output::{Sink, ToWrite};
 use rev_report::agreement::Agreement;

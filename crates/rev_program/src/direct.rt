@@ -2,25 +2,27 @@
 //! session is answered.
 ghost use Rattle.std.specs.Prelude.{IfSome};
 ghost use Rattle.rev_classes.specs.Limits.{fault_of};
-ghost use Rattle.rev_program.specs.Program.{IsStatus, StopsBy, EndsNoted};
-ghost use Rattle.rev_program.specs.Stop.{stop_of_config};
+ghost use Rattle.rev_messages.specs.Ends.{IsStatus, StopsBy};
+ghost use Rattle.rev_messages.specs.Stop.{stop_of_config};
+ghost use Rattle.rev_program.specs.Program.{EndsNoted};
 
-use crate::import::{all_opened as all_imported, copied, setup_of};
-use crate::imported::{Feed, ImportedScript, NamedLogs, NamedTraces};
 use crate::opening::{Full, answer, told_files};
-use crate::program::ended;
-use crate::progress::Progress;
 use crate::starts::started;
-use crate::stop::Stop;
-use crate::telling::tell_bytes;
-use crate::traces::{intake_of, sampled};
+use crate::stopping::stop_of_trace;
 use rev_classes::{Config, fault_of};
 use rev_import::sample::Sample;
+use rev_import_commands::import::{all_opened as all_imported, copied, setup_of};
+use rev_import_commands::imported::{Feed, ImportedScript, NamedLogs, NamedTraces};
+use rev_import_commands::traces::{intake_of, sampled};
 use rev_intake::feed::{LogFeed, RowFeed};
 use rev_intake::intake::{Intake, Range};
 use rev_intake::report::{put_part, put_report, put_unfollowed};
 use rev_intake::row_report::put_row_report;
 use rev_intake::rows::RowIntake;
+use rev_messages::Stop;
+use rev_messages::ends::ended;
+use rev_messages::progress::Progress;
+use rev_messages::telling::tell_bytes;
 use rev_options::{CsvOpening, Manner, WatchOpening};
 use rev_output::Sink;
 use rev_script::dialect::Dialect;
@@ -58,7 +60,7 @@ fn play_script<T: Feed + Drop>(
             let name = copied(alloc, script.name())?;
             match script.into_stop() {
                 Some(stop) => Err(stop),
-                None => Err(Stop::of(fault, name)),
+                None => Err(stop_of_trace(fault, name)),
             }
         }
     }

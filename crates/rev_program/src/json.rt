@@ -1,13 +1,13 @@
 //! A script whose lines are told as JSON.
 ghost use Rattle.std.specs.Prelude.{◌≡◌, Err, IfSome};
 ghost use Rattle.rev_classes.specs.Limits.{IsWithinLimits, fault_of};
-ghost use Rattle.rev_program.specs.Stop.{stop_of_config};
+ghost use Rattle.rev_messages.specs.Stop.{stop_of_config};
 
 use crate::program::{all_opened, sent_behind};
 use crate::starts::started;
-use crate::stop::Stop;
 use rev_classes::{Config, fault_of};
 use rev_json::run::run_as_json;
+use rev_messages::Stop;
 use rev_output::ToWrite;
 use rev_output::exchange::{Exchange, Incoming, Outgoing};
 use rev_script::dialect::Dialect;

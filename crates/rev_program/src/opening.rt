@@ -1,18 +1,21 @@
 //! `lrudb open`: traces are played, each step as a node, and then a session is answered at any of them.
 ghost use Rattle.std.specs.Prelude.{IfOk, IfSome};
 ghost use Rattle.rev_classes.specs.Limits.{IsWithinLimits, fault_of};
+ghost use Rattle.rev_messages.specs.Ends.{IsStatus, StopsBy};
+ghost use Rattle.rev_messages.specs.Stop.{stop_of_config};
 ghost use Rattle.rev_program.specs.Opening.{IsTrace, AreTraces, IsOpened, IsNoted};
-ghost use Rattle.rev_program.specs.Program.{IsStatus, StopsBy, EndsBehind};
-ghost use Rattle.rev_program.specs.Stop.{stop_of_config};
+ghost use Rattle.rev_program.specs.Program.{EndsBehind};
 
 use crate::json::run_as_json_on;
-use crate::program::{all_opened, ended, run_on};
-use crate::progress::{Progress, ToldFile};
+use crate::program::{all_opened, run_on};
 use crate::starts::started;
-use crate::stop::Stop;
-use crate::telling::tell_parts;
+use crate::stopping::stop_of_trace;
 use itoa::Buffer;
 use rev_classes::{Config, fault_of};
+use rev_messages::Stop;
+use rev_messages::ends::ended;
+use rev_messages::progress::{Progress, ToldFile};
+use rev_messages::telling::tell_parts;
 use rev_options::{Manner, Opening};
 use rev_output::Sink;
 use rev_output::exchange::{Exchange, Incoming};
@@ -48,7 +51,7 @@ fn play_file<A: Allocator + Clone, F: Read + Drop>(
     match play_trace(alloc, session, dialect, &mut source) {
         Ok(TraceEnd::Whole) => Ok(None),
         Ok(TraceEnd::Full { line }) => Ok(Some(Full { file: name, line })),
-        Err(fault) => Err(Stop::of(fault, name)),
+        Err(fault) => Err(stop_of_trace(fault, name)),
     }
 }
 

@@ -1,31 +1,34 @@
 //! The whole program.
-ghost use Rattle.std.specs.Prelude.{◌≡◌, ◌≢◌, ◌≤◌, length, map, true, false, Err, IfOk, IfErr, IfSome, MatchResult};
+ghost use Rattle.std.specs.Prelude.{◌≡◌, ◌≢◌, ◌≤◌, length, map, true, false, Err, IfOk, IfSome};
 ghost use Rattle.std.specs.Io.KnownBytes.{Keeps};
 ghost use Rattle.rev_classes.specs.Limits.{IsWithinLimits, fault_of};
 ghost use Rattle.rev_options.specs.Request.{asks_import, asks_open, asks_report, asks_run, brings};
-ghost use Rattle.rev_program.specs.Progress.{asks_progress};
-ghost use Rattle.rev_program.specs.Program.{IsStatus, StopsBy, EndsEarly, EndsBehind, EndsNoted, EndsPlainly, EndsUnwritten, EndsRun, IsCounted, tally_text};
-ghost use Rattle.rev_program.specs.Stop.{status, text, stop_of_config};
-ghost use Rattle.rev_program.specs.Telling.{Told};
+ghost use Rattle.rev_messages.specs.Progress.{asks_progress};
+ghost use Rattle.rev_messages.specs.Ends.{IsStatus, StopsBy, EndsPlainly};
+ghost use Rattle.rev_messages.specs.Stop.{stop_of_config};
+ghost use Rattle.rev_messages.specs.Telling.{Told};
+ghost use Rattle.rev_program.specs.Program.{EndsEarly, EndsBehind, EndsNoted, EndsUnwritten, EndsRun, IsCounted, tally_text};
 
 use crate::direct::{open_csv, open_watch};
-use crate::import::import_watch;
 use crate::json::run_script_as_json;
 use crate::opening::open_traces;
-use crate::play::play_files;
-use crate::progress::{Progress, asks_progress};
 use crate::report::report;
 use crate::starts::started;
-use crate::state::import_state;
-use crate::stop::Stop;
-use crate::telling::tell_parts;
-use crate::traces::import_csv;
+use crate::stopping::stop_of_run;
 use itoa::Buffer;
 use linked_list_allocator::LocalHeap;
 use rev_classes::{Config, fault_of};
+use rev_import_commands::import::import_watch;
+use rev_import_commands::state::import_state;
+use rev_import_commands::traces::import_csv;
+use rev_messages::Stop;
+use rev_messages::ends::ended;
+use rev_messages::progress::{Progress, asks_progress};
+use rev_messages::telling::tell_parts;
 use rev_options::{Request, parse_words};
 use rev_output::exchange::{Exchange, Incoming, Outgoing};
 use rev_output::{Sink, ToWrite, WriteFailed};
+use rev_recordings::play::play_files;
 use rev_script::dialect::Dialect;
 use rev_script::source::FromRead;
 use rev_shell::run::{Prompts, RunFault, Summary, Tally, run_at_last};
@@ -38,23 +41,6 @@ use std::sync::Wait;
 use std::thread::Threads;
 use std::{fs, io};
 
-/// The status of a program that ended so. Where it was stopped its user is told, and where it was not nothing is.
-pub(crate) fn ended<E: Sink>(done: Result<(), Stop>, errors: &mut E) -> u8
-    ensures status { MatchResult done (λ _. result ≡ 0) (λ stop. result ≡ status stop) }
-    ensures range { IsStatus result }
-    ensures quiet { result ≡ 0 → Keeps (E.contents errors.old) (E.contents errors.new) }
-    ensures told { IfErr done (λ stop. Told (E.contents errors.old) (E.contents errors.new) (E.failures errors.old) (E.failures errors.new) (text stop)) }
-{
-    match done {
-        Ok(()) => 0,
-        Err(stop) => {
-            // There is nobody left to tell that this cannot be written.
-            let _ = stop.tell(errors);
-            stop.status()
-        }
-    }
-}
-
 /// How a run ended, behind what it wrote. What was answered before a fault is sent all the same.
 pub(crate) fn sent_behind<O: Write + Drop>(
     done: Result<Summary, RunFault>,
@@ -64,7 +50,7 @@ pub(crate) fn sent_behind<O: Write + Drop>(
     match done {
         // A read sends first, and what failed then was a write.
         Err(RunFault::Read) if exchange.has_failed() => Err(Stop::CannotWrite),
-        Err(fault) => Err(Stop::from(fault)),
+        Err(fault) => Err(stop_of_run(fault)),
         Ok(_) if sent.is_err() => Err(Stop::CannotWrite),
         Ok(summary) => Ok(summary),
     }

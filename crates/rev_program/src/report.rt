@@ -1,21 +1,21 @@
 //! `lrudb report`: traces are played as `open` plays them, and a page tells where the cache loses its keys.
 ghost use Rattle.std.specs.Prelude.{◌≡◌, IfSome};
-ghost use Rattle.rev_program.specs.Program.{EndsPlainly, StopsBy};
+ghost use Rattle.rev_messages.specs.Ends.{EndsPlainly, StopsBy};
+ghost use Rattle.rev_messages.specs.Stop.{stop_of_config};
 ghost use Rattle.rev_program.specs.Reporting.{played_fault};
-ghost use Rattle.rev_program.specs.Stop.{stop_of_config};
 
 use crate::agreement::{agreement_of, copies};
 use crate::direct::{kept, with_logs, with_rows};
-use crate::import::{cannot_write, rename, with_end};
 use crate::opening::{Full, opened_with_traces};
-use crate::program::ended;
-use crate::progress::Progress;
-use crate::stop::Stop;
 use crate::trials::what_ifs;
 use rev_classes::{ClassTable, Config, ConfigFault, fault_of};
+use rev_import_commands::import::{cannot_write, rename, with_end};
 use rev_intake::report::put_part;
 use rev_intake::words::put_all_options;
 use rev_items::{Key, KeyFault};
+use rev_messages::Stop;
+use rev_messages::ends::ended;
+use rev_messages::progress::Progress;
 use rev_options::{Opening, Played, Reporting};
 use rev_output::Sink;
 use rev_report::agreement::Agreement;

@@ -2,11 +2,12 @@
 ghost use Rattle.std.specs.Prelude.{◌≡◌, ◌⊎◌, OnOk, IfOk, IfErr};
 ghost use Rattle.rev_classes.specs.Limits.{IsWithinLimits};
 ghost use Rattle.rev_shell.specs.Run.{opened};
+ghost use Rattle.rev_messages.specs.declared.stop.Stop.{Stop};
 ghost use Rattle.rev_program.specs.Starts.{IsStart, AreStarts, Halts, DoHalt};
-ghost use Rattle.rev_program.specs.declared.stop.Stop.{Stop};
 
-use crate::stop::Stop;
+use crate::stopping::stop_of_trace;
 use rev_classes::Config;
+use rev_messages::Stop;
 use rev_script::dialect::Dialect;
 use rev_script::source::FromRead;
 use rev_shell::run::open_session;
@@ -31,7 +32,7 @@ fn play_file<A: Allocator + Clone, F: Read + Drop>(
     let mut source = FromRead::new(reader);
     match play_start(alloc, session, dialect, &mut source) {
         Ok(()) => Ok(()),
-        Err(fault) => Err(Stop::of(fault, name)),
+        Err(fault) => Err(stop_of_trace(fault, name)),
     }
 }
 

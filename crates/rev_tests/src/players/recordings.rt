@@ -2,7 +2,7 @@
 use crate::players::streams::Failing;
 use rev_classes::{Config, fault_of};
 use rev_output::ToWrite;
-use rev_program::play::play_files;
+use rev_recordings::play::play_files;
 use rev_script::dialect::Dialect;
 use rev_shell::run::open_session;
 use std::io::{Read, Write};

@@ -1,5 +1,5 @@
 use Rattle.std.proofs.Common.{◌≡◌, ℕ, List, decimal, rules}
-use Rattle.rev_program.specs.Telling.{Told}
+use Rattle.rev_messages.specs.Telling.{Told}
 use Rattle.rev_program.proofs.Tallies.{one_told, more_told}
 use Rattle.rev_program.proofs.program.tell_tally.Goals as goal
 

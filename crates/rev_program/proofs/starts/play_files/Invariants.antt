@@ -1,7 +1,7 @@
 use Rattle.std.proofs.Common.{length}
 use Rattle.rev_undotree.specs.Positions.{SessionState}
 use Rattle.rev_program.specs.Starts.{AreStarts, DoHalt}
-use Rattle.rev_program.specs.declared.stop.Stop.{Stop}
+use Rattle.rev_messages.specs.declared.stop.Stop.{Stop}
 use Rattle.rev_program.proofs.starts.play_files.Given as goal
 
 -- wherever the files that are left lead, all of them lead there; and where they halt, all of them do

@@ -1,0 +1,23 @@
+-- What is told of an import that went well, from its parts.
+use Rattle.std.proofs.Common.{◌≡◌, ◌∙◌, ap, ℕ, List, ◌++◌, Option, string_bytes}
+use Rattle.rev_import.specs.declared.figures.Figures.{Figures}
+use Rattle.rev_intake.specs.declared.counts.LineCounts.{LineCounts}
+use Rattle.rev_options.specs.declared.import.WatchImport.{WatchImport}
+use Rattle.rev_import_commands.specs.Importing.{TellsLogs, counted, run_notes}
+use Rattle.rev_watch.specs.declared.settings.LogStats.{LogStats}
+
+pub tells_logs : (asked : WatchImport) (stats : Option LogStats) (front now third after : List ℕ)
+    → (counts : LineCounts) × (figures : Figures) × (now ≡ counted asked.sample.one_of front counts figures stats)
+    → (checked : List ℕ) × (third ≡ now ++ checked)
+    → (start : ℕ) × (script : ℕ) × (after ≡ run_notes (string_bytes asked.out) asked.split third start script)
+    → TellsLogs asked after
+tells_logs asked stats front now third after p q r = record {
+  front = front;
+  counts = p.0;
+  figures = p.1;
+  stats = stats;
+  checked = q.0;
+  start = r.0;
+  script = r.1;
+  are = r.2 ∙ ap (λ l. run_notes (string_bytes asked.out) asked.split l r.0 r.1) (q.1 ∙ ap (λ l. l ++ q.0) p.2);
+}

@@ -1,0 +1,711 @@
+//! `lrudb import watch`: logs that become a script, from files to files.
+ghost use Rattle.std.specs.Prelude.{◌≡◌, ◌≢◌, ◌++◌, ℕ, List, OnOk, string_bytes};
+ghost use Rattle.rev_import.specs.declared.figures.Figures.{Figures};
+ghost use Rattle.rev_intake.specs.declared.counts.LineCounts.{LineCounts};
+ghost use Rattle.rev_messages.specs.Ends.{IsStatus, StopsBy};
+ghost use Rattle.rev_messages.specs.declared.stop.Stop.{Stop};
+ghost use Rattle.rev_import_commands.specs.Importing.{Reports, TellsLogs, counted, run_notes, sampled};
+
+use crate::check::{Check, CheckedLogs};
+use either::Either;
+use rev_classes::{ClassTable, Config};
+use rev_import::figures::Figures;
+use rev_import::sample::{LEAST_PAGE, Sample};
+use rev_import::setup::{Factor, Setup, follow};
+use rev_intake::counts::LineCounts;
+use rev_intake::fault::IntakeFault;
+use rev_intake::intake::{Intake, Range};
+use rev_intake::logs::make_script;
+use rev_intake::outlet::{Outlet, StartAndScript};
+use rev_intake::report::{put_report, put_run, put_unfollowed};
+use rev_intake::row_report::put_thin;
+use rev_intake::told::{put_run_behind, put_sample, put_split};
+use rev_intake::words::put_options;
+use rev_messages::Stop;
+use rev_messages::ends::ended;
+use rev_messages::progress::{Progress, ToldFile};
+use rev_messages::telling::tell_bytes;
+use rev_options::{STANDARD, WatchImport};
+use rev_output::{Sink, ToWrite};
+use rev_watch::settings::{LogStats, Settings, StatFault, read_log_stats, read_settings};
+use std::alloc::{AllocError, Global};
+use std::io::{Read, Write};
+use std::rt::{Clock, Files};
+use std::{fs, io};
+
+// The name of a start in front of a script, also as it is called until it is whole.
+#[derive(Drop)]
+struct StartNames {
+    start: String,
+    start_part: String,
+}
+
+// The names of the files that are written, each also as it is called until it is whole.
+#[derive(Drop)]
+pub(crate) struct Names {
+    pub(crate) script: String,
+    pub(crate) script_part: String,
+    pub(crate) options: String,
+    pub(crate) options_part: String,
+    start: Option<StartNames>,
+}
+
+/// A text and an end.
+pub fn with_end(alloc: Global, prefix: &str, end: &str) -> Result<String, AllocError> {
+    let mut name = String::from_str(alloc, prefix)?;
+    name.push_str(end)?;
+    Ok(name)
+}
+
+impl Names {
+    pub(crate) fn of(alloc: Global, prefix: &str) -> Result<Names, AllocError> {
+        Ok(Names {
+            script: with_end(alloc, prefix, ".script")?,
+            script_part: with_end(alloc, prefix, ".script.part")?,
+            options: with_end(alloc, prefix, ".options")?,
+            options_part: with_end(alloc, prefix, ".options.part")?,
+            start: None,
+        })
+    }
+
+    // The same with a start in front of the script.
+    fn with_start(alloc: Global, prefix: &str) -> Result<Names, AllocError> {
+        let start = StartNames {
+            start: with_end(alloc, prefix, ".start")?,
+            start_part: with_end(alloc, prefix, ".start.part")?,
+        };
+        Ok(Names {
+            start: Some(start),
+            ..Names::of(alloc, prefix)?
+        })
+    }
+
+    /// The same for a start in the place of a script.
+    pub(crate) fn of_start(alloc: Global, prefix: &str) -> Result<Names, AllocError> {
+        Ok(Names {
+            script: with_end(alloc, prefix, ".start")?,
+            script_part: with_end(alloc, prefix, ".start.part")?,
+            options: with_end(alloc, prefix, ".options")?,
+            options_part: with_end(alloc, prefix, ".options.part")?,
+            start: None,
+        })
+    }
+}
+
+/// A copy of a name.
+pub fn copied(alloc: Global, name: &str) -> Result<String, Stop> {
+    match String::from_str(alloc, name) {
+        Ok(name) => Ok(name),
+        Err(_) => Err(Stop::Memory),
+    }
+}
+
+fn cannot_open(alloc: Global, name: &str) -> Stop {
+    match copied(alloc, name) {
+        Ok(name) => Stop::CannotOpen(name),
+        Err(stop) => stop,
+    }
+}
+
+/// What is told of a file of this name that cannot be written.
+pub fn cannot_write(alloc: Global, name: &str) -> Stop {
+    match copied(alloc, name) {
+        Ok(name) => Stop::CannotWriteFile(name),
+        Err(stop) => stop,
+    }
+}
+
+// What an error of a file that is to be read means.
+fn unread(alloc: Global, error: io::Error, name: &str) -> Stop {
+    if error.kind() == io::ErrorKind::OutOfMemory {
+        Stop::Memory
+    } else {
+        cannot_open(alloc, name)
+    }
+}
+
+// The whole text of a file.
+pub(crate) fn text_of<R: Files + AllocGlobal>(rt: &R, name: &str) -> Result<Vec<u8>, Stop> {
+    match fs::read(rt, name) {
+        Ok(text) => Ok(text),
+        Err(error) => Err(unread(rt.alloc(), error, name)),
+    }
+}
+
+fn bad_stats(alloc: Global, name: &str, fault: StatFault) -> Stop {
+    match copied(alloc, name) {
+        Ok(file) => Stop::BadStats { file, fault },
+        Err(stop) => stop,
+    }
+}
+
+pub(crate) fn settings_of<R: Files + AllocGlobal>(rt: &R, name: &str) -> Result<Settings, Stop> {
+    let text = text_of(rt, name)?;
+    match read_settings(text.as_slice()) {
+        Ok(settings) => Ok(settings),
+        Err(fault) => Err(bad_stats(rt.alloc(), name, fault)),
+    }
+}
+
+fn stats_of<R: Files + AllocGlobal>(rt: &R, name: &str) -> Result<LogStats, Stop> {
+    let text = text_of(rt, name)?;
+    match read_log_stats(text.as_slice()) {
+        Ok(stats) => Ok(stats),
+        Err(fault) => Err(bad_stats(rt.alloc(), name, fault)),
+    }
+}
+
+// The same, where a name is given.
+fn stats_if<R: Files + AllocGlobal>(
+    rt: &R,
+    name: &Option<String>,
+) -> Result<Option<LogStats>, Stop> {
+    match name {
+        None => Ok(None),
+        Some(name) => match stats_of(rt, name.as_str()) {
+            Ok(stats) => Ok(Some(stats)),
+            Err(stop) => Err(stop),
+        },
+    }
+}
+
+/// What lrudb is opened with in the place of the server whose settings this file has.
+pub fn setup_of<R: Files + AllocGlobal>(
+    rt: &R,
+    settings: &str,
+    factor: Option<Factor>,
+) -> Result<Setup, Stop> {
+    let settings = settings_of(rt, settings)?;
+    match follow(&settings, factor) {
+        Ok(setup) => Ok(setup),
+        Err(fault) => Err(Stop::from(fault)),
+    }
+}
+
+// The log of a name, opened. The reader is the standard input.
+pub(crate) fn opened<R: Files, I: Read + Drop>(
+    rt: &R,
+    alloc: Global,
+    name: &str,
+    reader: &mut Option<I>,
+) -> Result<Either<R::File, I>, Stop> {
+    if name == STANDARD {
+        if let Some(reader) = reader.take() {
+            return Ok(Either::Right(reader));
+        }
+    }
+    match fs::open(rt, name) {
+        Ok(file) => Ok(Either::Left(file)),
+        Err(error) => Err(unread(alloc, error, name)),
+    }
+}
+
+/// All logs, opened in order, whose progress is told as they are read. The first that cannot be opened ends it.
+pub fn all_opened<'p, R: Files, I: Read + Drop, C, W>(
+    rt: &R,
+    alloc: Global,
+    names: &[String],
+    reader: I,
+    progress: &'p Progress<C, W>,
+) -> Result<Vec<ToldFile<'p, Either<R::File, I>, C, W>>, Stop> {
+    let mut reader = Some(reader);
+    let mut logs = Vec::new(alloc);
+    for name in names {
+        let log = opened(rt, alloc, name.as_str(), &mut reader)?;
+        if logs.push(ToldFile::new(log, progress)).is_err() {
+            return Err(Stop::Memory);
+        }
+    }
+    Ok(logs)
+}
+
+/// Why an import ends, at a log of this name.
+pub(crate) fn stop_of(alloc: Global, fault: IntakeFault, log: &str) -> Result<Stop, Stop> {
+    Ok(match fault {
+        IntakeFault::Memory => Stop::Memory,
+        IntakeFault::Read => Stop::CannotOpen(copied(alloc, log)?),
+        IntakeFault::Line { line, fault } => Stop::BadLine {
+            log: copied(alloc, log)?,
+            line,
+            fault,
+        },
+        IntakeFault::TooLong => Stop::TooLong,
+        IntakeFault::NoEvent => Stop::NoEvent(copied(alloc, log)?),
+        IntakeFault::Write => Stop::CannotWrite,
+    })
+}
+
+// The name in a place.
+pub(crate) fn name_in(names: &[String], place: usize) -> &str {
+    match names.get(place) {
+        Some(name) => name.as_str(),
+        None => "",
+    }
+}
+
+/// What a script is made of.
+pub trait Making {
+    /// Makes the script, and sends it to the sink.
+    fn make<K: Outlet>(self, sink: &mut K) -> Result<(), Stop>;
+}
+
+// Logs of these names, and what takes them in.
+#[derive(Drop)]
+struct Logs<'a, F> {
+    intake: &'a mut Intake<Global>,
+    names: &'a [String],
+    logs: Vec<F>,
+}
+
+impl<'a, F: Read + Drop> Making for Logs<'a, F> {
+    fn make<K: Outlet>(self, sink: &mut K) -> Result<(), Stop> {
+        let Logs {
+            intake,
+            names,
+            logs,
+        } = self;
+        let alloc = *logs.allocator();
+        match make_script(intake, logs, sink) {
+            Ok(()) => Ok(()),
+            Err((place, fault)) => match stop_of(alloc, fault, name_in(names, place)) {
+                Ok(stop) => Err(stop),
+                Err(stop) => Err(stop),
+            },
+        }
+    }
+}
+
+// Makes the script in a file of this name.
+fn make_file<R: Files, M: Making + Drop>(
+    rt: &R,
+    alloc: Global,
+    target: &str,
+    making: M,
+) -> Result<(), Stop> {
+    match fs::create(rt, target) {
+        Err(_) => Err(cannot_write(alloc, target)),
+        Ok(file) => match making.make(&mut ToWrite::new(file)) {
+            Ok(()) => Ok(()),
+            Err(Stop::CannotWrite) => Err(cannot_write(alloc, target)),
+            Err(stop) => Err(stop),
+        },
+    }
+}
+
+// A file of this name, emptied.
+fn created<R: Files>(rt: &R, alloc: Global, target: &str) -> Result<R::File, Stop> {
+    match fs::create(rt, target) {
+        Ok(file) => Ok(file),
+        Err(_) => Err(cannot_write(alloc, target)),
+    }
+}
+
+// Makes the script in two files, of which one has its start.
+fn make_two_files<R: Files, M: Making + Drop>(
+    rt: &R,
+    alloc: Global,
+    start: &str,
+    script: &str,
+    making: M,
+) -> Result<(), Stop> {
+    let first = created(rt, alloc, start)?;
+    let mut sink = StartAndScript::new(first, created(rt, alloc, script)?);
+    match making.make(&mut sink) {
+        Err(Stop::CannotWrite) => {
+            let target = if sink.is_behind() { script } else { start };
+            Err(cannot_write(alloc, target))
+        }
+        made => made,
+    }
+}
+
+// Makes the script in its file, or in two where it has a start.
+fn make_script_files<R: Files, M: Making + Drop>(
+    rt: &R,
+    alloc: Global,
+    files: &Names,
+    making: M,
+) -> Result<(), Stop> {
+    let script = files.script_part.as_str();
+    match &files.start {
+        None => make_file(rt, alloc, script, making),
+        Some(names) => make_two_files(rt, alloc, names.start_part.as_str(), script, making),
+    }
+}
+
+/// Gives a file that is whole its name.
+pub fn rename<R: Files>(rt: &R, alloc: Global, part: &str, name: &str) -> Result<(), Stop> {
+    match fs::rename(rt, part, name) {
+        Ok(()) => Ok(()),
+        Err(_) => Err(cannot_write(alloc, name)),
+    }
+}
+
+// Gives both files their names, or the first one's is taken away again.
+pub(crate) fn rename_both<R: Files>(rt: &R, alloc: Global, files: &Names) -> Result<(), Stop> {
+    rename(rt, alloc, files.script_part.as_str(), files.script.as_str())?;
+    match rename(
+        rt,
+        alloc,
+        files.options_part.as_str(),
+        files.options.as_str(),
+    ) {
+        Ok(()) => Ok(()),
+        Err(stop) => {
+            let _ = fs::remove_file(rt, files.script.as_str());
+            Err(stop)
+        }
+    }
+}
+
+// Gives all files their names, or those that have theirs are taken away again.
+fn rename_all<R: Files>(rt: &R, alloc: Global, files: &Names) -> Result<(), Stop> {
+    let names = match &files.start {
+        None => return rename_both(rt, alloc, files),
+        Some(names) => names,
+    };
+    rename(rt, alloc, names.start_part.as_str(), names.start.as_str())?;
+    match rename_both(rt, alloc, files) {
+        Ok(()) => Ok(()),
+        Err(stop) => {
+            let _ = fs::remove_file(rt, names.start.as_str());
+            Err(stop)
+        }
+    }
+}
+
+// Takes away what is there of files that are not whole.
+fn remove_parts<R: Files>(rt: &R, files: &Names) {
+    // A file that is not there cannot be removed.
+    if let Some(names) = &files.start {
+        let _ = fs::remove_file(rt, names.start_part.as_str());
+    }
+    let _ = fs::remove_file(rt, files.script_part.as_str());
+    let _ = fs::remove_file(rt, files.options_part.as_str());
+}
+
+// Writes script and options to files, each under another name until all are whole.
+fn try_files<R: Files, M: Making + Drop>(
+    rt: &R,
+    alloc: Global,
+    files: &Names,
+    words: &[u8],
+    making: M,
+) -> Result<(), Stop> {
+    make_script_files(rt, alloc, files, making)?;
+    match fs::write(rt, files.options_part.as_str(), words) {
+        Err(_) => Err(cannot_write(alloc, files.options_part.as_str())),
+        Ok(()) => rename_all(rt, alloc, files),
+    }
+}
+
+// Writes script and options to files. Where that fails, nothing is left of them.
+fn to_files<R: Files, M: Making + Drop>(
+    rt: &R,
+    alloc: Global,
+    files: &Names,
+    words: &[u8],
+    making: M,
+) -> Result<(), Stop> {
+    match try_files(rt, alloc, files, words, making) {
+        Ok(()) => Ok(()),
+        Err(stop) => {
+            remove_parts(rt, files);
+            Err(stop)
+        }
+    }
+}
+
+/// Makes a script where it is asked for: in the files of this prefix, with the words for a run of it, or, where the
+/// prefix is `-`, on the standard output.
+pub(crate) fn send<R: Files + AllocGlobal, M: Making + Drop, O: Write>(
+    rt: &R,
+    prefix: &str,
+    words: &[u8],
+    making: M,
+    writer: &mut O,
+) -> Result<(), Stop> {
+    if prefix == STANDARD {
+        return making.make(&mut ToWrite::new(writer));
+    }
+    match Names::of(rt.alloc(), prefix) {
+        Ok(files) => to_files(rt, rt.alloc(), &files, words, making),
+        Err(_) => Err(Stop::Memory),
+    }
+}
+
+// Makes a script with its start in the files of this prefix, with the words for a run of it.
+fn send_with_start<R: Files + AllocGlobal, M: Making + Drop>(
+    rt: &R,
+    prefix: &str,
+    words: &[u8],
+    making: M,
+) -> Result<(), Stop> {
+    match Names::with_start(rt.alloc(), prefix) {
+        Ok(files) => to_files(rt, rt.alloc(), &files, words, making),
+        Err(_) => Err(Stop::Memory),
+    }
+}
+
+// The same store for a sample of the keys, with pages as much smaller, and a note where they would be too small.
+fn sampled(setup: Setup, sample: Sample, notes: &mut Vec<u8>) -> Result<Setup, Stop> {
+    let page_size = match sample.page_size(setup.config.page_size) {
+        Some(bytes) => bytes,
+        None => {
+            put_thin(notes, sample.one_of)?;
+            LEAST_PAGE
+        }
+    };
+    let config = Config {
+        page_size,
+        ..setup.config
+    };
+    match ClassTable::build(&config) {
+        Ok(classes) => Ok(Setup {
+            config,
+            classes,
+            ..setup
+        }),
+        Err(fault) => Err(Stop::from(fault)),
+    }
+}
+
+// How many lines a setup asks for.
+fn setup_lines(setup: &Setup) -> u64 {
+    u64::from(setup.tune.is_some()) + u64::from(setup.temp_ttl.is_some())
+}
+
+// An intake of the events that are asked for.
+fn intake_of(alloc: Global, setup: Setup, asked: &WatchImport) -> Result<Intake<Global>, Stop> {
+    let range = Range {
+        first: asked.first,
+        last: asked.last,
+        sample: asked.sample,
+    };
+    match Intake::open(alloc, setup, asked.rhythm, range, asked.split) {
+        Ok(intake) => Ok(intake),
+        Err(_) => Err(Stop::Memory),
+    }
+}
+
+// A replay beside the import, where it is asked for.
+fn check_of(alloc: Global, is_asked: bool, config: &Config) -> Result<Option<Check>, Stop> {
+    if !is_asked {
+        return Ok(None);
+    }
+    match Check::open(alloc, config) {
+        Ok(check) => Ok(Some(check)),
+        Err(stop) => Err(stop),
+    }
+}
+
+// Makes the script of these logs where it is asked for.
+fn send_logs<R: Files + AllocGlobal, F: Read + Drop, O: Write>(
+    rt: &R,
+    asked: &WatchImport,
+    words: &[u8],
+    intake: &mut Intake<Global>,
+    check: &mut Option<Check>,
+    logs: Vec<F>,
+    writer: &mut O,
+) -> Result<(), Stop> {
+    let names = asked.logs.as_slice();
+    match check {
+        None => {
+            let making = Logs {
+                intake,
+                names,
+                logs,
+            };
+            match asked.split {
+                None => send(rt, asked.out.as_str(), words, making, writer),
+                Some(_) => send_with_start(rt, asked.out.as_str(), words, making),
+            }
+        }
+        Some(check) => {
+            let making = CheckedLogs {
+                intake,
+                names,
+                logs,
+                check,
+            };
+            send(rt, asked.out.as_str(), words, making, writer)
+        }
+    }
+}
+
+// Opens the logs, and makes their script where it is asked for.
+fn import_logs<R: Files + AllocGlobal, I: Read + Drop, O: Write, C: Clock, W: Sink>(
+    rt: &R,
+    asked: &WatchImport,
+    words: &[u8],
+    intake: &mut Intake<Global>,
+    check: &mut Option<Check>,
+    reader: I,
+    writer: &mut O,
+    progress: &Progress<C, W>,
+) -> Result<(), Stop> {
+    let names = asked.logs.as_slice();
+    progress.expect(rt, names);
+    let logs = all_opened(rt, rt.alloc(), names, reader, progress)?;
+    send_logs(rt, asked, words, intake, check, logs, writer)
+}
+
+// Adds the words for a run of the script, where it goes to the standard output.
+fn add_words(notes: &mut Vec<u8>, asked: &WatchImport, words: &[u8]) -> Result<(), AllocError> {
+    if asked.out.as_str() == STANDARD {
+        notes.extend_from_slice(words)
+    } else {
+        Ok(())
+    }
+}
+
+// Adds what was counted of a sample of so many keys.
+fn add_sample(
+    notes: &mut Vec<u8>,
+    one_of: u32,
+    counts: &LineCounts,
+    figures: &Figures,
+) -> Result<(), AllocError>
+    ensures { OnOk result (notes.new.items ≡ sampled one_of notes.old.items counts.now figures.now) }
+{
+    if one_of > 1 {
+        put_sample(notes, counts, figures)
+    } else {
+        Ok(())
+    }
+}
+
+// Adds what was counted.
+fn add_counts(
+    notes: &mut Vec<u8>,
+    asked: &WatchImport,
+    intake: &Intake<Global>,
+    stats: Option<LogStats>,
+) -> Result<(), AllocError>
+    ensures { OnOk result ((counts : LineCounts) × (figures : Figures) × (notes.new.items ≡ counted asked.now.sample.one_of notes.old.items counts figures stats)) }
+{
+    let (counts, figures) = (intake.counts(), intake.figures());
+    put_report(notes, &counts, &figures, stats)?;
+    match add_sample(notes, asked.sample.one_of, &counts, &figures) {
+        Ok(()) => Ok(()),
+        Err(error) => Err(error),
+    }
+}
+
+// Adds what a replay beside the import tells, where there is one.
+fn add_check(notes: &mut Vec<u8>, check: &Option<Check>) -> Result<(), AllocError>
+    ensures { OnOk result ((checked : List ℕ) × (notes.new.items ≡ notes.old.items ++ checked)) }
+{
+    match check {
+        None => Ok(()),
+        Some(check) => check.put(notes),
+    }
+}
+
+// Adds how the script in files is run: with its start, where it has one, of which so many steps were written of the
+// setup.
+fn add_run(
+    notes: &mut Vec<u8>,
+    asked: &WatchImport,
+    intake: &Intake<Global>,
+    setup_lines: u64,
+) -> Result<(), AllocError>
+    ensures { OnOk result ((start : ℕ) × (script : ℕ) × (notes.new.items ≡ run_notes (string_bytes asked.now.out) asked.now.split notes.old.items start script)) }
+{
+    if asked.out.as_str() == STANDARD {
+        return Ok(());
+    }
+    if asked.split.is_none() {
+        return put_run(notes, asked.out.as_bytes());
+    }
+    let start = intake.start_lines();
+    let script = intake.figures().lines.saturating_sub(start);
+    put_split(notes, start.saturating_add(setup_lines), script)?;
+    put_run_behind(notes, asked.out.as_bytes())
+}
+
+// Adds what is told of an import that went well: what was counted and compared, and how its script is run.
+fn add_report(
+    notes: &mut Vec<u8>,
+    asked: &WatchImport,
+    words: &[u8],
+    intake: &Intake<Global>,
+    check: &Option<Check>,
+    setup_lines: u64,
+    stats: Option<LogStats>,
+) -> Result<(), AllocError>
+    ensures { OnOk result (TellsLogs asked.now notes.new.items) }
+{
+    add_words(notes, asked, words)?;
+    add_counts(notes, asked, intake, stats)?;
+    add_check(notes, check)?;
+    match add_run(notes, asked, intake, setup_lines) {
+        Ok(()) => Ok(()),
+        Err(error) => Err(error),
+    }
+}
+
+// Makes the script that is asked for, and adds what is told of it to the notes.
+fn import<R: Files + AllocGlobal, I: Read + Drop, O: Write, C: Clock, W: Sink>(
+    rt: &R,
+    asked: &WatchImport,
+    reader: I,
+    writer: &mut O,
+    notes: &mut Vec<u8>,
+    progress: &Progress<C, W>,
+) -> Result<(), Stop>
+    ensures { OnOk result (TellsLogs asked.now notes.new.items) }
+{
+    let stats = stats_if(rt, &asked.stats)?;
+    let setup = setup_of(rt, asked.settings.as_str(), asked.factor)?;
+    put_unfollowed(notes, &setup.unfollowed)?;
+    let setup = sampled(setup, asked.sample, notes)?;
+    let setup_lines = setup_lines(&setup);
+    let mut words = Vec::new(rt.alloc());
+    put_options(&mut words, &setup.config)?;
+    let mut check = check_of(rt.alloc(), asked.check, &setup.config)?;
+    let mut intake = intake_of(rt.alloc(), setup, asked)?;
+    let words = words.as_slice();
+    import_logs(
+        rt,
+        asked,
+        words,
+        &mut intake,
+        &mut check,
+        reader,
+        writer,
+        progress,
+    )?;
+    let told = add_report(notes, asked, words, &intake, &check, setup_lines, stats);
+    match told {
+        Ok(()) => Ok(()),
+        Err(_) => Err(Stop::Memory),
+    }
+}
+
+/// Makes the script that is asked for. Answers the exit status, 0, 3, 4 or 5. At status 0 what the import tells of
+/// itself goes to `errors`, at any other the text of the reason, whole where no write to it has failed.
+pub fn import_watch<R: Files + AllocGlobal, I: Read + Drop, O: Write, E: Sink, C: Clock, W: Sink>(
+    rt: &R,
+    asked: WatchImport,
+    reader: I,
+    writer: &mut O,
+    errors: &mut E,
+    progress: &Progress<C, W>,
+) -> u8
+    ensures status { IsStatus result }
+    ensures done { result ≡ 0 → Reports (E.contents errors.old) (E.contents errors.new) (E.failures errors.old) (E.failures errors.new) (TellsLogs asked) }
+    ensures early { result ≢ 0 → (s : Stop) × StopsBy (E.contents errors.old) (E.contents errors.new) (E.failures errors.old) (E.failures errors.new) result s }
+{
+    let mut notes = Vec::new(rt.alloc());
+    let done = import(rt, &asked, reader, writer, &mut notes, progress);
+    progress.end();
+    match done {
+        Err(stop) => ended(Err(stop), errors),
+        Ok(()) => {
+            tell_bytes(errors, notes.as_slice());
+            0
+        }
+    }
+}

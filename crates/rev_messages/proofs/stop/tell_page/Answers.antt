@@ -1,0 +1,7 @@
+use Rattle.rev_messages.proofs.stop.tell_page.Goals as goal
+
+pub returns-clause-told : goal.returns-clause-told
+returns-clause-told g c = rw (c.name.ensures, c.help.ensures) at c.tell_parts.ensures.told
+
+pub returns-clause-ok : goal.returns-clause-ok
+returns-clause-ok g c = rw (c.name.ensures, c.help.ensures) at c.tell_parts.ensures.ok

@@ -1,0 +1,4 @@
+pub mod Telling
+pub mod Progress
+pub mod Stop
+pub mod Ends

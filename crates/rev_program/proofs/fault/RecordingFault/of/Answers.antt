@@ -1,5 +1,0 @@
-use Rattle.std.proofs.Common.{rules}
-use Rattle.rev_program.proofs.fault.RecordingFault.of.Goals as goal
-
-pub returns-in-TooLong : goal.returns-in-TooLong
-returns-in-TooLong c = search rules steps 500000

@@ -1,5 +1,0 @@
-use Rattle.std.proofs.Common.{rules}
-use Rattle.rev_program.proofs.stop.Stop.status.Goals as goal
-
-pub returns-in-Memory-clause-status : goal.returns-in-Memory-clause-status
-returns-in-Memory-clause-status c = search rules steps 500000

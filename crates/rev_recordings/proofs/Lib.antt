@@ -1,0 +1,4 @@
+pub mod Reading
+pub mod Logs
+mod Scripts
+mod Ends
