@@ -8,4 +8,6 @@ mod HeldLemmas
 pub mod Written
 mod SpaceLemmas
 mod KeyLemmas
-mod NumberLemmas
+pub mod NumberLemmas
+pub mod UsualLemmas
+pub mod EventLemmas

@@ -30,7 +30,7 @@ none_before b (x ∷ xs) (suc i) h = elim (eqb_tells x b) [
   | inr p ↦ rw p.0 (none_before b xs i (λ k l e. h (suc k) (omega arith) e))
 ]
 
-none_has : (b : ℕ) (xs : List ℕ) → ((k : ℕ) → k < length xs → get_or xs k 0 ≡ b → ⊥) → has b xs ≡ false
+pub none_has : (b : ℕ) (xs : List ℕ) → ((k : ℕ) → k < length xs → get_or xs k 0 ≡ b → ⊥) → has b xs ≡ false
 none_has b [] h = refl
 none_has b (x ∷ xs) h = elim (eqb_tells x b) [
   | inl p ↦ absurd (h 0 (omega arith) p.1)

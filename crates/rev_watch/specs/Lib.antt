@@ -9,3 +9,4 @@ pub mod Reader
 pub mod Window
 pub mod Held
 pub mod Settings
+pub mod Usual

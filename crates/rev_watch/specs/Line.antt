@@ -105,10 +105,14 @@ event_of_kind kinds.CrawlEnd ws = crawl_end ws
 event_of_kind kinds.ConnectionOpened ws = connection_opened ws
 event_of_kind kinds.ConnectionClosed ws = connection_closed ws
 
+-- the event of a kind, from the text behind its name
+abbrev pub event_by_names : {A : Type 0} → Kind → List ℕ → Result (Event A) LineFault
+event_by_names kind text = and_then (fields_of text) (event_of_kind kind)
+
 -- the event of the kind that the word names
 abbrev pub event_with : {A : Type 0} → Option Kind → List ℕ → List ℕ → Result (Event A) LineFault
 event_with None word rest = unknown word
-event_with (Some kind) word rest = and_then (fields_of rest) (event_of_kind kind)
+event_with (Some kind) word rest = event_by_names kind rest
 
 -- the event of the kind of this name, from the text behind the name
 unfoldable pub event_of : {A : Type 0} → List ℕ → List ℕ → Result (Event A) LineFault
@@ -146,14 +150,19 @@ behind text = past 32 text
 abbrev pub first : List ℕ → List ℕ
 first text = until 32 text
 
+-- the line of this time and number, from the text behind them
+abbrev pub line_behind : {A : Type 0} → Timestamp → ℕ → List ℕ → Result (Line A) LineFault
+line_behind time gid text =
+    and_then (value_of fields.Kind (first text)) (λ kind.
+    and_then (event_of kind (behind text)) (λ event.
+    Ok (lines.Log record { time = time; gid = gid; event = event })))
+
 -- a line of the log
 unfoldable pub log_line : {A : Type 0} → List ℕ → Result (Line A) LineFault
 log_line text =
     and_then (timestamp_of (first text)) (λ time.
     and_then (gid_of (first (behind text))) (λ gid.
-    and_then (value_of fields.Kind (first (behind (behind text)))) (λ kind.
-    and_then (event_of kind (behind (behind (behind text)))) (λ event.
-    Ok (lines.Log record { time = time; gid = gid; event = event })))))
+    line_behind time gid (behind (behind text))))
 
 -- lines were left out
 unfoldable pub skipped_line : {A : Type 0} → List ℕ → Result (Line A) LineFault

@@ -18,5 +18,6 @@ pub mod reader;
 pub mod settings;
 mod strays;
 mod text;
+mod usual;
 pub mod window;
 mod words;

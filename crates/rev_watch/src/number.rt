@@ -1,6 +1,6 @@
 //! Numbers of a line.
-ghost use Rattle.std.specs.Prelude.{◌≡◌, ◌≤◌, IfSome};
-ghost use Rattle.rev_script.specs.Number.{number, number_u32, signed};
+ghost use Rattle.std.specs.Prelude.{◌≡◌, ◌≤◌, ◌<◌, true, Some, IfSome};
+ghost use Rattle.rev_script.specs.Number.{number, number_u32, signed, until, past, has};
 
 use rev_script::number::number as any_number;
 
@@ -24,6 +24,29 @@ pub fn number(word: &[u8], limit: u64) -> Option<u64>
         sum = sum * 10 + u64::from(*b - b'0');
     }
     if sum > limit { None } else { Some(sum) }
+}
+
+/// The number that stands in front of the first such byte, which is no digit, and the text behind that. Its end is
+/// found by its digits. None, too, where there are more than 19 of them.
+#[inline(always)]
+pub fn number_before(text: &[u8], sign: u8, limit: u64) -> Option<(u64, &[u8])>
+    requires { sign < 48 }
+    ensures { IfSome result (λ r. (has sign text.now ≡ true) × (number limit (until sign text.now) ≡ Some r.0) × (r.1.now ≡ past sign text.now) × (r.0 ≤ limit)) }
+{
+    let mut sum: u64 = 0;
+    for (i, byte) in text.iter().enumerate() {
+        if *byte < b'0' || *byte > b'9' {
+            if *byte != sign || i == 0 || sum > limit {
+                return None;
+            }
+            return Some((sum, &text[i + 1..]));
+        }
+        if i >= SAFE_DIGITS {
+            return None;
+        }
+        sum = sum * 10 + u64::from(*byte - b'0');
+    }
+    None
 }
 
 /// The number that the word is, where it is one of 32 bits.

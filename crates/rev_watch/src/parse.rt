@@ -1,8 +1,9 @@
 //! What one line of a log says.
-ghost use Rattle.std.specs.Prelude.{◌≡◌, ◌≢◌, map, MatchResult, Ok, Err};
+ghost use Rattle.std.specs.Prelude.{◌≡◌, ◌≢◌, map, MatchResult, IfSome, Ok, Err};
 ghost use Rattle.rev_script.specs.Number.{until, past};
-ghost use Rattle.rev_watch.specs.Line.{look_up, store, deletion, eviction, page_move, crawl_end, connection_opened, connection_closed, unknown, event_of_kind, event_of, timestamp, timestamp_of, gid_of, value_of, log_line, skipped_line, line_in, line_of};
+ghost use Rattle.rev_watch.specs.Line.{look_up, store, deletion, eviction, page_move, crawl_end, connection_opened, connection_closed, unknown, event_of_kind, event_by_names, event_of, first, behind, line_behind, timestamp, timestamp_of, gid_of, value_of, log_line, skipped_line, line_in, line_of};
 ghost use Rattle.rev_watch.specs.declared.fault.LineFault.{LineFault};
+ghost use Rattle.rev_watch.specs.declared.kind.Kind.{Kind};
 
 use crate::event::{Event, Line, LogLine, Timestamp};
 use crate::fault::{Field, LineFault};
@@ -10,9 +11,11 @@ use crate::fields::{
     MOST_FIELDS, fetched_in, fields_of, key_in, look_up_outcome, number_u32_in, number_u64_in,
     optional_signed_in, queue_in, signed_in, store_command, store_outcome, time_left_in, value_in,
 };
+use crate::key::key_of;
 use crate::kind::{Kind, known_kind};
-use crate::number::{number, number_u32};
-use crate::text::{cut, value_behind, without_cr};
+use crate::number::{number, number_before, number_u32};
+use crate::text::{cut, first_word, value_behind, without_cr};
+use crate::usual::{usual_look_up, usual_store};
 use crate::words::Words;
 use arrayvec::ArrayVec;
 use rev_items::{Key, KeyFault};
@@ -164,21 +167,67 @@ fn event_of_kind<A: Allocator>(
     }
 }
 
+// The event of a kind, from the words behind the kind, wherever each field stands.
+fn event_by_names<A: Allocator>(alloc: A, kind: Kind, text: &[u8]) -> Result<Event<A>, LineFault>
+    ensures { MatchResult result (λ event. event_by_names kind text.now ≡ Ok event) (λ e. e ≢ LineFault.Memory → event_by_names {A = A} kind text.now ≡ Err e) }
+{
+    let mut words = Words::new(text);
+    let mut fields = ArrayVec::new();
+    fields_of(&mut fields, &mut words)?;
+    event_of_kind(alloc, kind, fields.as_slice())
+}
+
+// A look-up, from the words behind the kind.
+fn look_up_in<A: Allocator>(alloc: A, text: &[u8]) -> Result<Event<A>, LineFault>
+    ensures { MatchResult result (λ event. event_by_names Kind.LookUp text.now ≡ Ok event) (λ e. e ≢ LineFault.Memory → event_by_names {A = A} Kind.LookUp text.now ≡ Err e) }
+{
+    let Some(usual) = usual_look_up(text) else {
+        return event_by_names(alloc, Kind::LookUp, text);
+    };
+    match key_of(alloc, usual.key) {
+        Err(fault) => Err(fault),
+        Ok(key) => Ok(Event::LookUp {
+            key,
+            outcome: look_up_outcome(usual.outcome),
+            class: usual.class,
+            connection: usual.connection,
+            size: usual.size,
+        }),
+    }
+}
+
+// A storage command, from the words behind the kind.
+fn store_in<A: Allocator>(alloc: A, text: &[u8]) -> Result<Event<A>, LineFault>
+    ensures { MatchResult result (λ event. event_by_names Kind.Store text.now ≡ Ok event) (λ e. e ≢ LineFault.Memory → event_by_names {A = A} Kind.Store text.now ≡ Err e) }
+{
+    let Some(usual) = usual_store(text) else {
+        return event_by_names(alloc, Kind::Store, text);
+    };
+    match key_of(alloc, usual.key) {
+        Err(fault) => Err(fault),
+        Ok(key) => Ok(Event::Store {
+            key,
+            command: store_command(usual.command),
+            outcome: store_outcome(usual.outcome),
+            ttl: usual.ttl,
+            class: usual.class,
+            connection: usual.connection,
+            size: usual.size,
+        }),
+    }
+}
+
 // An event of this kind, from the words behind the kind.
 #[tactic(auto, unfolding(crate::specs::Line::event_of))]
-fn event_of<A: Allocator>(
-    alloc: A,
-    kind: &[u8],
-    words: &mut Words<'_>,
-) -> Result<Event<A>, LineFault>
-    ensures { MatchResult result (λ event. event_of kind.now words.old ≡ Ok event) (λ e. e ≢ LineFault.Memory → event_of {A = A} kind.now words.old ≡ Err e) }
+fn event_of<A: Allocator>(alloc: A, kind: &[u8], text: &[u8]) -> Result<Event<A>, LineFault>
+    ensures { MatchResult result (λ event. event_of kind.now text.now ≡ Ok event) (λ e. e ≢ LineFault.Memory → event_of {A = A} kind.now text.now ≡ Err e) }
 {
-    let Some(known) = known_kind(kind) else {
-        return unknown(alloc, kind);
-    };
-    let mut fields = ArrayVec::new();
-    fields_of(&mut fields, words)?;
-    event_of_kind(alloc, known, fields.as_slice())
+    match known_kind(kind) {
+        None => unknown(alloc, kind),
+        Some(Kind::LookUp) => look_up_in(alloc, text),
+        Some(Kind::Store) => store_in(alloc, text),
+        Some(known) => event_by_names(alloc, known, text),
+    }
 }
 
 #[tactic(auto, unfolding(crate::specs::Line::timestamp))]
@@ -222,19 +271,58 @@ fn gid_of(word: &[u8]) -> Result<u64, LineFault>
     number(value, 18446744073709551615).ok_or(LineFault::BadValue(Field::Gid))
 }
 
+// The line of this time and number, from the words behind them.
+#[tactic(auto, unfolding(crate::specs::Line::log_line))]
+fn line_behind<A: Allocator>(
+    alloc: A,
+    time: Timestamp,
+    gid: u64,
+    text: &[u8],
+) -> Result<Line<A>, LineFault>
+    ensures { MatchResult result (λ line. line_behind time gid text.now ≡ Ok line) (λ e. e ≢ LineFault.Memory → line_behind {A = A} time gid text.now ≡ Err e) }
+{
+    let (kind, rest) = first_word(text);
+    let kind = value_of(Field::Kind, kind)?;
+    let event = event_of(alloc, kind, rest)?;
+    Ok(Line::Log(LogLine { time, gid, event }))
+}
+
+// A time and a number, as the server writes them, and the words behind them.
+#[derive(Drop)]
+struct Head<'a> {
+    time: Timestamp,
+    gid: u64,
+    rest: &'a [u8],
+}
+
+// What a text begins with, where that is a time and a number.
+fn usual_head(text: &[u8]) -> Option<Head<'_>>
+    ensures { IfSome result (λ h. (timestamp_of (first text.now) ≡ Ok h.time) × (gid_of (first (behind text.now)) ≡ Ok h.gid) × (h.rest.now ≡ behind (behind text.now))) }
+{
+    let rest = value_behind(b"ts", b'=', text)?;
+    let (seconds, rest) = number_before(rest, b'.', 4294967295)?;
+    let (microseconds, rest) = number_before(rest, b' ', 999999)?;
+    let rest = value_behind(b"gid", b'=', rest)?;
+    let (gid, rest) = number_before(rest, b' ', 18446744073709551615)?;
+    let time = Timestamp {
+        seconds: seconds as u32,
+        microseconds: microseconds as u32,
+    };
+    Some(Head { time, gid, rest })
+}
+
 #[tactic(auto, unfolding(crate::specs::Line::log_line))]
 fn log_line<A: Allocator>(alloc: A, text: &[u8]) -> Result<Line<A>, LineFault>
     ensures { MatchResult result (λ line. log_line text.now ≡ Ok line) (λ e. e ≢ LineFault.Memory → log_line {A = A} text.now ≡ Err e) }
 {
-    let mut words = Words::new(text);
-    let (time, _) = words.next();
-    let (gid, _) = words.next();
-    let (kind, _) = words.next();
+    if let Some(head) = usual_head(text) {
+        return line_behind(alloc, head.time, head.gid, head.rest);
+    }
+    let (time, rest) = first_word(text);
     let time = timestamp_of(time)?;
+    let (gid, rest) = first_word(rest);
     let gid = gid_of(gid)?;
-    let kind = value_of(Field::Kind, kind)?;
-    let event = event_of(alloc, kind, &mut words)?;
-    Ok(Line::Log(LogLine { time, gid, event }))
+    line_behind(alloc, time, gid, rest)
 }
 
 // A line that tells how many lines were left out.

@@ -19,6 +19,17 @@ pub fn cut(text: &[u8], byte: u8) -> (&[u8], Option<&[u8]>)
     }
 }
 
+/// The bytes before the first space, or all; and those behind it, or none.
+pub fn first_word(text: &[u8]) -> (&[u8], &[u8])
+    ensures word { result.0.now ≡ until 32 text.now }
+    ensures rest { result.1.now ≡ past 32 text.now }
+{
+    match memchr(b' ', text) {
+        Some(i) => (&text[..i], &text[i + 1..]),
+        None => (text, &text[text.len()..]),
+    }
+}
+
 /// The text without one CR at its end.
 pub fn without_cr(text: &[u8]) -> &[u8]
     ensures { result.now ≡ strip_last 13 text.now }
