@@ -1,4 +1,4 @@
--- Up to 19 digits fit 64 bits. Where a number ends, and that no other sign stands in it.
+-- Up to 19 digits fit 64 bits. Where a number ends, and that no sign stands in it.
 use Rattle.std.proofs.Common.{◌≡◌, ℕ, ◌+◌, ◌*◌, ◌^◌, ◌<◌, ◌≤◌, ◌&&◌, nat_le, nat_lt, Bool, true, false, cond, None, Some, List, length, take, drop, get_or, inl, refl, sym, ◌∙◌, ap, arith, lit<, add-one}
 use Rattle.std.proofs.Math.Nat.{pow-le-pow_right}
 use Rattle.std.proofs.lemmas.Bool.Decides.{nat_tests}

@@ -8,9 +8,10 @@ use crate::fault::Field;
 use crate::number::{number, number_before};
 use crate::text::{cut, value_behind};
 
-/// The largest number of 32 bits, and the largest one with a sign.
+/// The largest number of 32 bits without a sign.
 const MOST_U32: u64 = 4294967295;
 
+/// The largest one with a sign.
 const MOST_I32: u64 = 2147483647;
 
 /// The fields of a look-up.
