@@ -13,6 +13,13 @@ pub const DEFAULTS: Config = Config {
     now: 1,
 };
 
+/// The same with small pages and few buckets.
+pub const SMALL_PAGES: Config = Config {
+    page_size: 1024,
+    hash_power: 4,
+    ..DEFAULTS
+};
+
 // Chunk sizes at pages of 1048576 bytes and the factor 5/4.
 static SIZES: [u32; 42] = [
     96, 120, 152, 192, 240, 304, 384, 480, 600, 752, 944, 1184, 1480, 1856, 2320, 2904, 3632, 4544,

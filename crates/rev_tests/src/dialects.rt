@@ -8,14 +8,9 @@ use rev_shell::run::RunFault;
 use std::alloc::Global;
 use std::process::Abort;
 
-/// Some bytes of a script. After each of them the same was answered.
-struct Stage {
-    bytes: &'static str,
-    // While the next byte is waited for.
-    waiting: &'static str,
-    // Where the input ends.
-    ended: &'static str,
-}
+/// Some bytes of a script. After each of them the same was answered: first what is while the next byte is waited for,
+/// and then what is where the input ends.
+struct Stage(&'static str, &'static str, &'static str);
 
 struct Case {
     name: &'static str,
@@ -23,267 +18,112 @@ struct Case {
     stages: &'static [Stage],
 }
 
+const STORED: &str = "STORED\r\n";
+
+const STORED_ERROR: &str = "STORED\r\nERROR\r\n";
+
+const STORED_HELD: &str = "STORED\r\nVALUE a 0 2\r\nhi\r\nEND\r\n";
+
+const ERROR: &str = "ERROR\r\n";
+
 const BAD: &str = "CLIENT_ERROR bad data chunk\r\n";
+
+const BAD_ERROR: &str = "CLIENT_ERROR bad data chunk\r\nERROR\r\n";
+
+const BAD_END: &str = "CLIENT_ERROR bad data chunk\r\nEND\r\n";
+
+const BAD_TWICE: &str = "CLIENT_ERROR bad data chunk\r\nCLIENT_ERROR bad data chunk\r\n";
+
+// The front of a line that stores.
+const SET: Stage = Stage("set a 0 0 ", "", ERROR);
 
 static CASES: [Case; 9] = [
     Case {
         name: "LF behind the data",
         dialect: Dialect::AnyFeed,
         stages: &[
-            Stage {
-                bytes: "set a 0 0 ",
-                waiting: "",
-                ended: "ERROR\r\n",
-            },
-            Stage {
-                bytes: "2\nhi",
-                waiting: "",
-                ended: BAD,
-            },
-            Stage {
-                bytes: "\n",
-                waiting: "STORED\r\n",
-                ended: "STORED\r\n",
-            },
-            Stage {
-                bytes: "get ",
-                waiting: "STORED\r\n",
-                ended: "STORED\r\nERROR\r\n",
-            },
-            Stage {
-                bytes: "a",
-                waiting: "STORED\r\n",
-                ended: "STORED\r\nVALUE a 0 2\r\nhi\r\nEND\r\n",
-            },
-            Stage {
-                bytes: "\n",
-                waiting: "STORED\r\nVALUE a 0 2\r\nhi\r\nEND\r\n",
-                ended: "STORED\r\nVALUE a 0 2\r\nhi\r\nEND\r\n",
-            },
+            SET,
+            Stage("2\nhi", "", BAD),
+            Stage("\n", STORED, STORED),
+            Stage("get ", STORED, STORED_ERROR),
+            Stage("a", STORED, STORED_HELD),
+            Stage("\n", STORED_HELD, STORED_HELD),
         ],
     },
     Case {
         name: "CR LF behind the data",
         dialect: Dialect::AnyFeed,
         stages: &[
-            Stage {
-                bytes: "set a 0 0 ",
-                waiting: "",
-                ended: "ERROR\r\n",
-            },
-            Stage {
-                bytes: "2\r\nhi\r",
-                waiting: "",
-                ended: BAD,
-            },
-            Stage {
-                bytes: "\n",
-                waiting: "STORED\r\n",
-                ended: "STORED\r\n",
-            },
+            SET,
+            Stage("2\r\nhi\r", "", BAD),
+            Stage("\n", STORED, STORED),
         ],
     },
     Case {
         name: "feeds and returns in the data",
         dialect: Dialect::AnyFeed,
         stages: &[
-            Stage {
-                bytes: "set a 0 0 ",
-                waiting: "",
-                ended: "ERROR\r\n",
-            },
-            Stage {
-                bytes: "4\n\n\r\n\r",
-                waiting: "",
-                ended: BAD,
-            },
-            Stage {
-                bytes: "\n",
-                waiting: "STORED\r\n",
-                ended: "STORED\r\n",
-            },
+            SET,
+            Stage("4\n\n\r\n\r", "", BAD),
+            Stage("\n", STORED, STORED),
         ],
     },
     Case {
         name: "no data",
         dialect: Dialect::AnyFeed,
-        stages: &[
-            Stage {
-                bytes: "set a 0 0 ",
-                waiting: "",
-                ended: "ERROR\r\n",
-            },
-            Stage {
-                bytes: "0\n",
-                waiting: "",
-                ended: BAD,
-            },
-            Stage {
-                bytes: "\n",
-                waiting: "STORED\r\n",
-                ended: "STORED\r\n",
-            },
-        ],
+        stages: &[SET, Stage("0\n", "", BAD), Stage("\n", STORED, STORED)],
     },
     Case {
         name: "another byte behind the data",
         dialect: Dialect::AnyFeed,
         stages: &[
-            Stage {
-                bytes: "set a 0 0 ",
-                waiting: "",
-                ended: "ERROR\r\n",
-            },
-            Stage {
-                bytes: "2\nhi",
-                waiting: "",
-                ended: BAD,
-            },
-            Stage {
-                bytes: "X get a\r more\n",
-                waiting: BAD,
-                ended: BAD,
-            },
-            Stage {
-                bytes: "get ",
-                waiting: BAD,
-                ended: "CLIENT_ERROR bad data chunk\r\nERROR\r\n",
-            },
-            Stage {
-                bytes: "a",
-                waiting: BAD,
-                ended: "CLIENT_ERROR bad data chunk\r\nEND\r\n",
-            },
-            Stage {
-                bytes: "\n",
-                waiting: "CLIENT_ERROR bad data chunk\r\nEND\r\n",
-                ended: "CLIENT_ERROR bad data chunk\r\nEND\r\n",
-            },
+            SET,
+            Stage("2\nhi", "", BAD),
+            Stage("X get a\r more\n", BAD, BAD),
+            Stage("get ", BAD, BAD_ERROR),
+            Stage("a", BAD, BAD_END),
+            Stage("\n", BAD_END, BAD_END),
         ],
     },
     Case {
         name: "CR alone behind the data",
         dialect: Dialect::AnyFeed,
         stages: &[
-            Stage {
-                bytes: "set a 0 0 ",
-                waiting: "",
-                ended: "ERROR\r\n",
-            },
-            Stage {
-                bytes: "2\nhi\r",
-                waiting: "",
-                ended: BAD,
-            },
-            Stage {
-                bytes: "\r\n",
-                waiting: BAD,
-                ended: BAD,
-            },
-            Stage {
-                bytes: "get ",
-                waiting: BAD,
-                ended: "CLIENT_ERROR bad data chunk\r\nERROR\r\n",
-            },
-            Stage {
-                bytes: "a",
-                waiting: BAD,
-                ended: "CLIENT_ERROR bad data chunk\r\nEND\r\n",
-            },
-            Stage {
-                bytes: "\r",
-                waiting: BAD,
-                ended: "CLIENT_ERROR bad data chunk\r\nEND\r\n",
-            },
-            Stage {
-                bytes: "\n",
-                waiting: "CLIENT_ERROR bad data chunk\r\nEND\r\n",
-                ended: "CLIENT_ERROR bad data chunk\r\nEND\r\n",
-            },
+            SET,
+            Stage("2\nhi\r", "", BAD),
+            Stage("\r\n", BAD, BAD),
+            Stage("get ", BAD, BAD_ERROR),
+            Stage("a", BAD, BAD_END),
+            Stage("\r", BAD, BAD_END),
+            Stage("\n", BAD_END, BAD_END),
         ],
     },
     Case {
         name: "two bad blocks, one behind the other",
         dialect: Dialect::AnyFeed,
         stages: &[
-            Stage {
-                bytes: "set a 0 0 ",
-                waiting: "",
-                ended: "ERROR\r\n",
-            },
-            Stage {
-                bytes: "0\n",
-                waiting: "",
-                ended: BAD,
-            },
-            Stage {
-                bytes: "X\n",
-                waiting: BAD,
-                ended: BAD,
-            },
-            Stage {
-                bytes: "set b 0 0 ",
-                waiting: BAD,
-                ended: "CLIENT_ERROR bad data chunk\r\nERROR\r\n",
-            },
-            Stage {
-                bytes: "1\nb",
-                waiting: BAD,
-                ended: "CLIENT_ERROR bad data chunk\r\nCLIENT_ERROR bad data chunk\r\n",
-            },
-            Stage {
-                bytes: "XX",
-                waiting: "CLIENT_ERROR bad data chunk\r\nCLIENT_ERROR bad data chunk\r\n",
-                ended: "CLIENT_ERROR bad data chunk\r\nCLIENT_ERROR bad data chunk\r\n",
-            },
+            SET,
+            Stage("0\n", "", BAD),
+            Stage("X\n", BAD, BAD),
+            Stage("set b 0 0 ", BAD, BAD_ERROR),
+            Stage("1\nb", BAD, BAD_TWICE),
+            Stage("XX", BAD_TWICE, BAD_TWICE),
         ],
     },
     Case {
         name: "LF behind the data, where CR LF is due",
         dialect: Dialect::CrLf,
         stages: &[
-            Stage {
-                bytes: "set a 0 0 ",
-                waiting: "",
-                ended: "ERROR\r\n",
-            },
-            Stage {
-                bytes: "2\nhi\n",
-                waiting: "",
-                ended: BAD,
-            },
-            Stage {
-                bytes: "g",
-                waiting: BAD,
-                ended: BAD,
-            },
-            Stage {
-                bytes: "et ",
-                waiting: BAD,
-                ended: "CLIENT_ERROR bad data chunk\r\nERROR\r\n",
-            },
+            SET,
+            Stage("2\nhi\n", "", BAD),
+            Stage("g", BAD, BAD),
+            Stage("et ", BAD, BAD_ERROR),
         ],
     },
     Case {
         name: "CR LF behind the data, where it is due",
         dialect: Dialect::CrLf,
-        stages: &[
-            Stage {
-                bytes: "set a 0 0 ",
-                waiting: "",
-                ended: "ERROR\r\n",
-            },
-            Stage {
-                bytes: "2\nhi\r",
-                waiting: "",
-                ended: BAD,
-            },
-            Stage {
-                bytes: "\n",
-                waiting: "STORED\r\n",
-                ended: "STORED\r\n",
-            },
-        ],
+        stages: &[SET, Stage("2\nhi\r", "", BAD), Stage("\n", STORED, STORED)],
     },
 ];
 
@@ -305,21 +145,22 @@ fn answers_to<R: Abort>(
 // After these bytes, in one piece and byte by byte, so much is answered.
 fn try_front<R: Abort>(rt: &R, alloc: Global, case: &Case, script: &[u8], at: &Stage) {
     let name = case.name;
+    let Stage(_, waiting, ended) = *at;
     let bytes = script.len();
     let mut at_once: Vec<u8> = Vec::new(alloc);
-    let ended = run_in(rt, alloc, &DEFAULTS, case.dialect, script, &mut at_once);
+    let run = run_in(rt, alloc, &DEFAULTS, case.dialect, script, &mut at_once);
     assert!(rt;
-        ended.is_ok() && at_once.as_slice() == at.ended.as_bytes(),
+        run.is_ok() && at_once.as_slice() == ended.as_bytes(),
         "{name}: {bytes} bytes at once"
     );
     let (written, fault) = answers_to(rt, alloc, case.dialect, script, false);
     assert!(rt;
-        fault.is_none() && written.as_slice() == at.ended.as_bytes(),
+        fault.is_none() && written.as_slice() == ended.as_bytes(),
         "{name}: the end after {bytes} bytes"
     );
     let (written, fault) = answers_to(rt, alloc, case.dialect, script, true);
     assert!(rt;
-        fault == Some(RunFault::Read) && written.as_slice() == at.waiting.as_bytes(),
+        fault == Some(RunFault::Read) && written.as_slice() == waiting.as_bytes(),
         "{name}: a wait after {bytes} bytes"
     );
 }
@@ -327,7 +168,7 @@ fn try_front<R: Abort>(rt: &R, alloc: Global, case: &Case, script: &[u8], at: &S
 fn try_case<R: Abort>(rt: &R, alloc: Global, case: &Case) {
     let mut script: Vec<u8> = Vec::new(alloc);
     for stage in case.stages {
-        for byte in stage.bytes.as_bytes() {
+        for byte in stage.0.as_bytes() {
             put(rt, &mut script, &[*byte]);
             try_front(rt, alloc, case, script.as_slice(), stage);
         }

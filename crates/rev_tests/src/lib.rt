@@ -29,6 +29,8 @@ mod starts;
 #[cfg(test)]
 mod stores;
 #[cfg(test)]
+mod storing;
+#[cfg(test)]
 mod streams;
 #[cfg(test)]
 mod summaries;

@@ -1,9 +1,10 @@
 //! Look-ups of the nodes that mention a key, beside a plain scan of all that was played.
 use crate::classes::DEFAULTS;
 use crate::owned::session_over;
+use crate::storing::store_of;
 use rev_inverse::Store;
 use rev_items::Key;
-use rev_steps::{ClientStep, Payload, Step, StoreVerb};
+use rev_steps::{Payload, StoreVerb};
 use rev_undotree::Session;
 use std::alloc::Global;
 use std::process::Abort;
@@ -108,13 +109,7 @@ fn key_of<R: Abort>(rt: &R, alloc: Global, place: usize) -> Key<Global> {
 
 fn set<R: Abort>(rt: &R, session: &mut Session<Global>, alloc: Global, place: usize) {
     let data = Payload::from_vec(Vec::new(alloc)).expect(rt, "no memory");
-    let step = Step::Client(ClientStep::Store {
-        verb: StoreVerb::Set,
-        key: key_of(rt, alloc, place),
-        flags: 0,
-        exptime: 0,
-        data,
-    });
+    let step = store_of(StoreVerb::Set, key_of(rt, alloc, place), data);
     match session.play(step) {
         Ok(_) => (),
         Err(_) => panic!(rt; "a set was refused"),

@@ -1,6 +1,7 @@
 //! Steps that are played before a run, which keeps neither nodes nor records of them.
+use crate::classes::SMALL_PAGES;
 use linked_list_allocator::LocalHeap;
-use rev_classes::{Config, fault_of};
+use rev_classes::fault_of;
 use rev_output::ToWrite;
 use rev_program::program::program;
 use rev_script::dialect::Dialect;
@@ -12,17 +13,6 @@ use rev_undotree::Session;
 use std::alloc::{Allocator, Global};
 use std::io;
 use std::process::Abort;
-
-const CONFIG: Config = Config {
-    page_size: 1024,
-    pages: 64,
-    num: 5,
-    den: 4,
-    bump: 64,
-    hash_power: 4,
-    temp_ttl: -1,
-    now: 1,
-};
 
 // Lines that make steps, each with what it is answered.
 static STEPS: [(&str, &str); 11] = [
@@ -63,11 +53,20 @@ fn put<R: Abort>(rt: &R, text: &mut Vec<u8>, more: &str) {
 }
 
 fn opened<R: Abort, A: Allocator + Clone>(rt: &R, alloc: &A) -> Session<A> {
-    assert!(rt; fault_of(&CONFIG).is_none());
-    match open_session(alloc, &CONFIG) {
+    assert!(rt; fault_of(&SMALL_PAGES).is_none());
+    match open_session(alloc, &SMALL_PAGES) {
         Some(session) => session,
         None => panic!(rt; "no memory"),
     }
+}
+
+// Plays a start where the session stands, and tells how that ended.
+fn start_with<A: Allocator + Clone>(
+    alloc: &A,
+    session: &mut Session<A>,
+    start: &[u8],
+) -> Result<(), TraceFault> {
+    play_start(alloc, session, Dialect::CrLf, &mut FromRead::new(start))
 }
 
 // What is answered to a script on a session.
@@ -102,12 +101,7 @@ fn parted<R: AllocGlobal + Abort>(rt: &R, session: &mut Session<Global>, at: usi
         }
         put(rt, &mut start, *line);
         if (index + 1).checked_rem(each) == Some(0) || index + 1 == at {
-            let ended = play_start(
-                &rt.alloc(),
-                session,
-                Dialect::CrLf,
-                &mut FromRead::new(start.as_slice()),
-            );
+            let ended = start_with(&rt.alloc(), session, start.as_slice());
             assert!(rt; ended == Ok(()) && session.issued() == 0, "{at} {each}");
             start.clear();
         }
@@ -136,12 +130,7 @@ fn parted_scripts(rt: HostRuntime) {
 fn reasons(rt: HostRuntime) {
     let mut session = opened(&rt, &rt.alloc());
     let start = b"set a 0 0 1\r\nx\r\ndelete a\r\n";
-    let ended = play_start(
-        &rt.alloc(),
-        &mut session,
-        Dialect::CrLf,
-        &mut FromRead::new(start.as_slice()),
-    );
+    let ended = start_with(&rt.alloc(), &mut session, start.as_slice());
     let written = answers(
         &rt,
         &mut session,
@@ -176,12 +165,7 @@ static FAULTS: [(&[u8], TraceFault); 5] = [
 fn faults(rt: HostRuntime) {
     for (start, fault) in &FAULTS {
         let mut session = opened(&rt, &rt.alloc());
-        let ended = play_start(
-            &rt.alloc(),
-            &mut session,
-            Dialect::CrLf,
-            &mut FromRead::new(*start),
-        );
+        let ended = start_with(&rt.alloc(), &mut session, *start);
         drop(session);
         assert!(rt; ended == Err(*fault));
     }
@@ -193,16 +177,11 @@ const ROUNDS: usize = 2000;
 // Plays a start in a heap with so many bytes, and tells how that ended.
 fn played_in<R: AllocGlobal + Abort>(rt: &R, bytes: usize, start: &[u8]) -> Result<(), TraceFault> {
     let heap = LocalHeap::new(rt.alloc(), bytes).expect(rt, "no memory");
-    assert!(rt; fault_of(&CONFIG).is_none());
-    let ended = match open_session(&&heap, &CONFIG) {
+    assert!(rt; fault_of(&SMALL_PAGES).is_none());
+    let ended = match open_session(&&heap, &SMALL_PAGES) {
         None => Err(TraceFault::Memory),
         Some(mut session) => {
-            let ended = play_start(
-                &&heap,
-                &mut session,
-                Dialect::CrLf,
-                &mut FromRead::new(start),
-            );
+            let ended = start_with(&&heap, &mut session, start);
             drop(session);
             ended
         }
@@ -238,82 +217,75 @@ fn heaps(rt: HostRuntime) {
     assert!(rt; 0 < refused && refused < 512, "{refused}");
 }
 
-struct Case {
-    words: &'static [&'static str],
-    output: &'static str,
-    errors: &'static str,
-    status: u8,
-}
+const NOT_A_STEP: &str = "lrudb: /proc/version: line 1: not a step\n";
 
+const NO_FILE: &str = "lrudb: no such file: cannot read\n";
+
+// Words, the status, and what is told: the answers where that is 0, and else the fault.
 // A file without a byte, a folder, which can be opened and not read, and a file of lines that are no steps.
-static CASES: [Case; 9] = [
-    Case {
-        words: &["run", "--start", "/dev/null", "--start=/dev/null"],
-        output: "NODE 0\r\n",
-        errors: "",
-        status: 0,
-    },
-    Case {
-        words: &["record", "--start", "/dev/null", "/dev/null"],
-        output: "END\r\n",
-        errors: "",
-        status: 0,
-    },
-    Case {
-        words: &["run", "--start", "/dev/null", "--start", "/proc/version"],
-        output: "",
-        errors: "lrudb: /proc/version: line 1: not a step\n",
-        status: 5,
-    },
-    Case {
-        words: &["record", "--start", "/proc/version", "/dev/null"],
-        output: "",
-        errors: "lrudb: /proc/version: line 1: not a step\n",
-        status: 5,
-    },
-    Case {
-        words: &["run", "--start", "/", "--start", "/proc/version"],
-        output: "",
-        errors: "lrudb: /: cannot read\n",
-        status: 4,
-    },
+static CASES: [(&[&str], u8, &str); 9] = [
+    (
+        &["run", "--start", "/dev/null", "--start=/dev/null"],
+        0,
+        "NODE 0\r\n",
+    ),
+    (
+        &["record", "--start", "/dev/null", "/dev/null"],
+        0,
+        "END\r\n",
+    ),
+    (
+        &["run", "--start", "/dev/null", "--start", "/proc/version"],
+        5,
+        NOT_A_STEP,
+    ),
+    (
+        &["record", "--start", "/proc/version", "/dev/null"],
+        5,
+        NOT_A_STEP,
+    ),
+    (
+        &["run", "--start", "/", "--start", "/proc/version"],
+        4,
+        "lrudb: /: cannot read\n",
+    ),
     // All files are opened before one is read.
-    Case {
-        words: &["run", "--start", "/proc/version", "--start", "no such file"],
-        output: "",
-        errors: "lrudb: no such file: cannot read\n",
-        status: 4,
-    },
-    Case {
-        words: &["record", "--start", "/proc/version", "no such file"],
-        output: "",
-        errors: "lrudb: no such file: cannot read\n",
-        status: 4,
-    },
+    (
+        &["run", "--start", "/proc/version", "--start", "no such file"],
+        4,
+        NO_FILE,
+    ),
+    (
+        &["record", "--start", "/proc/version", "no such file"],
+        4,
+        NO_FILE,
+    ),
     // The configuration is looked at before a file is opened.
-    Case {
-        words: &["run", "--page-size", "1001", "--start", "no such file"],
-        output: "",
-        errors: "lrudb: bad configuration: page\n--page-size: Bytes of a slab page: 256 to 1048576, a multiple of 8\n",
-        status: 2,
-    },
-    Case {
-        words: &["run", "--heap", "4096", "--start", "/dev/null"],
-        output: "",
-        errors: "lrudb: out of memory\n",
-        status: 3,
-    },
+    (
+        &["run", "--page-size", "1001", "--start", "no such file"],
+        2,
+        "lrudb: bad configuration: page\n--page-size: Bytes of a slab page: 256 to 1048576, a multiple of 8\n",
+    ),
+    (
+        &["run", "--heap", "4096", "--start", "/dev/null"],
+        3,
+        "lrudb: out of memory\n",
+    ),
 ];
 
 #[test]
 fn words(rt: HostRuntime) {
-    for case in &CASES {
-        let words = case.words;
+    for (words, wanted, told) in &CASES {
+        let (answers, fault) = if *wanted == 0 {
+            (*told, "")
+        } else {
+            ("", *told)
+        };
         let mut output: Vec<u8> = Vec::new(rt.alloc());
         let mut errors: Vec<u8> = Vec::new(rt.alloc());
         let status = program(
             &rt,
-            words,
+            *words,
             b":at\r\n".as_slice(),
             &mut output,
             &mut ToWrite::new(&mut errors),
@@ -321,9 +293,7 @@ fn words(rt: HostRuntime) {
         );
         let told = std::str::from_utf8(errors.as_slice()).unwrap_or("");
         assert!(rt;
-            status == case.status
-                && output.as_slice() == case.output.as_bytes()
-                && told == case.errors,
+            status == *wanted && output.as_slice() == answers.as_bytes() && told == fault,
             "{words:?}: {status} {told}"
         );
     }

@@ -1,8 +1,8 @@
 //! From files to files, and no half file; and what is told meanwhile.
+use crate::classes::SMALL_PAGES;
 use crate::imports::disk::{Disk, Room};
 use crate::imports::{LOG, SETTINGS};
 use crate::streams::Stutter;
-use rev_classes::Config;
 use rev_import::policy::Rhythm;
 use rev_import::sample::Sample;
 use rev_import_commands::import::import_watch;
@@ -135,65 +135,50 @@ fn named(rt: &impl Abort, alloc: Global, name: &str) -> Vec<String> {
     names
 }
 
-// The status of a session on the log in a room, behind a start, of which this is read.
-fn opened_log(
-    rt: &impl Abort,
-    alloc: Global,
-    room: &Room,
-    output: &mut Vec<u8>,
-    errors: &mut Vec<u8>,
-) -> u8 {
-    let asked = WatchOpening {
+// A session on the log, behind a start.
+fn on_log(rt: &impl Abort, alloc: Global) -> WatchOpening {
+    WatchOpening {
         manner: MANNER,
         starts: named(rt, alloc, "start"),
         logs: named(rt, alloc, "log"),
         settings: text(rt, alloc, "settings"),
         factor: None,
         rhythm: Rhythm::Lean,
-    };
-    open_watch(
-        &Disk { room },
-        asked,
-        Stutter::new(b":at\n"),
-        output,
-        &mut ToWrite::new(errors),
-        &Progress::<Seconds, ToWrite<Vec<u8>>>::hidden(),
-    )
+    }
 }
 
 // The same on the table.
-fn opened_table(
-    rt: &impl Abort,
-    alloc: Global,
-    room: &Room,
-    output: &mut Vec<u8>,
-    errors: &mut Vec<u8>,
-) -> u8 {
-    let asked = CsvOpening {
-        config: Config {
-            page_size: 1024,
-            pages: 64,
-            num: 5,
-            den: 4,
-            bump: 64,
-            hash_power: 4,
-            temp_ttl: -1,
-            now: 1,
-        },
+fn on_table(rt: &impl Abort, alloc: Global) -> CsvOpening {
+    CsvOpening {
+        config: SMALL_PAGES,
         manner: MANNER,
         starts: named(rt, alloc, "start"),
         traces: named(rt, alloc, "table"),
         rhythm: Rhythm::None,
         sample: Sample { one_of: 1 },
-    };
-    open_csv(
-        &Disk { room },
-        asked,
-        Stutter::new(b":at\n"),
-        output,
-        &mut ToWrite::new(errors),
-        &Progress::<Seconds, ToWrite<Vec<u8>>>::hidden(),
-    )
+    }
+}
+
+// The status of a session in a room, on the log or on the table, behind a start.
+fn opened(
+    rt: &impl Abort,
+    alloc: Global,
+    is_log: bool,
+    room: &Room,
+    output: &mut Vec<u8>,
+    errors: &mut Vec<u8>,
+) -> u8 {
+    let disk = Disk { room };
+    let script = Stutter::new(b":at\n");
+    let mut errors = ToWrite::new(errors);
+    let progress = Progress::<Seconds, ToWrite<Vec<u8>>>::hidden();
+    if is_log {
+        let asked = on_log(rt, alloc);
+        open_watch(&disk, asked, script, output, &mut errors, &progress)
+    } else {
+        let asked = on_table(rt, alloc);
+        open_csv(&disk, asked, script, output, &mut errors, &progress)
+    }
 }
 
 // A session behind each call on a file that fails in turn: it is told, and nothing is answered. Else this is answered.
@@ -205,11 +190,7 @@ fn fail_open_in_turn(rt: &impl Abort, alloc: Global, is_log: bool, answer: &str)
         room.put("table", TABLE).expect(rt, "no memory");
         let mut output: Vec<u8> = Vec::new(alloc);
         let mut errors: Vec<u8> = Vec::new(alloc);
-        let status = if is_log {
-            opened_log(rt, alloc, &room, &mut output, &mut errors)
-        } else {
-            opened_table(rt, alloc, &room, &mut output, &mut errors)
-        };
+        let status = opened(rt, alloc, is_log, &room, &mut output, &mut errors);
         let told = std::str::from_utf8(errors.as_slice()).unwrap_or("");
         if room.waits() {
             assert!(rt;

@@ -5,10 +5,11 @@ use crate::classes::DEFAULTS;
 use crate::memory::parts::SMALL;
 use crate::memory::pictures::session_picture;
 use crate::owned::{is_made, session_over};
+use crate::storing::store_of;
 use linked_list_allocator::LocalHeap;
 use rev_inverse::Store;
 use rev_items::Key;
-use rev_steps::{ActorStep, ClientStep, Payload, Step, StoreVerb, apply};
+use rev_steps::{ActorStep, Payload, Step, StoreVerb, apply};
 use rev_undotree::{NodeId, PlayFault, Session};
 use std::alloc::Global;
 use std::process::Abort;
@@ -35,13 +36,8 @@ fn set_of<'a, R: Abort>(
     let key = Key::new(heap, name.as_bytes()).expect(rt, "no key");
     let mut data = Vec::with_capacity(heap, DATA).expect(rt, "no memory");
     data.resize(DATA, b'x').expect(rt, "no memory");
-    Step::Client(ClientStep::Store {
-        verb: StoreVerb::Set,
-        key,
-        flags: 0,
-        exptime: 0,
-        data: Payload::from_vec(data).expect(rt, "no memory"),
-    })
+    let data = Payload::from_vec(data).expect(rt, "no memory");
+    store_of(StoreVerb::Set, key, data)
 }
 
 // Stores an item under the key of this number. The record of the step is dropped.

@@ -226,6 +226,13 @@ fn stay_within_an_eighth<R: Abort>(rt: &R, cache: &mut Cache<'_>) {
     }
 }
 
+// More buckets, which take so much, come at the next step, and did not come before.
+fn ask_now<R: Abort>(rt: &R, cache: &mut Cache<'_>, spare: usize, taken: usize) {
+    assert!(rt; cache.taken_since(spare) == 0, "asked too soon");
+    cache.idle(rt);
+    assert!(rt; cache.taken_since(spare) == taken, "not asked again");
+}
+
 fn asked_again_with_more_keys<R: Abort>(rt: &R, alloc: Global, heap: &LocalHeap) {
     let mut cache = Cache::new(rt, heap);
     let spare = cache.spare();
@@ -235,9 +242,7 @@ fn asked_again_with_more_keys<R: Abort>(rt: &R, alloc: Global, heap: &LocalHeap)
     }
     stay_within_an_eighth(rt, &mut cache);
     cache.add_up_to(rt, 38);
-    assert!(rt; cache.taken_since(spare) == 0, "asked too soon");
-    cache.idle(rt);
-    assert!(rt; cache.taken_since(spare) == FOUR_TIMES, "not asked again");
+    ask_now(rt, &mut cache, spare, FOUR_TIMES);
     drop(cache);
 }
 
@@ -254,9 +259,7 @@ fn asked_again_after_fewer_keys<R: Abort>(rt: &R, alloc: Global, heap: &LocalHea
     cache.remove_down_to(rt, 28);
     cache.idle(rt);
     cache.add_up_to(rt, CROWD);
-    assert!(rt; cache.taken_since(spare) == 0, "asked too soon");
-    cache.idle(rt);
-    assert!(rt; cache.taken_since(spare) == FOUR_TIMES, "not asked again");
+    ask_now(rt, &mut cache, spare, FOUR_TIMES);
     drop(cache);
 }
 
@@ -274,9 +277,7 @@ fn put_off<R: Abort>(rt: &R, alloc: Global, heap: &LocalHeap) {
         cache.idle_with(rt, alloc, 0);
         cache.add(rt);
     }
-    assert!(rt; cache.taken_since(spare) == 0, "asked too soon");
-    cache.idle(rt);
-    assert!(rt; cache.taken_since(spare) == SIXTEEN_TIMES);
+    ask_now(rt, &mut cache, spare, SIXTEEN_TIMES);
     cache.remove_down_to(rt, 0);
     cache.add_up_to(rt, 136);
     cache.idle(rt);

@@ -86,25 +86,22 @@ static CASES: [Case; 5] = [
     Case {
         name: "the first play",
         before: &[],
-        command: Command::Store(StoreVerb::Set, "a", 1),
+        command: Command::Set("a", 1),
     },
     Case {
         name: "a play that continues a run",
-        before: &[Turn::Play(Command::Store(StoreVerb::Set, "a", 1))],
+        before: &[Turn::Play(Command::Set("a", 1))],
         command: Command::Keyed(KeyCommand::Get, "a"),
     },
     Case {
         name: "the first fork of the root",
-        before: &[
-            Turn::Play(Command::Store(StoreVerb::Set, "a", 1)),
-            Turn::Back,
-        ],
-        command: Command::Store(StoreVerb::Set, "b", 1),
+        before: &[Turn::Play(Command::Set("a", 1)), Turn::Back],
+        command: Command::Set("b", 1),
     },
     Case {
         name: "the first fork of a run",
         before: &[
-            Turn::Play(Command::Store(StoreVerb::Set, "a", 1)),
+            Turn::Play(Command::Set("a", 1)),
             Turn::Play(Command::Keyed(KeyCommand::Get, "a")),
             Turn::Back,
         ],
@@ -113,12 +110,12 @@ static CASES: [Case; 5] = [
     Case {
         name: "the second fork of a node",
         before: &[
-            Turn::Play(Command::Store(StoreVerb::Set, "a", 1)),
+            Turn::Play(Command::Set("a", 1)),
             Turn::Back,
-            Turn::Play(Command::Store(StoreVerb::Set, "b", 1)),
+            Turn::Play(Command::Set("b", 1)),
             Turn::Back,
         ],
-        command: Command::Store(StoreVerb::Set, "c", 1),
+        command: Command::Set("c", 1),
     },
 ];
 
@@ -230,7 +227,7 @@ fn crowded<'a, R: Abort>(rt: &R, heap: &'a LocalHeap) -> Session<&'a LocalHeap> 
     let store = Store::open(heap, config).expect(rt, "no store");
     let mut session = session_over(rt, heap, store);
     for name in &CROWD {
-        let set = Command::Store(StoreVerb::Set, *name, 1);
+        let set = Command::Set(*name, 1);
         take_turn(rt, heap, &mut session, Turn::Play(set));
     }
     session
@@ -299,8 +296,8 @@ fn more_buckets(rt: HostRuntime) {
 
 // A key's story that has three events.
 static LIFE: [Turn; 3] = [
-    Turn::Play(Command::Store(StoreVerb::Set, "a", 1)),
-    Turn::Play(Command::Store(StoreVerb::Set, "a", 2)),
+    Turn::Play(Command::Set("a", 1)),
+    Turn::Play(Command::Set("a", 2)),
     Turn::Play(Command::Keyed(KeyCommand::Delete, "a")),
 ];
 

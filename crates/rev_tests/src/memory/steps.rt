@@ -1,4 +1,5 @@
 //! Steps for the tests.
+use crate::storing::store_of;
 use rev_items::Key;
 use rev_steps::{ActorStep, ClientStep, JoinSide, KeyCommand, Payload, Step, StoreVerb, Tune};
 use std::alloc::Allocator;
@@ -7,6 +8,7 @@ use std::process::Abort;
 /// A step of the tests, by its key's name and how many digits `1` its data are.
 #[derive(Clone, Copy)]
 pub enum Command {
+    Set(&'static str, usize),
     Store(StoreVerb, &'static str, usize),
     Join(JoinSide, &'static str, usize),
     Keyed(KeyCommand, &'static str),
@@ -27,36 +29,15 @@ fn key_of<R: Abort, A: Allocator>(rt: &R, alloc: A, name: &str) -> Key<A> {
     Key::new(alloc, name.as_bytes()).expect(rt, "no key")
 }
 
-fn store_of<R: Abort, A: Allocator + Clone>(
+// The key of this name and so many digits, for a step.
+fn key_and_data<R: Abort, A: Allocator + Clone>(
     rt: &R,
     alloc: A,
-    verb: StoreVerb,
     name: &str,
     digits: usize,
-) -> ClientStep<A> {
+) -> (Key<A>, Payload<A>) {
     let key = key_of(rt, alloc.clone().expect(rt, "no memory"), name);
-    ClientStep::Store {
-        verb,
-        key,
-        flags: 0,
-        exptime: 0,
-        data: data_of(rt, alloc, digits),
-    }
-}
-
-fn join_of<R: Abort, A: Allocator + Clone>(
-    rt: &R,
-    alloc: A,
-    side: JoinSide,
-    name: &str,
-    digits: usize,
-) -> ClientStep<A> {
-    let key = key_of(rt, alloc.clone().expect(rt, "no memory"), name);
-    ClientStep::Join {
-        side,
-        key,
-        data: data_of(rt, alloc, digits),
-    }
+    (key, data_of(rt, alloc, digits))
 }
 
 fn numbered_name<R: Abort, A: Allocator>(rt: &R, alloc: A, number: usize) -> String<A> {
@@ -66,7 +47,8 @@ fn numbered_name<R: Abort, A: Allocator>(rt: &R, alloc: A, number: usize) -> Str
 /// A set of the key of this number.
 pub fn set_of<R: Abort, A: Allocator + Clone>(rt: &R, alloc: A, number: usize) -> Step<A> {
     let name = numbered_name(rt, alloc.clone().expect(rt, "no memory"), number);
-    Step::Client(store_of(rt, alloc, StoreVerb::Set, name.as_str(), 1))
+    let (key, data) = key_and_data(rt, alloc, name.as_str(), 1);
+    store_of(StoreVerb::Set, key, data)
 }
 
 /// The key of this number.
@@ -87,8 +69,18 @@ pub fn delete_of<R: Abort, A: Allocator + Clone>(rt: &R, alloc: A, number: usize
 /// The step of a command.
 pub fn step_of<R: Abort, A: Allocator + Clone>(rt: &R, alloc: A, command: Command) -> Step<A> {
     match command {
-        Command::Store(verb, name, digits) => Step::Client(store_of(rt, alloc, verb, name, digits)),
-        Command::Join(side, name, digits) => Step::Client(join_of(rt, alloc, side, name, digits)),
+        Command::Set(name, digits) => {
+            let (key, data) = key_and_data(rt, alloc, name, digits);
+            store_of(StoreVerb::Set, key, data)
+        }
+        Command::Store(verb, name, digits) => {
+            let (key, data) = key_and_data(rt, alloc, name, digits);
+            store_of(verb, key, data)
+        }
+        Command::Join(side, name, digits) => {
+            let (key, data) = key_and_data(rt, alloc, name, digits);
+            Step::Client(ClientStep::Join { side, key, data })
+        }
         Command::Keyed(command, name) => Step::Client(ClientStep::Keyed {
             command,
             key: key_of(rt, alloc, name),

@@ -80,249 +80,172 @@ fn rooms(rt: HostRuntime) {
 // A key that takes memory of its own.
 const LONG_KEY: &str = "a-key-that-takes-memory-of-its-own";
 
+const SET: Command = Command::Set("a", 1);
+
+// Each takes a page.
+const LARGE_A: Command = Command::Set("a", 964);
+
+const LARGE_B: Command = Command::Set("b", 964);
+
+const GET: Command = Command::Keyed(KeyCommand::Get, "a");
+
+const PULL: Command = Command::Actor(ActorStep::Pull {
+    class: 1,
+    queue: Queue::Hot,
+});
+
+const START_CRAWL: Command = Command::Actor(ActorStep::StartCrawl(ClassSet::All));
+
+const REASSIGN: Command = Command::Actor(ActorStep::Reassign {
+    source: 11,
+    target: 1,
+});
+
+const ADVANCE: Command = Command::Actor(ActorStep::Advance);
+
+// One item, of the least data and of three digits.
+const ONE: &[Command] = &[SET];
+
+const ONE_OF_3: &[Command] = &[Command::Set("a", 3)];
+
+// A step that is tried: its name, how many pages the store has, which commands go before it, and its own.
 #[derive(Clone, Copy)]
-struct Case {
-    name: &'static str,
-    pages: u32,
-    before: &'static [Command],
-    command: Command,
-}
+struct Case(&'static str, u32, &'static [Command], Command);
 
 static CASES: [Case; 30] = [
-    Case {
-        name: "a set that makes a page",
-        pages: 1,
-        before: &[],
-        command: Command::Store(StoreVerb::Set, "a", 1),
-    },
-    Case {
-        name: "a set with a long key",
-        pages: 1,
-        before: &[Command::Store(StoreVerb::Set, LONG_KEY, 1)],
-        command: Command::Store(StoreVerb::Set, LONG_KEY, 2),
-    },
-    Case {
-        name: "a set that takes a free chunk",
-        pages: 1,
-        before: &[Command::Store(StoreVerb::Set, "a", 1)],
-        command: Command::Store(StoreVerb::Set, "b", 1),
-    },
-    Case {
-        name: "a set that replaces an item of its class",
-        pages: 1,
-        before: &[Command::Store(StoreVerb::Set, "a", 1)],
-        command: Command::Store(StoreVerb::Set, "a", 2),
-    },
-    Case {
-        name: "a set that replaces an item of another class, and makes a page",
-        pages: 1,
-        before: &[Command::Store(StoreVerb::Set, "a", 1)],
-        command: Command::Store(StoreVerb::Set, "a", 500),
-    },
-    Case {
-        name: "a set for which an item is evicted",
-        pages: 1,
-        before: &[Command::Store(StoreVerb::Set, "a", 964)],
-        command: Command::Store(StoreVerb::Set, "b", 964),
-    },
-    Case {
-        name: "a set that is too large",
-        pages: 1,
-        before: &[Command::Store(StoreVerb::Set, "a", 1)],
-        command: Command::Store(StoreVerb::Set, "a", 2000),
-    },
-    Case {
-        name: "an add",
-        pages: 1,
-        before: &[],
-        command: Command::Store(StoreVerb::Add, "a", 1),
-    },
-    Case {
-        name: "a replace",
-        pages: 1,
-        before: &[Command::Store(StoreVerb::Set, "a", 1)],
-        command: Command::Store(StoreVerb::Replace, "a", 2),
-    },
-    Case {
-        name: "a cas",
-        pages: 1,
-        before: &[Command::Store(StoreVerb::Set, "a", 1)],
-        command: Command::Store(StoreVerb::Cas(1), "a", 2),
-    },
-    Case {
-        name: "a cas of another number, which makes a page",
-        pages: 1,
-        before: &[Command::Store(StoreVerb::Set, "a", 1)],
-        command: Command::Store(StoreVerb::Cas(7), "a", 500),
-    },
-    Case {
-        name: "an append that needs a larger chunk",
-        pages: 1,
-        before: &[Command::Store(StoreVerb::Set, "a", 100)],
-        command: Command::Join(JoinSide::Append, "a", 200),
-    },
-    Case {
-        name: "a prepend for which its own item is evicted",
-        pages: 1,
-        before: &[Command::Store(StoreVerb::Set, "a", 960)],
-        command: Command::Join(JoinSide::Prepend, "a", 4),
-    },
-    Case {
-        name: "an incr",
-        pages: 1,
-        before: &[Command::Store(StoreVerb::Set, "a", 3)],
-        command: Command::Keyed(KeyCommand::Count(Arithmetic::Increment(9)), "a"),
-    },
-    Case {
-        name: "a decr",
-        pages: 1,
-        before: &[Command::Store(StoreVerb::Set, "a", 3)],
-        command: Command::Keyed(KeyCommand::Count(Arithmetic::Decrement(9)), "a"),
-    },
-    Case {
-        name: "a get",
-        pages: 1,
-        before: &[Command::Store(StoreVerb::Set, "a", 1)],
-        command: Command::Keyed(KeyCommand::Get, "a"),
-    },
-    Case {
-        name: "a touch",
-        pages: 1,
-        before: &[Command::Store(StoreVerb::Set, "a", 1)],
-        command: Command::Keyed(KeyCommand::Touch(100), "a"),
-    },
-    Case {
-        name: "a delete",
-        pages: 1,
-        before: &[
-            Command::Store(StoreVerb::Set, "b", 1),
-            Command::Store(StoreVerb::Set, "a", 1),
-        ],
-        command: Command::Keyed(KeyCommand::Delete, "a"),
-    },
-    Case {
-        name: "a flush",
-        pages: 1,
-        before: &[Command::Store(StoreVerb::Set, "a", 1)],
-        command: Command::FlushAll,
-    },
-    Case {
-        name: "a pull",
-        pages: 1,
-        before: &[
-            Command::Store(StoreVerb::Set, "a", 1),
-            Command::Store(StoreVerb::Set, "b", 1),
-        ],
-        command: Command::Actor(ActorStep::Pull {
+    Case("a set that makes a page", 1, &[], SET),
+    Case(
+        "a set with a long key",
+        1,
+        &[Command::Set(LONG_KEY, 1)],
+        Command::Set(LONG_KEY, 2),
+    ),
+    Case(
+        "a set that takes a free chunk",
+        1,
+        ONE,
+        Command::Set("b", 1),
+    ),
+    Case(
+        "a set that replaces an item of its class",
+        1,
+        ONE,
+        Command::Set("a", 2),
+    ),
+    Case(
+        "a set that replaces an item of another class, and makes a page",
+        1,
+        ONE,
+        Command::Set("a", 500),
+    ),
+    Case(
+        "a set for which an item is evicted",
+        1,
+        &[Command::Set("a", 964)],
+        Command::Set("b", 964),
+    ),
+    Case("a set that is too large", 1, ONE, Command::Set("a", 2000)),
+    Case("an add", 1, &[], Command::Store(StoreVerb::Add, "a", 1)),
+    Case(
+        "a replace",
+        1,
+        ONE,
+        Command::Store(StoreVerb::Replace, "a", 2),
+    ),
+    Case("a cas", 1, ONE, Command::Store(StoreVerb::Cas(1), "a", 2)),
+    Case(
+        "a cas of another number, which makes a page",
+        1,
+        ONE,
+        Command::Store(StoreVerb::Cas(7), "a", 500),
+    ),
+    Case(
+        "an append that needs a larger chunk",
+        1,
+        &[Command::Set("a", 100)],
+        Command::Join(JoinSide::Append, "a", 200),
+    ),
+    Case(
+        "a prepend for which its own item is evicted",
+        1,
+        &[Command::Set("a", 960)],
+        Command::Join(JoinSide::Prepend, "a", 4),
+    ),
+    Case(
+        "an incr",
+        1,
+        ONE_OF_3,
+        Command::Keyed(KeyCommand::Count(Arithmetic::Increment(9)), "a"),
+    ),
+    Case(
+        "a decr",
+        1,
+        ONE_OF_3,
+        Command::Keyed(KeyCommand::Count(Arithmetic::Decrement(9)), "a"),
+    ),
+    Case("a get", 1, ONE, GET),
+    Case(
+        "a touch",
+        1,
+        ONE,
+        Command::Keyed(KeyCommand::Touch(100), "a"),
+    ),
+    Case(
+        "a delete",
+        1,
+        &[Command::Set("b", 1), SET],
+        Command::Keyed(KeyCommand::Delete, "a"),
+    ),
+    Case("a flush", 1, ONE, Command::FlushAll),
+    Case("a pull", 1, &[SET, Command::Set("b", 1)], PULL),
+    Case(
+        "a bump",
+        1,
+        &[SET, PULL, GET, GET],
+        Command::Actor(ActorStep::Bump),
+    ),
+    Case("a crawl's start", 1, ONE, START_CRAWL),
+    Case(
+        "a crawl",
+        1,
+        &[SET, START_CRAWL],
+        Command::Actor(ActorStep::Crawl {
             class: 1,
             queue: Queue::Hot,
         }),
-    },
-    Case {
-        name: "a bump",
-        pages: 1,
-        before: &[
-            Command::Store(StoreVerb::Set, "a", 1),
-            Command::Actor(ActorStep::Pull {
-                class: 1,
-                queue: Queue::Hot,
-            }),
-            Command::Keyed(KeyCommand::Get, "a"),
-            Command::Keyed(KeyCommand::Get, "a"),
-        ],
-        command: Command::Actor(ActorStep::Bump),
-    },
-    Case {
-        name: "a crawl's start",
-        pages: 1,
-        before: &[Command::Store(StoreVerb::Set, "a", 1)],
-        command: Command::Actor(ActorStep::StartCrawl(ClassSet::All)),
-    },
-    Case {
-        name: "a crawl",
-        pages: 1,
-        before: &[
-            Command::Store(StoreVerb::Set, "a", 1),
-            Command::Actor(ActorStep::StartCrawl(ClassSet::All)),
-        ],
-        command: Command::Actor(ActorStep::Crawl {
-            class: 1,
-            queue: Queue::Hot,
-        }),
-    },
-    Case {
-        name: "a page move's start",
-        pages: 2,
-        before: &[
-            Command::Store(StoreVerb::Set, "a", 964),
-            Command::Store(StoreVerb::Set, "b", 964),
-        ],
-        command: Command::Actor(ActorStep::Reassign {
-            source: 11,
-            target: 1,
-        }),
-    },
-    Case {
-        name: "an advance that rescues an item",
-        pages: 2,
-        before: &[
-            Command::Store(StoreVerb::Set, "a", 150),
-            Command::Store(StoreVerb::Set, "b", 150),
-            Command::Store(StoreVerb::Set, "c", 150),
-            Command::Store(StoreVerb::Set, "d", 150),
-            Command::Store(StoreVerb::Set, "e", 150),
+    ),
+    Case("a page move's start", 2, &[LARGE_A, LARGE_B], REASSIGN),
+    Case(
+        "an advance that rescues an item",
+        2,
+        &[
+            Command::Set("a", 150),
+            Command::Set("b", 150),
+            Command::Set("c", 150),
+            Command::Set("d", 150),
+            Command::Set("e", 150),
             Command::Actor(ActorStep::Reassign {
                 source: 5,
                 target: 1,
             }),
         ],
-        command: Command::Actor(ActorStep::Advance),
-    },
-    Case {
-        name: "an advance that evicts an item",
-        pages: 2,
-        before: &[
-            Command::Store(StoreVerb::Set, "a", 964),
-            Command::Store(StoreVerb::Set, "b", 964),
-            Command::Actor(ActorStep::Reassign {
-                source: 11,
-                target: 1,
-            }),
-        ],
-        command: Command::Actor(ActorStep::Advance),
-    },
-    Case {
-        name: "the last advance, which lays the page",
-        pages: 2,
-        before: &[
-            Command::Store(StoreVerb::Set, "a", 964),
-            Command::Store(StoreVerb::Set, "b", 964),
-            Command::Actor(ActorStep::Reassign {
-                source: 11,
-                target: 1,
-            }),
-            Command::Actor(ActorStep::Advance),
-        ],
-        command: Command::Actor(ActorStep::Advance),
-    },
-    Case {
-        name: "a clock",
-        pages: 1,
-        before: &[],
-        command: Command::Actor(ActorStep::Clock(5)),
-    },
-    Case {
-        name: "a tune",
-        pages: 1,
-        before: &[],
-        command: Command::Tune,
-    },
-    Case {
-        name: "a temp_ttl",
-        pages: 1,
-        before: &[],
-        command: Command::Actor(ActorStep::TempTtl(60)),
-    },
+        ADVANCE,
+    ),
+    Case(
+        "an advance that evicts an item",
+        2,
+        &[LARGE_A, LARGE_B, REASSIGN],
+        ADVANCE,
+    ),
+    Case(
+        "the last advance, which lays the page",
+        2,
+        &[LARGE_A, LARGE_B, REASSIGN, ADVANCE],
+        ADVANCE,
+    ),
+    Case("a clock", 1, &[], Command::Actor(ActorStep::Clock(5))),
+    Case("a tune", 1, &[], Command::Tune),
+    Case("a temp_ttl", 1, &[], Command::Actor(ActorStep::TempTtl(60))),
 ];
 
 // Applies a step, and tells whether there was memory for it.
@@ -385,16 +308,16 @@ fn store_after<'a, R: Abort>(
 impl Trial for Case {
     // A store that was refused memory tells what it told before.
     fn attempt<R: Abort>(&self, rt: &R, alloc: Global, heap: &LocalHeap, left: usize) -> bool {
-        let mut store = store_after(rt, heap, self.pages, self.before);
-        let before = picture_of(rt, alloc, &store);
+        let Case(name, pages, before, command) = *self;
+        let mut store = store_after(rt, heap, pages, before);
+        let earlier = picture_of(rt, alloc, &store);
         let free = heap.free();
-        let is_done = try_apply(rt, alloc, heap, &mut store, self.command, left);
+        let is_done = try_apply(rt, alloc, heap, &mut store, command, left);
         let is_given_back = is_done || heap.free() == free;
         let after = picture_of(rt, alloc, &store);
         drop(store);
-        let name = self.name;
         assert!(rt;
-            is_given_back && before.is_same(&after) != is_done,
+            is_given_back && earlier.is_same(&after) != is_done,
             "{name}: {left} bytes left"
         );
         is_done
@@ -404,7 +327,7 @@ impl Trial for Case {
 #[test]
 fn applies(rt: HostRuntime) {
     for case in &CASES {
-        refuse_in_turn(&rt, rt.alloc(), case.name, case);
+        refuse_in_turn(&rt, rt.alloc(), case.0, case);
     }
 }
 

@@ -1,6 +1,7 @@
 //! Files in memory, played at once, of which one cannot be read to its end.
+use crate::classes::SMALL_PAGES;
 use crate::players::streams::Failing;
-use rev_classes::{Config, fault_of};
+use rev_classes::fault_of;
 use rev_output::ToWrite;
 use rev_recordings::play::play_files;
 use rev_script::dialect::Dialect;
@@ -9,17 +10,6 @@ use std::io::{Read, Write};
 use std::process::Abort;
 use std::sync::Wait;
 use std::thread::Threads;
-
-const CONFIG: Config = Config {
-    page_size: 1024,
-    pages: 64,
-    num: 5,
-    den: 4,
-    bump: 64,
-    hash_power: 4,
-    temp_ttl: -1,
-    now: 1,
-};
 
 // The status of a recording of these files. What is told goes to `errors`.
 fn status_of<R: Threads + Wait + Sync + AllocGlobal + Abort, F: Read + Drop, W: Write>(
@@ -30,10 +20,10 @@ fn status_of<R: Threads + Wait + Sync + AllocGlobal + Abort, F: Read + Drop, W: 
 ) -> u8 {
     let count = files.len();
     assert!(rt; 1 <= count && count <= 8, "{count} files");
-    if let Some(fault) = fault_of(&CONFIG) {
+    if let Some(fault) = fault_of(&SMALL_PAGES) {
         panic!(rt; "{fault}");
     }
-    match open_session(&rt.alloc(), &CONFIG) {
+    match open_session(&rt.alloc(), &SMALL_PAGES) {
         Some(session) => play_files(
             rt,
             session,

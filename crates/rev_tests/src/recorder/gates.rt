@@ -38,6 +38,12 @@ impl Gate for Open {
     fn after(&self, _player: usize, _index: usize) {}
 }
 
+// A gate at which one player waits for another.
+trait Waits: Gate {
+    // Whether the other one did not come in time.
+    fn is_missed(&self) -> bool;
+}
+
 // Each of two players waits, before its first step, for the other to be about to play its own.
 #[derive(Drop)]
 struct Meeting {
@@ -82,6 +88,12 @@ impl Gate for Meeting {
     fn after(&self, _player: usize, _index: usize) {}
 }
 
+impl Waits for Meeting {
+    fn is_missed(&self) -> bool {
+        self.is_missed.load(Ordering::SeqCst)
+    }
+}
+
 // One player waits, before its first step, until another's first step was answered.
 #[derive(Drop)]
 struct Answer {
@@ -113,6 +125,12 @@ impl Gate for Answer {
         if index == 0 && player == self.early {
             self.is_answered.store(true, Ordering::SeqCst);
         }
+    }
+}
+
+impl Waits for Answer {
+    fn is_missed(&self) -> bool {
+        self.is_missed.load(Ordering::SeqCst)
     }
 }
 
@@ -206,62 +224,43 @@ fn hands_of_each_number(rt: HostRuntime) {
     }
 }
 
-// Whether the two of so many players met.
-fn try_meeting<R: Threads + Wait + Sync + Abort>(
+// So many players record by a gate at which these two wait for one another, or one for the other.
+fn try_gate<R: Threads + Wait + Sync + Abort, G: Waits + Sync>(
     rt: &R,
     alloc: Global,
     players: usize,
-    first: usize,
-    second: usize,
+    pair: (usize, usize),
+    gate: &G,
 )
     requires { (1 ≤ players) × (players ≤ 8) }
 {
-    let gate = Meeting::new(first, second);
-    let ending = record_all(rt, alloc, players, &gate);
+    let (first, second) = pair;
+    let ending = record_all(rt, alloc, players, gate);
     assert_eq!(rt; ending, all_played(players));
-    assert!(rt;
-        !gate.is_missed.load(Ordering::SeqCst),
-        "{first} and {second} of {players}"
-    );
+    assert!(rt; !gate.is_missed(), "{first} and {second} of {players}");
 }
 
 #[test]
 fn gate_meet(rt: HostRuntime) {
-    try_meeting(&rt, rt.alloc(), 2, 0, 1);
+    try_gate(&rt, rt.alloc(), 2, (0, 1), &Meeting::new(0, 1));
     for first in 0..7 {
         for second in first + 1..8 {
-            try_meeting(&rt, rt.alloc(), 8, first, second);
+            let gate = Meeting::new(first, second);
+            try_gate(&rt, rt.alloc(), 8, (first, second), &gate);
         }
     }
 }
 
-// Whether the late one of so many players waited for the early one's answer.
-fn try_answer<R: Threads + Wait + Sync + Abort>(
-    rt: &R,
-    alloc: Global,
-    players: usize,
-    early: usize,
-    late: usize,
-)
-    requires { (1 ≤ players) × (players ≤ 8) }
-{
-    let gate = Answer::new(early, late);
-    let ending = record_all(rt, alloc, players, &gate);
-    assert_eq!(rt; ending, all_played(players));
-    assert!(rt;
-        !gate.is_missed.load(Ordering::SeqCst),
-        "{early} before {late} of {players}"
-    );
-}
-
+// The late one of so many players waits for the early one's answer.
 #[test]
 fn gate_answered(rt: HostRuntime) {
-    try_answer(&rt, rt.alloc(), 2, 0, 1);
-    try_answer(&rt, rt.alloc(), 2, 1, 0);
+    try_gate(&rt, rt.alloc(), 2, (0, 1), &Answer::new(0, 1));
+    try_gate(&rt, rt.alloc(), 2, (1, 0), &Answer::new(1, 0));
     for early in 0..8 {
         for late in 0..8 {
             if early != late {
-                try_answer(&rt, rt.alloc(), 8, early, late);
+                let gate = Answer::new(early, late);
+                try_gate(&rt, rt.alloc(), 8, (early, late), &gate);
             }
         }
     }

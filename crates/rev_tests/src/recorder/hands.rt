@@ -1,4 +1,5 @@
 //! Calls of one hand.
+use crate::storing::store_of;
 use rev_items::Key;
 use rev_recorder::{Call, Hand, Receipt, RecordFault, Recorder};
 use rev_requests::{ActorStep, ClientStep, KeyCommand, Payload, Step, StoreVerb};
@@ -17,13 +18,8 @@ pub fn set<R: Abort>(rt: &R, alloc: Global, name: &str) -> Step<Global> {
     let key = Key::new(alloc, name.as_bytes()).expect(rt, "no key");
     let mut data = Vec::new(alloc);
     data.push(b'x').expect(rt, "no memory");
-    Step::Client(ClientStep::Store {
-        verb: StoreVerb::Set,
-        key,
-        flags: 0,
-        exptime: 0,
-        data: Payload::from_vec(data).expect(rt, "no memory"),
-    })
+    let data = Payload::from_vec(data).expect(rt, "no memory");
+    store_of(StoreVerb::Set, key, data)
 }
 
 /// A command on a key that brings no data.

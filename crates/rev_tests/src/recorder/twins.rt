@@ -19,10 +19,7 @@ enum Ask {
 }
 
 // What the two hands of a recorder call, the first hand first.
-struct Calls {
-    first: &'static [Ask],
-    second: &'static [Ask],
-}
+struct Calls(&'static [Ask], &'static [Ask]);
 
 struct Case {
     name: &'static str,
@@ -36,134 +33,80 @@ struct Case {
 static CASES: [Case; 11] = [
     Case {
         name: "a call more",
-        own: Calls {
-            first: &[],
-            second: &[Ask::Clock(1)],
-        },
-        foreign: Calls {
-            first: &[],
-            second: &[Ask::Clock(1), Ask::Clock(2)],
-        },
+        own: Calls(&[], &[Ask::Clock(1)]),
+        foreign: Calls(&[], &[Ask::Clock(1), Ask::Clock(2)]),
         place: 1,
     },
     Case {
         name: "a call less",
-        own: Calls {
-            first: &[],
-            second: &[Ask::Clock(1), Ask::Clock(2)],
-        },
-        foreign: Calls {
-            first: &[],
-            second: &[Ask::Clock(1)],
-        },
+        own: Calls(&[], &[Ask::Clock(1), Ask::Clock(2)]),
+        foreign: Calls(&[], &[Ask::Clock(1)]),
         place: 1,
     },
     Case {
         name: "no call",
-        own: Calls {
-            first: &[Ask::Clock(1)],
-            second: &[Ask::Clock(2)],
-        },
-        foreign: Calls {
-            first: &[],
-            second: &[],
-        },
+        own: Calls(&[Ask::Clock(1)], &[Ask::Clock(2)]),
+        foreign: Calls(&[], &[]),
         place: 1,
     },
     Case {
         name: "no row",
-        own: Calls {
-            first: &[],
-            second: &[],
-        },
-        foreign: Calls {
-            first: &[],
-            second: &[Ask::Clock(1)],
-        },
+        own: Calls(&[], &[]),
+        foreign: Calls(&[], &[Ask::Clock(1)]),
         place: 0,
     },
     Case {
         name: "the other hand's row",
-        own: Calls {
-            first: &[Ask::Clock(1)],
-            second: &[],
-        },
-        foreign: Calls {
-            first: &[],
-            second: &[Ask::Clock(1)],
-        },
+        own: Calls(&[Ask::Clock(1)], &[]),
+        foreign: Calls(&[], &[Ask::Clock(1)]),
         place: 0,
     },
     Case {
         name: "an earlier call",
-        own: Calls {
-            first: &[Ask::Clock(1), Ask::Clock(1), Ask::Clock(1)],
-            second: &[Ask::Clock(1)],
-        },
-        foreign: Calls {
-            first: &[Ask::Clock(1), Ask::Clock(1)],
-            second: &[Ask::Clock(1), Ask::Clock(1)],
-        },
+        own: Calls(
+            &[Ask::Clock(1), Ask::Clock(1), Ask::Clock(1)],
+            &[Ask::Clock(1)],
+        ),
+        foreign: Calls(
+            &[Ask::Clock(1), Ask::Clock(1)],
+            &[Ask::Clock(1), Ask::Clock(1)],
+        ),
         place: 2,
     },
     Case {
         name: "a later call",
-        own: Calls {
-            first: &[Ask::Clock(1), Ask::Clock(1)],
-            second: &[Ask::Clock(1), Ask::Clock(1)],
-        },
-        foreign: Calls {
-            first: &[Ask::Clock(1), Ask::Clock(1), Ask::Clock(1)],
-            second: &[Ask::Clock(1)],
-        },
+        own: Calls(
+            &[Ask::Clock(1), Ask::Clock(1)],
+            &[Ask::Clock(1), Ask::Clock(1)],
+        ),
+        foreign: Calls(
+            &[Ask::Clock(1), Ask::Clock(1), Ask::Clock(1)],
+            &[Ask::Clock(1)],
+        ),
         place: 2,
     },
     Case {
         name: "another step",
-        own: Calls {
-            first: &[],
-            second: &[Ask::Set("a"), Ask::Set("b")],
-        },
-        foreign: Calls {
-            first: &[],
-            second: &[Ask::Set("a"), Ask::Set("c")],
-        },
+        own: Calls(&[], &[Ask::Set("a"), Ask::Set("b")]),
+        foreign: Calls(&[], &[Ask::Set("a"), Ask::Set("c")]),
         place: 1,
     },
     Case {
         name: "another outcome",
-        own: Calls {
-            first: &[Ask::Set("a")],
-            second: &[Ask::Clock(1), Ask::Get("a")],
-        },
-        foreign: Calls {
-            first: &[Ask::Clock(1)],
-            second: &[Ask::Clock(1), Ask::Get("a")],
-        },
+        own: Calls(&[Ask::Set("a")], &[Ask::Clock(1), Ask::Get("a")]),
+        foreign: Calls(&[Ask::Clock(1)], &[Ask::Clock(1), Ask::Get("a")]),
         place: 2,
     },
     Case {
         name: "another node",
-        own: Calls {
-            first: &[Ask::Clock(1)],
-            second: &[Ask::Clock(1), Ask::Go(1)],
-        },
-        foreign: Calls {
-            first: &[Ask::Clock(1)],
-            second: &[Ask::Clock(1), Ask::Go(2)],
-        },
+        own: Calls(&[Ask::Clock(1)], &[Ask::Clock(1), Ask::Go(1)]),
+        foreign: Calls(&[Ask::Clock(1)], &[Ask::Clock(1), Ask::Go(2)]),
         place: 2,
     },
     Case {
         name: "a refusal",
-        own: Calls {
-            first: &[],
-            second: &[Ask::Go(0)],
-        },
-        foreign: Calls {
-            first: &[],
-            second: &[Ask::Go(9)],
-        },
+        own: Calls(&[], &[Ask::Go(0)]),
+        foreign: Calls(&[], &[Ask::Go(9)]),
         place: 0,
     },
 ];
@@ -209,8 +152,8 @@ fn call_both<R: Wait + Abort>(
     let [first, second] = hands else {
         panic!(rt; "not two hands");
     };
-    call_all(rt, alloc, recorder, first, calls.first);
-    call_all(rt, alloc, recorder, second, calls.second);
+    call_all(rt, alloc, recorder, first, calls.0);
+    call_all(rt, alloc, recorder, second, calls.1);
 }
 
 // The second hand of a recorder whose hands made these calls.
@@ -251,14 +194,8 @@ fn foreign_hands(rt: HostRuntime) {
 // A hand and its twin that made the same calls.
 static SAME: Case = Case {
     name: "the same calls",
-    own: Calls {
-        first: &[Ask::Clock(1)],
-        second: &[Ask::Set("a"), Ask::Get("a")],
-    },
-    foreign: Calls {
-        first: &[Ask::Clock(1)],
-        second: &[Ask::Set("a"), Ask::Get("a")],
-    },
+    own: Calls(&[Ask::Clock(1)], &[Ask::Set("a"), Ask::Get("a")]),
+    foreign: Calls(&[Ask::Clock(1)], &[Ask::Set("a"), Ask::Get("a")]),
     place: 1,
 };
 
