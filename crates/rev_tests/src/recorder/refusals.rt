@@ -73,7 +73,7 @@ fn tick<R: Abort>(rt: &R, session: &mut Session<Global>) {
     }
 }
 
-// Forks off below each fork, and goes where one more play would make the 65th that is nested.
+// Forks off below each fork, so that a further fork would be the 65th.
 fn nest<R: Abort>(rt: &R, session: &mut Session<Global>) {
     tick(rt, session);
     tick(rt, session);
