@@ -1,6 +1,6 @@
 //! How far a work has come that reads files. It is told on a stream of its own, over and over on one line of a
 //! terminal.
-ghost use Rattle.std.specs.Prelude.{◌≡◌, map, true, false, None, Some};
+ghost use Rattle.std.specs.Prelude.{◌≡◌, ℕ, List, Option, map, true, false, None, Some};
 ghost use Rattle.rev_messages.specs.Progress.{asks_progress, percent, rate, progress_text};
 ghost use Rattle.rev_messages.specs.Telling.{Told};
 
@@ -259,20 +259,29 @@ fn size_of<R: Files>(rt: &R, name: &str) -> Option<u64> {
 
 /// A file of a work: its progress is told as the file is read.
 #[derive(Drop)]
-pub struct ToldFile<'p, F, C, W> {
+pub struct ToldFile<'p, F: Read, C, W> {
     file: F,
     progress: &'p Progress<C, W>,
 }
 
-impl<'p, F, C, W> ToldFile<'p, F, C, W> {
+impl<'p, F: Read, C, W> Model for ToldFile<'p, F, C, W> {
+    // the bytes of the file that were not read yet, where they are known
+    ghost Value = { Option (List ℕ) };
+
+    ghost view = { λ s. F.remaining s.file };
+}
+
+impl<'p, F: Read, C, W> ToldFile<'p, F, C, W> {
     /// A file of which nothing was read yet for this work.
-    pub fn new(file: F, progress: &'p Progress<C, W>) -> ToldFile<'p, F, C, W> {
+    pub fn new(file: F, progress: &'p Progress<C, W>) -> ToldFile<'p, F, C, W>
+        ensures { result ≡ F.remaining file }
+    {
         ToldFile { file, progress }
     }
 }
 
 impl<F: Read, C: Clock, W: Sink> Read for ToldFile<'_, F, C, W> {
-    ghost remaining = { λ s. F.remaining s.file };
+    ghost remaining = { λ s. s };
 
     fn read(&mut self, buf: &mut [u8]) -> io::Result<usize> {
         match self.file.read(buf) {
