@@ -12,9 +12,9 @@ use rev_output::{Sink, write_all};
 use rev_script::dialect::Dialect;
 use rev_script::lines::Lines;
 use rev_script::source::Source;
-use rev_shell::bookmarks::Bookmarks;
 use rev_shell::run::{NONE, Prompts, RunFault, Summary, answer_line, fault_at, is_bad, with_mark};
 use rev_undotree::Session;
+use rev_views::bookmarks::Bookmarks;
 use std::alloc::Global;
 
 // Plays the lines, from the first on, and writes what is told of each once it is done. `text` holds one answer.

@@ -8,8 +8,8 @@ use Rattle.rev_script.specs.Script.{lines}
 use Rattle.rev_script.specs.Source.{Told}
 use Rattle.rev_script.specs.Steps.{all_steps}
 use Rattle.rev_script.specs.declared.dialect.Dialect.{Dialect}
-use Rattle.rev_shell.specs.Kept.{Plays, IsFull, IsFilled}
-use Rattle.rev_shell.specs.Traces.{IsThrough}
+use Rattle.rev_plays.specs.Kept.{Plays, IsFull, IsFilled}
+use Rattle.rev_plays.specs.Traces.{IsThrough}
 use Rattle.rev_program.specs.Opening.{IsTrace}
 use Rattle.rev_program.specs.declared.opening.Full.{Full}
 

@@ -10,8 +10,8 @@ use Rattle.rev_undotree.specs.Positions.{SessionState}
 use Rattle.rev_script.specs.Script.{lines}
 use Rattle.rev_script.specs.Steps.{all_steps}
 use Rattle.rev_script.specs.declared.dialect.Dialect.{Dialect}
-use Rattle.rev_shell.specs.Kept.{Plays, IsFull}
-use Rattle.rev_shell.specs.Run.{opened}
+use Rattle.rev_plays.specs.Kept.{Plays, IsFull}
+use Rattle.rev_plays.specs.Begin.{opened}
 use Rattle.rev_messages.specs.Telling.{Told}
 use Rattle.rev_program.specs.Starts.{AreStarts}
 use Rattle.rev_program.specs.declared.opening.Full.{Full}

@@ -9,10 +9,10 @@ use Rattle.rev_script.specs.Source.{Told, told_of}
 use Rattle.rev_script.specs.Steps.{all_steps}
 use Rattle.rev_script.specs.declared.dialect.Dialect.{Dialect}
 use Rattle.rev_script.specs.declared.source.LastRead.TheVariants.{Gave}
-use Rattle.rev_shell.specs.Answers.{state_of}
-use Rattle.rev_shell.specs.Start.{from_state, run_forward}
-use Rattle.rev_shell.specs.Traces.{IsCutOff}
-use Rattle.rev_shell.specs.declared.quiet.TraceFault.{TraceFault}
+use Rattle.rev_plays.specs.Replies.{state_of}
+use Rattle.rev_plays.specs.Start.{from_state, run_forward}
+use Rattle.rev_plays.specs.Traces.{IsCutOff}
+use Rattle.rev_plays.specs.declared.quiet.TraceFault.{TraceFault}
 use Rattle.rev_messages.specs.declared.stop.Stop.{Stop}
 use Rattle.rev_program.specs.Stopping.{stop_of_trace}
 

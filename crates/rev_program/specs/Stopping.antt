@@ -4,8 +4,8 @@ use Rattle.std.specs.Prelude.{String}
 use Rattle.std.specs.declared.alloc.Global.{Global}
 use Rattle.rev_messages.specs.declared.stop.Stop.{Stop}
 use Rattle.rev_messages.specs.declared.stop.Stop.TheVariants.{Memory, CannotRead, CannotOpen, NotAStep, CannotWrite, TooLong}
-use Rattle.rev_shell.specs.declared.quiet.TraceFault.{TraceFault}
-use Rattle.rev_shell.specs.declared.quiet.TraceFault.TheVariants as trace_fault
+use Rattle.rev_plays.specs.declared.quiet.TraceFault.{TraceFault}
+use Rattle.rev_plays.specs.declared.quiet.TraceFault.TheVariants as trace_fault
 use Rattle.rev_shell.specs.declared.run.RunFault.{RunFault}
 use Rattle.rev_shell.specs.declared.run.RunFault.TheVariants as run_fault
 

@@ -1,17 +1,17 @@
 //! Files whose steps are played before anything else.
 ghost use Rattle.std.specs.Prelude.{◌≡◌, ◌⊎◌, OnOk, IfOk, IfErr};
 ghost use Rattle.rev_classes.specs.Limits.{IsWithinLimits};
-ghost use Rattle.rev_shell.specs.Run.{opened};
+ghost use Rattle.rev_plays.specs.Begin.{opened};
 ghost use Rattle.rev_messages.specs.declared.stop.Stop.{Stop};
 ghost use Rattle.rev_program.specs.Starts.{IsStart, AreStarts, Halts, DoHalt};
 
 use crate::stopping::stop_of_trace;
 use rev_classes::Config;
 use rev_messages::Stop;
+use rev_plays::begin::open_session;
+use rev_plays::start::play_start;
 use rev_script::dialect::Dialect;
 use rev_script::source::FromRead;
-use rev_shell::run::open_session;
-use rev_shell::start::play_start;
 use rev_undotree::Session;
 use std::alloc::Allocator;
 use std::collections::VecDeque;

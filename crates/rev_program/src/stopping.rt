@@ -3,7 +3,7 @@ ghost use Rattle.std.specs.Prelude.{◌≡◌};
 ghost use Rattle.rev_program.specs.Stopping.{stop_of_run, stop_of_trace};
 
 use rev_messages::Stop;
-use rev_shell::quiet::TraceFault;
+use rev_plays::quiet::TraceFault;
 use rev_shell::run::RunFault;
 
 /// What a fault of a run is.

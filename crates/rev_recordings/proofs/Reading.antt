@@ -13,7 +13,7 @@ use Rattle.rev_script.specs.declared.byte_reader.LineFault.TheVariants as faults
 use Rattle.rev_script.proofs.Known.{Took-then, Took-broke}
 use Rattle.rev_script.proofs.Front.{take_front}
 use Rattle.rev_script.proofs.Scripts.{some_inj, parts_of, all_steps-more}
-use Rattle.rev_shell.proofs.Runs.{AreWhole, lines-more, whole_lines-more, whole_then, last_then, plain_ahead, read_of, read_all, in_dialect, over_now, then_line}
+use Rattle.rev_texts.proofs.Wholes.{AreWhole, lines-more, whole_lines-more, whole_then, last_then, plain_ahead, read_of, read_all, in_dialect, over_now, then_line}
 use Rattle.rev_script.specs.Source.{Told, told_by}
 use Rattle.rev_recordings.specs.Steps.{Because, Adds, IsRead, IsRefused, script_fault}
 use Rattle.rev_recordings.specs.declared.steps.ScriptFault.{ScriptFault}

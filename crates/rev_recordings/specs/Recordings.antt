@@ -15,7 +15,7 @@ use Rattle.rev_recorder.specs.declared.recorder.RecordFault.{RecordFault}
 use Rattle.rev_recorder.specs.Hands.{PlainHand, Settles}
 use Rattle.rev_recorder.specs.Running.{AllRan}
 use Rattle.rev_recorder.specs.Settling.{AreNew, IsLegalLog}
-use Rattle.rev_shell.specs.Texts.{output}
+use Rattle.rev_texts.specs.Texts.{output}
 use Rattle.rev_script.specs.Steps.{all_steps, IsFirstOther}
 use Rattle.rev_script.specs.declared.dialect.Dialect.{Dialect}
 use Rattle.rev_messages.specs.Telling.{Told}

@@ -12,8 +12,8 @@ use Rattle.rev_recorder.specs.declared.hand.LogRow.{LogRow}
 use Rattle.rev_recorder.specs.declared.recorder.RecordFault.{RecordFault}
 use Rattle.rev_recorder.specs.declared.recorder.RecordFault.TheVariants.{TooManyNodes, TooDeep, Memory, StrangerHand, NoNode}
 use Rattle.rev_recorder.specs.Hands.{PlainHand}
-use Rattle.rev_shell.specs.Texts.{output}
-use Rattle.rev_shell.specs.Words.{step_word, outcome_word}
+use Rattle.rev_texts.specs.Texts.{output}
+use Rattle.rev_texts.specs.Words.{step_word, outcome_word}
 
 -- the row of a play: its place in the log, its player, its node, its step and what that was answered
 abbrev pub play_text : ℕ → ℕ → ℕ → Step → Outcome → List ℕ

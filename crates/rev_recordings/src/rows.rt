@@ -1,7 +1,7 @@
 //! The text of a recording: a row for each play, a line for each player that a limit stopped, and the end.
 ghost use Rattle.std.specs.Prelude.{◌≡◌, ◌++◌, codes, OnOk, IfOk, IfErr};
 ghost use Rattle.rev_requests.specs.Plain.{plain_step};
-ghost use Rattle.rev_shell.specs.Texts.{output};
+ghost use Rattle.rev_texts.specs.Texts.{output};
 ghost use Rattle.rev_recordings.specs.Recordings.{IsOfPlay};
 ghost use Rattle.rev_recordings.specs.Rows.{play_text, call_text, rows_text, stopped_text, end_text, IsEnd};
 
@@ -9,8 +9,8 @@ use crate::fault::RecordingFault;
 use rev_model::Outcome;
 use rev_recorder::{Call, LogRow, RecordFault};
 use rev_requests::Step;
-use rev_shell::text::{put_field, put_number, put_output};
-use rev_shell::words::{outcome_word, step_word};
+use rev_texts::text::{put_field, put_number, put_output};
+use rev_texts::words::{outcome_word, step_word};
 use rev_undotree::Session;
 use std::alloc::{AllocError, Global};
 

@@ -7,7 +7,7 @@ use rev_explain::story;
 use rev_figures::{Path, StepKind};
 use rev_items::Key;
 use rev_requests::{ClientStep, Step};
-use rev_shell::words::step_word;
+use rev_texts::words::step_word;
 use rev_undotree::{NodeId, Session};
 use std::alloc::{AllocError, Global};
 

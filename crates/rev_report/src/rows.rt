@@ -17,7 +17,7 @@ use itoa::Buffer;
 use rev_explain::events::EventKind;
 use rev_figures::Path;
 use rev_model::Queue;
-use rev_shell::text::queue_text;
+use rev_texts::text::queue_text;
 use std::alloc::Global;
 use std::io::Write;
 use thiserror::Error;

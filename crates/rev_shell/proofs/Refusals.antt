@@ -6,7 +6,7 @@ use Rattle.std.proofs.lemmas.Bool.Decides.{Decides-eqb}
 use Rattle.std.proofs.lemmas.List.{get_or-append-add}
 use Rattle.std.proofs.lemmas.Slice.Eq.{ends_is}
 use Rattle.rev_shell.specs.Run.{is_refusal}
-use Rattle.rev_shell.specs.Texts.{output}
+use Rattle.rev_texts.specs.Texts.{output}
 
 third : (front end : List ℕ) → 3 ≤ length end → get_or (front ++ end) (length (front ++ end) - 3) 0 ≡ get_or end (length end - 3) 0
 third front end few =

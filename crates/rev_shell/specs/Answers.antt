@@ -1,15 +1,9 @@
 -- What each line of a script does to a session, and what is answered.
 -- Rule of memcached: which answer a command gets, and that `noreply` drops it.
--- Rule of this project: the lines that begin with `:`, and refusals of the tree.
-use Rattle.std.specs.Prelude.{ℕ, ◌+◌, ◌++◌, Bool, true, false, cond, not, ◌&&◌, nat_eq, nat_lt, List, [], ◌∷◌, length, Some, codes}
-use Rattle.rev_model.specs.State.{State, free_of, queue_of, find}
-use Rattle.rev_model.specs.Move.{is_class}
-use Rattle.rev_model.specs.Actor.{Step}
-use Rattle.rev_model.specs.declared.Outcome.{Outcome}
-use Rattle.rev_model.specs.declared.Outcome.TheVariants as outcomes
-use Rattle.rev_undotree.specs.Steps.{outcome_of}
-use Rattle.rev_undotree.specs.Rows.{at, row, row_of, parent_of}
-use Rattle.rev_undotree.specs.Machine.{is_continued, nesting_below}
+-- Rule of this project: the lines that begin with `:`.
+use Rattle.std.specs.Prelude.{ℕ, ◌++◌, false, List, codes}
+use Rattle.rev_model.specs.State.{free_of, queue_of, find}
+use Rattle.rev_undotree.specs.Rows.{row_of, parent_of}
 use Rattle.rev_undotree.specs.Positions.{SessionState}
 use Rattle.rev_script.specs.declared.command.DebugCommand.{DebugCommand}
 use Rattle.rev_script.specs.declared.command.DebugCommand.TheVariants as debugs
@@ -18,100 +12,19 @@ use Rattle.rev_script.specs.declared.command.KeyQuery.TheVariants as queries
 use Rattle.rev_script.specs.declared.command.BookmarkCommand.{BookmarkCommand}
 use Rattle.rev_script.specs.declared.command.BookmarkCommand.TheVariants as bookmarks
 use Rattle.rev_script.specs.Script.{ScriptLine, StorageLine, RetrievalLine, UpdateLine, FlushLine, ActorLine, TuneLine, DebugLine, QueryLine, BookmarkLine, BadLine}
-use Rattle.rev_shell.specs.Texts.{output, bad_text, outcome_text, found_value, item_of, found_text, place_text, entries_text, chunks_text, pages_text, counters_text, globals_text, node_text, parent_text}
-use Rattle.rev_shell.specs.Trees.{gone_to, child_at, child_text, go_text, gone, prune_text, after_prune, tree_text}
-use Rattle.rev_shell.specs.Bookmarks.{bookmarked, with_bookmark, bookmarked_text, bookmarks_text, goto_text, gone_by}
+use Rattle.rev_texts.specs.Texts.{of_class, output, bad_text, found_text, place_text, entries_text, chunks_text, pages_text, counters_text, globals_text, node_text, parent_text}
+use Rattle.rev_views.specs.Trees.{gone_to, child_at, child_text, go_text, gone, prune_text, after_prune, tree_text}
+use Rattle.rev_views.specs.Bookmarks.{bookmarked, with_bookmark, bookmarked_text, bookmarks_text, goto_text, gone_by}
 use Rattle.rev_requests.specs.Plain.{plain_actor}
-use Rattle.rev_script.specs.Steps.{storage_step, keyed_step, flush_step, tune_step, get}
+use Rattle.rev_script.specs.Steps.{storage_step, keyed_step, flush_step, tune_step}
 use Rattle.rev_explain.specs.Story.{story, why_of}
 use Rattle.rev_explain.specs.Departures.{departures, at_most, last_of}
 use Rattle.rev_explain.specs.Clocks.{node_by}
-use Rattle.rev_shell.specs.Reasons.{events_text, why_text}
-use Rattle.rev_shell.specs.Views.{departures_text, step_text, time_text, after_time}
-use Rattle.rev_shell.specs.Classes.{classes_text}
-use Rattle.rev_shell.specs.Help.{help_text, help_on_text}
-use Rattle.rev_shell.specs.declared.play.Reply.{Reply}
-use Rattle.rev_shell.specs.declared.play.Reply.TheVariants.{Played, TooManyNodes, TooDeep}
-
--- the state at the current node
-abbrev pub state_of : SessionState → State
-state_of m = at m.root m.rows m.current
-
--- ---- one step
-
--- a play is refused where as many nodes were played as may be, and else where the node's forks would nest too deep
-abbrev pub is_full : SessionState → Bool
-is_full m = nat_eq (length m.rows) 1048576
-
--- the node's forks would nest too deep
-abbrev pub is_too_deep : SessionState → Bool
-is_too_deep m = nat_lt (length m.rows) 1048576 && nat_lt 64 (nesting_below m.rows m.current)
-
--- a play, or why it is refused
-unfoldable pub reply : SessionState → Step → Reply
-reply m e = cond (is_full m) TooManyNodes (cond (is_too_deep m) TooDeep (Played (outcome_of (state_of m) e)))
-
--- the step's node is the next one, a child of the current one; it is then the current one
-abbrev pub played : SessionState → Step → SessionState
-played m e = record {
-  root = m.root;
-  rows = m.rows ++ Some (row m.current e (not (is_continued m.rows m.current))) ∷ [];
-  current = length m.rows + 1;
-}
-
--- a refused play changes nothing
-abbrev pub if_played : Reply → SessionState → SessionState → SessionState
-if_played (Played o) after before = after
-if_played TooManyNodes after before = before
-if_played TooDeep after before = before
-
--- the session after a step
-abbrev pub after_step : SessionState → Step → SessionState
-after_step m e = if_played (reply m e) (played m e) m
-
--- what is answered where the play was accepted; else the refusal
-abbrev pub or_refused : Reply → List ℕ → List ℕ
-or_refused (Played o) text = text
-or_refused TooManyNodes text = output (codes "SERVER_ERROR too many nodes")
-or_refused TooDeep text = output (codes "SERVER_ERROR too many nested forks")
-
--- the text of a play's outcome
-abbrev pub reply_outcome : Reply → List ℕ
-reply_outcome (Played o) = outcome_text o
-reply_outcome TooManyNodes = []
-reply_outcome TooDeep = []
-
--- `noreply` drops the step's answer, and not a refusal
-abbrev pub reply_text : Bool → Reply → List ℕ
-reply_text noreply r = or_refused r (cond noreply [] (reply_outcome r))
-
--- ---- get, gets: a step a key, in order; a refusal ends the line
-
--- a get that found its item
-abbrev pub is_hit : Outcome → Bool
-is_hit (outcomes.Hit len cas) = true
-is_hit _ = false
-
--- the play was a hit
-abbrev pub was_hit : Reply → Bool
-was_hit (Played o) = is_hit o
-was_hit TooManyNodes = false
-was_hit TooDeep = false
-
--- the value's lines where the lookup was a hit
-abbrev pub value_of : Bool → Reply → State → List ℕ → List ℕ
-value_of with_cas r s k = cond (was_hit r) (found_value with_cas (item_of s k)) []
-
--- the values of the keys that are hit, and END
-abbrev pub values : Bool → SessionState → List (List ℕ) → List ℕ
-values with_cas m [] = output (codes "END")
-values with_cas m (k ∷ ks) =
-    or_refused (reply m (get k)) (value_of with_cas (reply m (get k)) (state_of m) k ++ values with_cas (after_step m (get k)) ks)
-
--- the session after them
-abbrev pub after_gets : SessionState → List (List ℕ) → SessionState
-after_gets m [] = m
-after_gets m (k ∷ ks) = if_played (reply m (get k)) (after_gets (after_step m (get k)) ks) m
+use Rattle.rev_views.specs.Reasons.{events_text, why_text}
+use Rattle.rev_views.specs.Views.{departures_text, step_text, time_text, after_time}
+use Rattle.rev_views.specs.Classes.{classes_text}
+use Rattle.rev_texts.specs.Help.{help_text, help_on_text}
+use Rattle.rev_plays.specs.Replies.{state_of, reply, after_step, reply_text, values, after_gets}
 
 -- ---- a session and the bookmarks beside it, which belong to the run and are not undone
 
@@ -125,10 +38,6 @@ abbrev pub with_bookmarks : SessionState → List (List ℕ × ℕ) → Bookmark
 with_bookmarks m names = record { session = m; bookmarks = names }
 
 -- ---- debug commands; they make no node
-
--- a text that is answered of a class, NOCLASS where there is no such class
-abbrev pub of_class : State → ℕ → List ℕ → List ℕ
-of_class s c text = cond (is_class s c) text (output (codes "NOCLASS"))
 
 -- what is answered to a line that begins with `:`
 abbrev pub debug_text : BookmarkedSession → DebugCommand → List ℕ

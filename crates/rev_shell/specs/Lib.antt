@@ -1,15 +1,2 @@
-pub mod Texts
-pub mod Words
-pub mod Trees
-pub mod Bookmarks
-pub mod Reasons
-pub mod Bookmarked
 pub mod Answers
 pub mod Run
-pub mod Quiet
-pub mod Traces
-pub mod Start
-pub mod Kept
-pub mod Views
-pub mod Classes
-pub mod Help

@@ -5,7 +5,6 @@ use Rattle.std.specs.Prelude.{◌≡◌, ◌<◌, ◌+◌, ℕ, zero, suc, Bool,
 use Rattle.std.specs.List.{ends_with}
 use Rattle.std.specs.Io.KnownBytes.{Consumes, Appends, IsAtEnd}
 use Rattle.rev_classes.specs.declared.Config.{Config}
-use Rattle.rev_inverse.specs.Empty.{empty_state}
 use Rattle.rev_undotree.specs.Positions.{SessionState}
 use Rattle.rev_script.specs.Script.{ScriptLine, BadLine, lines, whole_lines}
 use Rattle.rev_script.specs.Source.{Told, one_more}
@@ -15,18 +14,15 @@ use Rattle.rev_script.specs.declared.byte_reader.LineFault.TheVariants as faults
 use Rattle.rev_script.specs.declared.source.LastRead.TheVariants.{Failed, Ended}
 use Rattle.rev_output.specs.Sink.{WroteFront, PlainSink}
 use Rattle.rev_output.specs.Sink as sink
+use Rattle.rev_plays.specs.Begin.{opened}
 use Rattle.rev_shell.specs.Answers.{BookmarkedSession, with_bookmarks, after, answer}
-use Rattle.rev_shell.specs.Texts.{output}
+use Rattle.rev_texts.specs.Texts.{output}
 use Rattle.rev_shell.specs.declared.run.Tally.{Tally}
 use Rattle.rev_shell.specs.declared.run.Summary.{Summary}
 use Rattle.rev_shell.specs.declared.run.Prompts.{Prompts}
 use Rattle.rev_shell.specs.declared.run.Prompts.TheVariants.{Shown, Hidden}
 use Rattle.rev_shell.specs.declared.run.RunFault.{RunFault}
 use Rattle.rev_shell.specs.declared.run.RunFault.TheVariants.{Memory, Read, Write, TooLong}
-
--- the session of a program: an empty store, and no node but the root
-abbrev pub opened : Config → SessionState
-opened config = record { root = empty_state config; rows = []; current = 0 }
 
 -- a run on a session begins with no bookmark
 abbrev pub without_bookmarks : SessionState → BookmarkedSession

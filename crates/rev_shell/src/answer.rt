@@ -1,25 +1,25 @@
 //! One line of a script: what it does to a session, and what is answered.
 ghost use Rattle.std.specs.Prelude.{◌≡◌, ◌++◌, List, ℕ, OnOk};
 ghost use Rattle.rev_script.specs.Line.{view, client_view, debug_view};
-ghost use Rattle.rev_shell.specs.Bookmarks.{bookmarked, with_bookmark, bookmarked_text, goto_text, gone_by};
+ghost use Rattle.rev_views.specs.Bookmarks.{bookmarked, with_bookmark, bookmarked_text, goto_text, gone_by};
 ghost use Rattle.rev_shell.specs.Answers.{with_bookmarks, answer, after, debug_text, after_debug, query_text, bookmark_text, after_bookmark};
 
-use crate::bookmarks::{Bookmarks, put_bookmark_line};
-use crate::classes::put_classes;
-use crate::help::{put_help, put_help_on};
-use crate::play::{play_line, put_values};
-use crate::reasons::{put_story, put_why};
-use crate::show::{
-    put_chunk_of, put_counters, put_free, put_globals, put_item_of, put_pages, put_queue,
-};
-use crate::text::{bad_text, put_node, put_output};
-use crate::tree::{put_back, put_forward, put_go, put_prune, put_tree};
-use crate::views::{put_gone, put_step, put_time};
 use rev_items::Key;
+use rev_plays::play::{play_line, put_values};
 use rev_script::command::{BookmarkCommand, DebugCommand, KeyQuery};
 use rev_script::line::{ClientLine, DebugLine, Line};
 use rev_script::steps::{actor_step, flush_step, keyed_step, storage_step, tune_step};
+use rev_texts::help::{put_help, put_help_on};
+use rev_texts::text::{bad_text, put_node, put_output};
 use rev_undotree::{NodeId, Session};
+use rev_views::bookmarks::{Bookmarks, put_bookmark_line};
+use rev_views::classes::put_classes;
+use rev_views::reasons::{put_story, put_why};
+use rev_views::show::{
+    put_chunk_of, put_counters, put_free, put_globals, put_item_of, put_pages, put_queue,
+};
+use rev_views::tree::{put_back, put_forward, put_go, put_prune, put_tree};
+use rev_views::views::{put_gone, put_step, put_time};
 use std::alloc::{AllocError, Allocator};
 
 // A client's line.

@@ -1,26 +1,26 @@
 //! A script from a reader, its answers to a writer.
-ghost use Rattle.std.specs.Prelude.{◌≡◌, ◌++◌, ◌<◌, ℕ, List, IfOk, IfErr, IfSome, OnOk, OnErr};
+ghost use Rattle.std.specs.Prelude.{◌≡◌, ◌++◌, ◌<◌, ℕ, List, IfOk, IfErr, OnOk, OnErr};
 ghost use Rattle.std.specs.Io.KnownBytes.{Appends};
 ghost use Rattle.rev_classes.specs.Limits.{IsWithinLimits};
 ghost use Rattle.rev_script.specs.Lines.{IsFirst};
 ghost use Rattle.rev_script.specs.Line.{view};
 ghost use Rattle.rev_output.specs.Sink.{sink_at, WroteFront, one_more};
-ghost use Rattle.rev_shell.specs.Run.{IsDone, IsLeft, IsStopped, run_fault, opened, without_bookmarks, initial, is_bad, is_refusal, with_mark, prompt_text, end_text};
+ghost use Rattle.rev_shell.specs.Run.{IsDone, IsLeft, IsStopped, run_fault, without_bookmarks, initial, is_bad, is_refusal, with_mark, prompt_text, end_text};
 ghost use Rattle.rev_shell.specs.declared.run.Prompts.TheVariants.{Hidden};
 ghost use Rattle.rev_shell.specs.Answers.{with_bookmarks, answer, after};
 
 use crate::answer::put_answer;
-use crate::bookmarks::Bookmarks;
-use crate::text::put_field;
 use rev_classes::Config;
-use rev_inverse::Store;
 use rev_output::{Sink, WriteFailed, write_all};
+use rev_plays::begin::open_session;
 use rev_script::byte_reader::LineFault;
 use rev_script::dialect::Dialect;
 use rev_script::line::Line;
 use rev_script::lines::Lines;
 use rev_script::source::Source;
+use rev_texts::text::put_field;
 use rev_undotree::{NodeId, Session};
+use rev_views::bookmarks::Bookmarks;
 use std::alloc::{AllocError, Allocator};
 use std::mem::ManuallyDrop;
 use thiserror::Error;
@@ -281,27 +281,6 @@ pub fn run_lines<S: Source, K: Sink, A: Allocator + Clone>(
 
 fn two_handles<A: Allocator + Clone>(alloc: &A) -> Result<(A, A), AllocError> {
     Ok((alloc.clone()?, alloc.clone()?))
-}
-
-/// The session that a program's run begins with: an empty store, and no node but the root. None where there is no
-/// memory.
-pub fn open_session<A: Allocator + Clone>(alloc: &A, config: &Config) -> Option<Session<A>>
-    requires { IsWithinLimits config.now }
-    ensures { IfSome result (λ session. session ≡ opened config.entry.now) }
-{
-    let Ok((alloc, other)) = two_handles(alloc) else {
-        return None;
-    };
-    let Ok(store) = Store::open(alloc, *config) else {
-        return None;
-    };
-    match Session::open(other, store) {
-        Ok(session) => Some(session),
-        Err(refused) => {
-            drop(refused);
-            None
-        }
-    }
 }
 
 /// Runs the script that the reader gives, in a dialect, on a session, with no bookmark at first, and writes its

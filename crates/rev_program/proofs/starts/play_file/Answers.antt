@@ -1,5 +1,5 @@
 use Rattle.std.proofs.Common.{subst}
-use Rattle.rev_shell.specs.Traces.{IsCutOff}
+use Rattle.rev_plays.specs.Traces.{IsCutOff}
 use Rattle.rev_program.proofs.starts.play_file.Goals as goal
 
 pub returns-in-Err-clause-err : goal.returns-in-Err-clause-err

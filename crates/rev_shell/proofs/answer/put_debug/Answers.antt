@@ -1,7 +1,6 @@
 use Rattle.std.proofs.Common.{◌≡◌, ◌++◌, OnOk, subst}
 use Rattle.rev_model.specs.State.{State}
-use Rattle.rev_shell.specs.Texts.{counters_text}
-use Rattle.rev_shell.specs.Answers.{of_class}
+use Rattle.rev_texts.specs.Texts.{counters_text, of_class}
 use Rattle.rev_shell.proofs.answer.put_debug.Goals as goal
 
 pub returns-in-Counters-clause-text : goal.returns-in-Counters-clause-text

@@ -1,6 +1,0 @@
-use Rattle.std.proofs.Common.{◌≡◌, ◌++◌}
-use Rattle.rev_shell.specs.Classes.{classes_to}
-use Rattle.rev_shell.proofs.classes.put_classes.Given as goal
-
-abbrev pub invariant-loop-passed : goal.invariant-loop-passed
-invariant-loop-passed g l = l.out.items ≡ l.fn.out.items ++ classes_to l.store l.passed

@@ -1,9 +1,0 @@
-use Rattle.std.proofs.Common.{◌≡◌, None}
-use Rattle.rev_shell.specs.Answers.{state_of}
-use Rattle.rev_shell.specs.Start.{IsShort, run_forward}
-use Rattle.rev_shell.proofs.Tracing.{IsSoFar}
-use Rattle.rev_shell.proofs.start.play_lines.Given as goal
-
-abbrev pub invariant-loop-before : goal.invariant-loop-before
-invariant-loop-before g l = (l.lines.fault ≡ None) × (l.lines.input.bytes.given ≡ 0) × IsShort l.session
-    × IsSoFar l.fn.lines.input.dialect l.fn.lines.input l.lines.input (λ steps. state_of l.session ≡ run_forward (state_of l.fn.session) steps) l.before

@@ -1,5 +1,0 @@
-use Rattle.std.proofs.Common.{rules}
-use Rattle.rev_shell.proofs.words.outcome_word.Goals as goal
-
-pub returns-in-Miss : goal.returns-in-Miss
-returns-in-Miss c = search rules steps 500000

@@ -1,0 +1,5 @@
+pub mod Walk
+pub mod Shows
+pub mod Bookmarked
+pub mod Trees
+pub mod Counting
