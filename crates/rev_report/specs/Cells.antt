@@ -2,7 +2,7 @@
 -- Rule of this project: each number of a row is a figure of the class, as it was counted.
 use Rattle.std.specs.Prelude.{ℕ, List, [], ◌∷◌, Option, None, Some}
 use Rattle.rev_figures.specs.declared.tables.CauseCounts.{CauseCounts}
-use Rattle.rev_report.specs.Numbers.{grouped}
+use Rattle.rev_markup.specs.Numbers.{grouped}
 use Rattle.rev_report.specs.declared.figures.ClassRow.{ClassRow}
 
 -- how many keys left by each cause, in the order in which causes are told

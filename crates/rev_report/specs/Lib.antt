@@ -1,4 +1,1 @@
-pub mod Escape
-pub mod Markup
-pub mod Numbers
 pub mod Cells

@@ -1,7 +1,7 @@
 //! How far a replay agrees with the log of which its trace was made.
-use crate::markup::Piece::{Count, Markup};
-use crate::markup::put;
-use crate::share::{Share, put_per_cent};
+use rev_markup::markup::Piece::{Count, Markup};
+use rev_markup::markup::put;
+use rev_markup::share::{Share, put_per_cent};
 use std::alloc::AllocError;
 
 /// How far a replay agrees with a server's log.

@@ -3,11 +3,11 @@ ghost use Rattle.std.specs.Prelude.{◌≡◌, ◌++◌, OnOk};
 ghost use Rattle.rev_report.specs.Cells.{cells_of, shown};
 
 use crate::figures::{ClassRow, Figures};
-use crate::markup::Piece::{Count, Markup, Tenths};
-use crate::markup::put;
-use crate::numbers::put_grouped;
-use crate::scale::Scale;
 use crate::words::cause_numbers;
+use rev_markup::markup::Piece::{Count, Markup, Tenths};
+use rev_markup::markup::put;
+use rev_markup::numbers::put_grouped;
+use rev_markup::scale::Scale;
 use std::alloc::AllocError;
 
 /// How many figures a row of the table has.

@@ -1,11 +1,11 @@
 //! A curve through what several values of a setting lead to.
-use crate::markup::Piece::{Count, Markup, Tenths};
-use crate::markup::put;
 use crate::plot::Frame;
-use crate::scale::{Marks, Scale, Unit, marks_over, marks_within};
-use crate::share::put_per_cent;
 use crate::what_if::{Counts, Varied, axis_name};
-use crate::words::put_thousandths;
+use rev_markup::markup::Piece::{Count, Markup, Tenths};
+use rev_markup::markup::put;
+use rev_markup::scale::{Marks, Scale, Unit, marks_over, marks_within};
+use rev_markup::share::put_per_cent;
+use rev_markup::units::put_thousandths;
 use std::alloc::AllocError;
 
 const FRAME: Frame = Frame {

@@ -1,13 +1,13 @@
 //! What a report tells first: which cache, which trace, and how it went.
 use crate::agreement::put_agreement;
-use crate::charts::put_fact;
 use crate::figures::{Figures, all_left};
-use crate::markup::Piece::{Count, Markup};
-use crate::markup::{outside, put};
 use crate::page::Subject;
-use crate::share::{Share, put_part};
-use crate::words::{put_bytes, put_time};
 use rev_classes::Config;
+use rev_markup::charts::put_fact;
+use rev_markup::markup::Piece::{Count, Markup};
+use rev_markup::markup::{outside, put};
+use rev_markup::share::{Share, put_part};
+use rev_markup::units::{put_bytes, put_time};
 use std::alloc::AllocError;
 
 // Puts the names of the traces.

@@ -1,13 +1,14 @@
 //! The lives of keys, a band for each.
 use crate::figures::{Figures, clock_of};
 use crate::life::Life;
-use crate::markup::Piece::{Count, Markup, Plain, Tenths};
-use crate::markup::{outside, put};
 use crate::plot::{Frame, Plot};
-use crate::scale::Unit;
-use crate::words::{QUEUE_FILLS, QUEUES, put_clock, put_counted};
+use crate::words::{QUEUE_FILLS, QUEUES, put_clock};
 use rev_explain::events::{Event, EventKind};
 use rev_figures::Path;
+use rev_markup::markup::Piece::{Count, Markup, Plain, Tenths};
+use rev_markup::markup::{outside, put};
+use rev_markup::scale::Unit;
+use rev_markup::units::put_counted;
 use rev_model::{Cause, Queue};
 use std::alloc::{AllocError, Global};
 
@@ -324,7 +325,7 @@ fn put_legend(out: &mut Vec<u8>) -> Result<(), AllocError> {
             "<ul class=\"legend\"><li><svg viewBox=\"0 0 22 14\" aria-hidden=\"true\"><path class=\"hits\" d=\"M11 2v10\"/></svg>hit</li><li><svg viewBox=\"0 0 22 14\" aria-hidden=\"true\"><path class=\"misses\" d=\"M11 2v10\"/></svg>miss</li><li><svg viewBox=\"0 0 22 14\" aria-hidden=\"true\"><path class=\"store\" d=\"M11 2l-5 9h10z\"/></svg>stored</li><li><svg viewBox=\"0 0 22 14\" aria-hidden=\"true\"><path class=\"left\" d=\"M6 2l10 10m0 -10l-10 10\"/></svg>left</li>",
         )],
     )?;
-    crate::charts::put_fills(out, &QUEUE_FILLS, &QUEUES, &[true, true, true, true])?;
+    rev_markup::charts::put_fills(out, &QUEUE_FILLS, &QUEUES, &[true, true, true, true])?;
     put(out, &[Markup("</ul>")])
 }
 

@@ -3,22 +3,16 @@
 #![tactic(auto)]
 
 pub mod agreement;
-mod charts;
 mod classes;
 mod curve;
-mod escape;
 pub mod figures;
 mod header;
 mod keys;
 pub mod life;
-pub mod markup;
-mod numbers;
 pub mod page;
 mod plot;
 mod queues;
 pub mod rows;
-mod scale;
-pub mod share;
 pub mod slots;
 mod style;
 mod times;

@@ -5,8 +5,6 @@ use crate::figures::Figures;
 use crate::header::put_header;
 use crate::keys::put_keys;
 use crate::life::Life;
-use crate::markup::Piece::Markup;
-use crate::markup::put;
 use crate::plot::Column;
 use crate::queues::{QueueCurve, put_queues, queue_curves};
 use crate::slots::{left_columns, move_columns};
@@ -14,6 +12,8 @@ use crate::style::{FILLS, STYLE};
 use crate::times::put_times;
 use crate::what_if::{WhatIf, put_what_ifs};
 use rev_classes::Config;
+use rev_markup::markup::Piece::Markup;
+use rev_markup::markup::put;
 use std::alloc::{AllocError, Global};
 
 /// What a report is of.

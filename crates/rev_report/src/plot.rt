@@ -1,9 +1,10 @@
 //! A picture's frame, and what is drawn in it: columns on one another, and marks.
 
-use crate::markup::Piece::{Count, Markup, Tenths};
-use crate::markup::put;
-use crate::scale::{Marks, Scale, Unit, marks_over, marks_within};
-use crate::words::{Clock, put_clock, put_round_bytes};
+use crate::words::{Clock, put_clock};
+use rev_markup::markup::Piece::{Count, Markup, Tenths};
+use rev_markup::markup::put;
+use rev_markup::scale::{Marks, Scale, Unit, marks_over, marks_within};
+use rev_markup::units::put_round_bytes;
 use std::alloc::AllocError;
 
 /// The most numbers that stand on one another.

@@ -3,10 +3,10 @@ ghost use Rattle.std.specs.Prelude.{◌≡◌, ◌+◌, ◌-◌, ◌*◌, ◌/�
 
 use crate::curve::{Point, put_evictions, put_shares};
 use crate::figures::Figures;
-use crate::markup::Piece::{Count, Markup};
-use crate::markup::put;
-use crate::share::{Share, put_per_cent};
 use crate::words::put_value;
+use rev_markup::markup::Piece::{Count, Markup};
+use rev_markup::markup::put;
+use rev_markup::share::{Share, put_per_cent};
 use std::alloc::{AllocError, Global};
 
 /// Which setting is varied.

@@ -1,7 +1,7 @@
 -- What is escaped has no byte that is read as markup.
 use Rattle.std.proofs.Common.{◌≡◌, ℕ, true, List, [], ◌∷◌, ◌++◌, refl, arith}
 use Rattle.std.proofs.lemmas.Grind.{common_steps}
-use Rattle.rev_report.specs.Escape.{escape, escaped, escape_byte, escaped_bytes, is_safe}
+use Rattle.rev_markup.specs.Escape.{escape, escaped, escape_byte, escaped_bytes, is_safe}
 
 pub is_safe-append : (xs ys : List ℕ) → is_safe xs ≡ true → is_safe ys ≡ true → is_safe (xs ++ ys) ≡ true
 is_safe-append [] ys hx hy = hy

@@ -1,6 +1,6 @@
 //! How texts from outside stand in markup.
 ghost use Rattle.std.specs.Prelude.{◌≡◌, ◌++◌, ◌<◌, OnOk};
-ghost use Rattle.rev_report.specs.Escape.{escape, escaped, hex_digit, escape_byte, escaped_bytes};
+ghost use Rattle.rev_markup.specs.Escape.{escape, escaped, hex_digit, escape_byte, escaped_bytes};
 
 use std::alloc::AllocError;
 

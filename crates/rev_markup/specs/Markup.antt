@@ -1,10 +1,10 @@
 -- The pieces of which a page is made, and what is written of them.
 -- Rule of this project: what comes from outside stands escaped, whatever its bytes are.
 use Rattle.std.specs.Prelude.{◌≡◌, List, [], ◌∷◌, ◌++◌, ℕ, decimal}
-use Rattle.rev_report.specs.declared.markup.Piece.{Piece}
-use Rattle.rev_report.specs.declared.markup.Piece.TheVariants.{Markup, Text, Bytes, Count, Plain, Tenths}
-use Rattle.rev_report.specs.Escape.{escaped, escaped_bytes}
-use Rattle.rev_report.specs.Numbers.{grouped, tenths}
+use Rattle.rev_markup.specs.declared.markup.Piece.{Piece}
+use Rattle.rev_markup.specs.declared.markup.Piece.TheVariants.{Markup, Text, Bytes, Count, Plain, Tenths}
+use Rattle.rev_markup.specs.Escape.{escaped, escaped_bytes}
+use Rattle.rev_markup.specs.Numbers.{grouped, tenths}
 
 -- what is written of a piece
 abbrev pub piece_text : Piece → List ℕ

@@ -1,6 +1,6 @@
 //! How numbers are written.
 ghost use Rattle.std.specs.Prelude.{◌≡◌, ◌++◌, OnOk, decimal};
-ghost use Rattle.rev_report.specs.Numbers.{gap, spaced, grouped, tenths};
+ghost use Rattle.rev_markup.specs.Numbers.{gap, spaced, grouped, tenths};
 
 use itoa::Buffer;
 use std::alloc::AllocError;

@@ -1,7 +1,7 @@
 //! The markup of a page, piece by piece.
 ghost use Rattle.std.specs.Prelude.{◌≡◌, ◌++◌, true, OnOk};
-ghost use Rattle.rev_report.specs.Escape.{is_safe};
-ghost use Rattle.rev_report.specs.Markup.{IsOf, piece_text, pieces_text};
+ghost use Rattle.rev_markup.specs.Escape.{is_safe};
+ghost use Rattle.rev_markup.specs.Markup.{IsOf, piece_text, pieces_text};
 
 use crate::escape::{put_escaped, put_escaped_bytes};
 use crate::numbers::{put_grouped, put_plain, put_tenths};
@@ -10,7 +10,7 @@ use std::alloc::AllocError;
 /// A piece of a page.
 #[derive(Clone, Copy)]
 pub enum Piece<'a> {
-    /// Markup of this crate's own.
+    /// Markup of the program's own.
     Markup(&'static str),
     /// A text, from wherever it comes: it stands escaped.
     Text(&'a str),

@@ -1,6 +1,6 @@
 use Rattle.std.proofs.Common.{◌≡◌, ◌++◌, drop}
-use Rattle.rev_report.specs.Markup.{pieces_text}
-use Rattle.rev_report.proofs.markup.put.Given as goal
+use Rattle.rev_markup.specs.Markup.{pieces_text}
+use Rattle.rev_markup.proofs.markup.put.Given as goal
 
 -- what was put, and what is left to put, are all
 abbrev pub invariant-loop-piece : goal.invariant-loop-piece

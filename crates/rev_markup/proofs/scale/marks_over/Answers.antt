@@ -1,6 +1,6 @@
 use Rattle.std.proofs.Common.{◌≤◌, ◌<◌, ◌*◌, arith}
-use Rattle.rev_report.proofs.Marks.{marks_reach, more_reaches}
-use Rattle.rev_report.proofs.scale.marks_over.Goals as goal
+use Rattle.rev_markup.proofs.Marks.{marks_reach, more_reaches}
+use Rattle.rev_markup.proofs.scale.marks_over.Goals as goal
 
 pub returns-clause-over : goal.returns-clause-over
 returns-clause-over c = λ some.

@@ -1,6 +1,6 @@
 use Rattle.std.proofs.Common.{◌≡◌, ◌++◌, length}
-use Rattle.rev_report.specs.Numbers.{spaced}
-use Rattle.rev_report.proofs.numbers.put_spaced.Given as goal
+use Rattle.rev_markup.specs.Numbers.{spaced}
+use Rattle.rev_markup.proofs.numbers.put_spaced.Given as goal
 
 -- what was put, and what is left to put, are all
 abbrev pub invariant-digits : goal.invariant-digits

@@ -1,6 +1,6 @@
 use Rattle.std.proofs.Common.{◌≡◌, ◌++◌, drop}
-use Rattle.rev_report.specs.Escape.{escaped_bytes}
-use Rattle.rev_report.proofs.escape.put_escaped_bytes.Given as goal
+use Rattle.rev_markup.specs.Escape.{escaped_bytes}
+use Rattle.rev_markup.proofs.escape.put_escaped_bytes.Given as goal
 
 -- what was put, and what is left to put, are all
 abbrev pub invariant-loop-byte : goal.invariant-loop-byte
