@@ -2,7 +2,7 @@
 ghost use Rattle.std.specs.Prelude.{◌≡◌, ◌≤◌, length, true, IfOk};
 ghost use Rattle.rev_options.specs.Request.{is_temp_ttl};
 
-use crate::import::{MOST_LOGS, STANDARD, number, required, rhythm_of, text};
+use crate::import::{MOST_LOGS, STANDARD, number, one_of, prefix, required, rhythm_of, steps};
 use crate::opening::progress;
 use crate::{config_of, fault, with_config};
 use clap::error::ErrorKind;
@@ -37,34 +37,20 @@ fn traces<'a>(alloc: Global) -> Arg<'a> {
         )
 }
 
+fn with_script<'a>(alloc: Global, command: Command<'a>) -> Result<Command<'a>, AllocError> {
+    command
+        .arg(prefix(alloc))?
+        .arg(steps(alloc))?
+        .arg(one_of(alloc))
+}
+
 /// The subcommand `csv` of `import`.
 pub fn csv_command<'a>(alloc: Global) -> Result<Command<'a>, AllocError> {
     let csv = Command::new(alloc, "csv")
         .about("Makes a script of the published trace of a cache")
         .arg(traces(alloc))?
-        .arg(progress(alloc))?
-        .arg(text(
-            alloc,
-            "out",
-            "PREFIX",
-            "Writes PREFIX.script and PREFIX.options; -: the script on the standard output",
-        )
-        .required(true))?
-        .arg(text(
-            alloc,
-            "steps",
-            "WHICH",
-            "Steps of the LRU maintainer: lean, none, or every:N lines of clients",
-        )
-        .default_value("lean"))?
-        .arg(text(
-            alloc,
-            "sample",
-            "1/N",
-            "Takes one key of N, and makes pages N times smaller",
-        )
-        .default_value("1/1"))?;
-    with_config(alloc, csv)
+        .arg(progress(alloc))?;
+    with_config(alloc, with_script(alloc, csv)?)
 }
 
 fn sample(text: &str) -> Option<Sample> {

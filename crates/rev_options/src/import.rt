@@ -70,46 +70,102 @@ fn second<'a>(alloc: Global, name: &'a str, default: &'a str, help: &'a str) -> 
         .help(help)
 }
 
-fn watch_command<'a>(alloc: Global) -> Result<Command<'a>, AllocError> {
-    Command::new(alloc, "watch")
-        .about(
-            "Makes a script of logs that `watch fetchers mutations evictions sysevents deletions` sent",
-        )
+// The same, which must be given.
+pub(crate) fn needed<'a>(alloc: Global, name: &'a str, unit: &'a str, help: &'a str) -> Arg<'a> {
+    text(alloc, name, unit, help).required(true)
+}
+
+/// What the names of a script and its options begin with.
+pub(crate) fn prefix<'a>(alloc: Global) -> Arg<'a> {
+    needed(
+        alloc,
+        "out",
+        "PREFIX",
+        "Writes PREFIX.script and PREFIX.options; -: the script on the standard output",
+    )
+}
+
+/// The growth factor where it is given exactly.
+pub(crate) fn exact_factor<'a>(alloc: Global) -> Arg<'a> {
+    text(
+        alloc,
+        "factor",
+        "N/D",
+        "The growth factor of chunk sizes [without it: the decimals of the settings]",
+    )
+}
+
+/// Which steps of the LRU maintainer a script has.
+pub(crate) fn steps<'a>(alloc: Global) -> Arg<'a> {
+    text(
+        alloc,
+        "steps",
+        "WHICH",
+        "Steps of the LRU maintainer: lean, none, or every:N lines of clients",
+    )
+    .default_value("lean")
+}
+
+/// Which keys are taken.
+pub(crate) fn one_of<'a>(alloc: Global) -> Arg<'a> {
+    text(
+        alloc,
+        "sample",
+        "1/N",
+        "Takes one key of N, and makes pages N times smaller",
+    )
+    .default_value("1/1")
+}
+
+fn stats<'a>(alloc: Global) -> Arg<'a> {
+    text(
+        alloc,
+        "stats",
+        "FILE",
+        "The server's text of `stats`: tells which lines the logs lack",
+    )
+}
+
+fn split<'a>(alloc: Global) -> Arg<'a> {
+    text(
+        alloc,
+        "split",
+        "SECONDS",
+        "Writes the steps in front of this second, by the Unix clock, to PREFIX.start [without it: one script]",
+    )
+    .value_parser(value_parser!(u32))
+}
+
+fn check<'a>(alloc: Global) -> Arg<'a> {
+    Arg::new(alloc, "check")
+        .long("check")
+        .action(ArgAction::SetTrue)
+        .help("Also plays the script, and tells how many gets and evictions are as logged")
+}
+
+// Long chains of options are in parts, since what a check of one takes grows faster than its length.
+fn with_files<'a>(alloc: Global, command: Command<'a>) -> Result<Command<'a>, AllocError> {
+    command
         .arg(logs(alloc))?
         .arg(progress(alloc))?
-        .arg(text(
+        .arg(needed(
             alloc,
             "settings",
             "FILE",
             "The server's text of `stats settings`",
-        )
-        .required(true))?
-        .arg(text(
-            alloc,
-            "out",
-            "PREFIX",
-            "Writes PREFIX.script and PREFIX.options; -: the script on the standard output",
-        )
-        .required(true))?
-        .arg(text(
-            alloc,
-            "stats",
-            "FILE",
-            "The server's text of `stats`: tells which lines the logs lack",
         ))?
-        .arg(text(
-            alloc,
-            "factor",
-            "N/D",
-            "The growth factor of chunk sizes [without it: the decimals of the settings]",
-        ))?
-        .arg(text(
-            alloc,
-            "steps",
-            "WHICH",
-            "Steps of the LRU maintainer: lean, none, or every:N lines of clients",
-        )
-        .default_value("lean"))?
+        .arg(prefix(alloc))
+}
+
+fn with_cache<'a>(alloc: Global, command: Command<'a>) -> Result<Command<'a>, AllocError> {
+    command
+        .arg(stats(alloc))?
+        .arg(exact_factor(alloc))?
+        .arg(steps(alloc))
+}
+
+fn with_events<'a>(alloc: Global, command: Command<'a>) -> Result<Command<'a>, AllocError> {
+    command
         .arg(second(
             alloc,
             "from",
@@ -117,37 +173,34 @@ fn watch_command<'a>(alloc: Global) -> Result<Command<'a>, AllocError> {
             "The first second of the events that are asked for, by the Unix clock",
         ))?
         .arg(second(alloc, "to", "4294967295", "The last second"))?
-        .arg(text(
-            alloc,
-            "sample",
-            "1/N",
-            "Takes one key of N, and makes pages N times smaller",
-        )
-        .default_value("1/1"))?
-        .arg(text(
-            alloc,
-            "split",
-            "SECONDS",
-            "Writes the steps in front of this second, by the Unix clock, to PREFIX.start [without it: one script]",
-        )
-        .value_parser(value_parser!(u32)))?
-        .arg(
-            Arg::new(alloc, "check")
-                .long("check")
-                .action(ArgAction::SetTrue)
-                .help("Also plays the script, and tells how many gets and evictions are as logged"),
-        )
+        .arg(one_of(alloc))
+}
+
+fn watch_command<'a>(alloc: Global) -> Result<Command<'a>, AllocError> {
+    let command = Command::new(alloc, "watch").about(
+        "Makes a script of logs that `watch fetchers mutations evictions sysevents deletions` sent",
+    );
+    let command = with_files(alloc, command)?;
+    let command = with_cache(alloc, command)?;
+    with_events(alloc, command)?
+        .arg(split(alloc))?
+        .arg(check(alloc))
+}
+
+// The imports of what was asked of a cache.
+fn with_requests<'a>(alloc: Global, command: Command<'a>) -> Result<Command<'a>, AllocError> {
+    command
+        .subcommand(watch_command(alloc)?)?
+        .subcommand(csv_command(alloc)?)
 }
 
 /// The subcommand `import` with its own.
 pub fn import_command<'a>(alloc: Global) -> Result<Command<'a>, AllocError> {
-    Command::new(alloc, "import")
+    let command = Command::new(alloc, "import")
         .about("Makes a script of what a running memcached tells of itself")
         .subcommand_required(true)
-        .arg_required_else_help(true)
-        .subcommand(watch_command(alloc)?)?
-        .subcommand(csv_command(alloc)?)?
-        .subcommand(state_command(alloc)?)
+        .arg_required_else_help(true);
+    with_requests(alloc, command)?.subcommand(state_command(alloc)?)
 }
 
 /// Whether the first word says `import`.

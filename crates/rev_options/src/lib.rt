@@ -183,19 +183,30 @@ fn record_command<'a>(alloc: Global) -> Result<Command<'a>, AllocError> {
         .arg(files(alloc))
 }
 
+// The commands that play scripts.
+fn with_scripts<'a>(alloc: Global, command: Command<'a>) -> Result<Command<'a>, AllocError> {
+    command
+        .subcommand(run_command(alloc)?)?
+        .subcommand(record_command(alloc)?)
+}
+
+// The command that makes a script, and the one that looks around in it.
+fn with_traces<'a>(alloc: Global, command: Command<'a>) -> Result<Command<'a>, AllocError> {
+    command
+        .subcommand(import_command(alloc)?)?
+        .subcommand(open_command(alloc)?)
+}
+
 fn whole_command<'a>(alloc: Global) -> Result<Command<'a>, AllocError> {
-    Command::new(alloc, "lrudb")
+    let command = Command::new(alloc, "lrudb")
         .bin_name("lrudb")?
         .about(ABOUT)
         .after_help(AFTER)
         .no_binary_name(true)
         .subcommand_required(true)
-        .arg_required_else_help(true)
-        .subcommand(run_command(alloc)?)?
-        .subcommand(record_command(alloc)?)?
-        .subcommand(import_command(alloc)?)?
-        .subcommand(open_command(alloc)?)?
-        .subcommand(report_command(alloc)?)
+        .arg_required_else_help(true);
+    let command = with_scripts(alloc, command)?;
+    with_traces(alloc, command)?.subcommand(report_command(alloc)?)
 }
 
 // Each number has a default and passed its parser, so none is absent.

@@ -119,42 +119,66 @@ fn csv<'a>(alloc: Global) -> Result<Arg<'a>, AllocError> {
     .conflicts_with("factor")
 }
 
+fn settings<'a>(alloc: Global) -> Result<Arg<'a>, AllocError> {
+    text(
+        alloc,
+        "settings",
+        "FILE",
+        "With --watch: the server's text of `stats settings`",
+    )
+    .requires_arg("watch")
+}
+
+fn exact_factor<'a>(alloc: Global) -> Result<Arg<'a>, AllocError> {
+    text(
+        alloc,
+        "factor",
+        "N/D",
+        "With --watch: the growth factor of chunk sizes [without it: the decimals of the settings]",
+    )
+    .requires_arg("watch")
+}
+
+fn one_of<'a>(alloc: Global) -> Result<Arg<'a>, AllocError> {
+    text(
+        alloc,
+        "sample",
+        "1/N",
+        "With --csv: takes one key of N, and makes pages N times smaller",
+    )
+    .requires_arg("csv")
+}
+
+fn steps<'a>(alloc: Global) -> Result<Arg<'a>, AllocError> {
+    text(
+        alloc,
+        "steps",
+        "WHICH",
+        "With --watch or --csv: steps of the LRU maintainer: lean, none, or every:N lines of clients [without it: lean]",
+    )
+    .conflicts_with("traces")
+}
+
+// The options by which logs are played.
+fn with_logs<'a>(alloc: Global, command: Command<'a>) -> Result<Command<'a>, AllocError> {
+    let command = command.arg(watch_alone(alloc)?)?;
+    command
+        .arg(settings(alloc)?)?
+        .arg(exact_factor(alloc)?)
+}
+
+// The options by which rows are played.
+fn with_rows<'a>(alloc: Global, command: Command<'a>) -> Result<Command<'a>, AllocError> {
+    command.arg(csv(alloc)?)?.arg(one_of(alloc)?)
+}
+
 /// The same with the options by which something is imported.
 pub(crate) fn with_imports<'a>(
     alloc: Global,
     command: Command<'a>,
 ) -> Result<Command<'a>, AllocError> {
-    command
-        .arg(watch_alone(alloc)?)?
-        .arg(text(
-            alloc,
-            "settings",
-            "FILE",
-            "With --watch: the server's text of `stats settings`",
-        )
-        .requires_arg("watch")?)?
-        .arg(text(
-            alloc,
-            "factor",
-            "N/D",
-            "With --watch: the growth factor of chunk sizes [without it: the decimals of the settings]",
-        )
-        .requires_arg("watch")?)?
-        .arg(csv(alloc)?)?
-        .arg(text(
-            alloc,
-            "sample",
-            "1/N",
-            "With --csv: takes one key of N, and makes pages N times smaller",
-        )
-        .requires_arg("csv")?)?
-        .arg(text(
-            alloc,
-            "steps",
-            "WHICH",
-            "With --watch or --csv: steps of the LRU maintainer: lean, none, or every:N lines of clients [without it: lean]",
-        )
-        .conflicts_with("traces")?)
+    let command = with_logs(alloc, command)?;
+    with_rows(alloc, command)?.arg(steps(alloc)?)
 }
 
 // Where it is given by the launcher, at a terminal.
@@ -173,15 +197,20 @@ pub(crate) fn progress<'a>(alloc: Global) -> Arg<'a> {
         .hide(true)
 }
 
+fn with_manner<'a>(alloc: Global, command: Command<'a>) -> Result<Command<'a>, AllocError> {
+    command
+        .arg(line_feed(alloc))?
+        .arg(prompt(alloc))?
+        .arg(progress(alloc))
+}
+
 /// The subcommand `open`.
 pub fn open_command<'a>(alloc: Global) -> Result<Command<'a>, AllocError> {
     let command = Command::new(alloc, "open").about(
         "Plays the steps of traces, and answers the lines of the standard input at any node of theirs",
     );
-    let command = with_config(alloc, command)?
-        .arg(line_feed(alloc))?
-        .arg(prompt(alloc))?
-        .arg(progress(alloc))?
+    let command = with_config(alloc, command)?;
+    let command = with_manner(alloc, command)?
         .arg(start(alloc))?
         .arg(traces(alloc))?
         .arg(json(alloc))?;

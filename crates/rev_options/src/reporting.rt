@@ -2,7 +2,7 @@
 ghost use Rattle.std.specs.Prelude.{◌≡◌, map, true, false, IfOk};
 ghost use Rattle.rev_options.specs.Request.{IsInRange, IsOfWords, IsPlayedInRange, OpensBy, BringsBy, ReportsBy, RunsBy, asks_report};
 
-use crate::import::{STANDARD, factor, given, number, required, text};
+use crate::import::{STANDARD, factor, given, needed, number, required, text};
 use crate::opening::{
     CsvOpening, Manner, Opening, WatchOpening, csv_opening, named, names, progress, watch_opening,
     with_imports,
@@ -72,17 +72,19 @@ fn what_ifs<'a>(alloc: Global) -> Result<Arg<'a>, AllocError> {
     .conflicts_with("start")
 }
 
-/// The subcommand `report`.
-pub(crate) fn report_command<'a>(alloc: Global) -> Result<Command<'a>, AllocError> {
-    let command = Command::new(alloc, "report").about(
-        "Plays the steps of traces, and writes a page that tells where the cache loses its keys",
-    );
-    let command = with_config(alloc, command)?
+// The options by which traces are played.
+fn with_traces<'a>(alloc: Global, command: Command<'a>) -> Result<Command<'a>, AllocError> {
+    command
         .arg(line_feed(alloc))?
         .arg(progress(alloc))?
         .arg(start(alloc))?
-        .arg(traces(alloc)?)?
-        .arg(text(alloc, "out", "FILE", "Writes the page to this file").required(true))?
+        .arg(traces(alloc)?)
+}
+
+// The options that say what is written.
+fn with_texts<'a>(alloc: Global, command: Command<'a>) -> Result<Command<'a>, AllocError> {
+    command
+        .arg(needed(alloc, "out", "FILE", "Writes the page to this file"))?
         .arg(text(
             alloc,
             "data",
@@ -94,8 +96,17 @@ pub(crate) fn report_command<'a>(alloc: Global) -> Result<Command<'a>, AllocErro
             "key",
             "KEY",
             "Also tells the life of a key [may be given again]",
-        ))?
-        .arg(what_ifs(alloc)?)?;
+        ))
+}
+
+/// The subcommand `report`.
+pub(crate) fn report_command<'a>(alloc: Global) -> Result<Command<'a>, AllocError> {
+    let command = Command::new(alloc, "report").about(
+        "Plays the steps of traces, and writes a page that tells where the cache loses its keys",
+    );
+    let command = with_config(alloc, command)?;
+    let command = with_traces(alloc, command)?;
+    let command = with_texts(alloc, command)?.arg(what_ifs(alloc)?)?;
     with_imports(alloc, command)
 }
 

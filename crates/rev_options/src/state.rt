@@ -1,6 +1,6 @@
 //! The words of `lrudb import state`.
 
-use crate::import::{factor_of, required, text};
+use crate::import::{exact_factor, factor_of, needed, required};
 use clap::{ArgMatches, Command, Error};
 use rev_import::setup::Factor;
 use std::alloc::{AllocError, Global};
@@ -19,38 +19,41 @@ pub struct StateImport {
     pub out: String,
 }
 
-pub(crate) fn state_command<'a>(alloc: Global) -> Result<Command<'a>, AllocError> {
-    Command::new(alloc, "state")
-        .about("Makes a start of the items that a running memcached holds")
-        .arg(text(
+// The texts that tell of the items.
+fn with_items<'a>(alloc: Global, command: Command<'a>) -> Result<Command<'a>, AllocError> {
+    command
+        .arg(needed(
             alloc,
             "metadump",
             "FILE",
             "What `lru_crawler metadump all` sent",
-        )
-        .required(true))?
-        .arg(text(
+        ))?
+        .arg(needed(
             alloc,
             "items",
             "FILE",
             "The server's text of `stats items`, just before or behind it",
-        )
-        .required(true))?
-        .arg(text(alloc, "slabs", "FILE", "Its text of `stats slabs`").required(true))?
-        .arg(text(alloc, "settings", "FILE", "Its text of `stats settings`").required(true))?
-        .arg(text(
+        ))?
+        .arg(needed(alloc, "slabs", "FILE", "Its text of `stats slabs`"))
+}
+
+pub(crate) fn state_command<'a>(alloc: Global) -> Result<Command<'a>, AllocError> {
+    let command = Command::new(alloc, "state")
+        .about("Makes a start of the items that a running memcached holds");
+    with_items(alloc, command)?
+        .arg(needed(
+            alloc,
+            "settings",
+            "FILE",
+            "Its text of `stats settings`",
+        ))?
+        .arg(needed(
             alloc,
             "out",
             "PREFIX",
             "Writes PREFIX.start and PREFIX.options",
-        )
-        .required(true))?
-        .arg(text(
-            alloc,
-            "factor",
-            "N/D",
-            "The growth factor of chunk sizes [without it: the decimals of the settings]",
-        ))
+        ))?
+        .arg(exact_factor(alloc))
 }
 
 pub(crate) fn state_import(alloc: Global, matches: &ArgMatches<'_>) -> Result<StateImport, Error> {
