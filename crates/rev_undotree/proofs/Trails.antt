@@ -6,7 +6,7 @@ use Rattle.rev_model.specs.Actor.{step as played_step}
 use Rattle.rev_model.specs.Causes.{step_removals}
 use Rattle.rev_model.specs.Move.{LeadsBack}
 use Rattle.rev_changes.specs.Record.{flat}
-use Rattle.rev_edits.specs.Telling.{TellsAll}
+use Rattle.rev_changes.specs.Telling.{TellsAll}
 use Rattle.rev_undotree.specs.Steps.{State, PlainRecord, Step, Outcome, Sound, next, outcome_of, Undoes}
 use Rattle.rev_undotree.specs.Tree.{PlainNode, PlainBranch, fork_at}
 use Rattle.rev_undotree.specs.Places.{with_place}

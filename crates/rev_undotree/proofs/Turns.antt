@@ -10,7 +10,7 @@ use Rattle.rev_model.specs.Move.{LeadsBack}
 use Rattle.rev_model.proofs.Undo.{turns_back}
 use Rattle.rev_changes.specs.Record.{flat}
 use Rattle.rev_changes.proofs.Turning.{length-turned}
-use Rattle.rev_edits.specs.Telling.{TellsAll}
+use Rattle.rev_changes.specs.Telling.{TellsAll}
 use Rattle.rev_undotree.specs.Steps.{State, Step, Outcome, PlainRecord, Sound, next, outcome_of, Fits, turned, Leads, Recalls, Undoes}
 
 -- what a turn needs

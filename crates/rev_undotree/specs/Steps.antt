@@ -8,7 +8,7 @@ pub use Rattle.rev_changes.specs.Record.{PlainRecord}
 pub use Rattle.rev_model.specs.declared.Outcome.{Outcome}
 use Rattle.rev_model.specs.Actor as actor
 use Rattle.rev_model.specs.Causes.{step_removals}
-use Rattle.rev_edits.specs.Telling.{TellsAll}
+use Rattle.rev_changes.specs.Telling.{TellsAll}
 use Rattle.rev_model.specs.Move as moves
 
 -- the state that a step leaves
