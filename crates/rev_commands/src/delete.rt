@@ -6,7 +6,7 @@ ghost use Rattle.rev_model.specs.Sound.{Sound};
 ghost use Rattle.rev_model.specs.Move.{LeadsBack};
 ghost use Rattle.rev_changes.specs.Leads.{Leads};
 ghost use Rattle.rev_model.specs.declared.Cause.TheVariants as causes;
-ghost use Rattle.rev_edits.specs.Telling.{Tells, TellsAll};
+ghost use Rattle.rev_changes.specs.Telling.{Tells, TellsAll};
 ghost use Rattle.rev_model.specs.Causes.{clear_removals};
 ghost use Rattle.rev_commands.specs.Looking.{removal_need};
 

@@ -4,7 +4,7 @@ ghost use Rattle.rev_model.specs.Client.{client as client_of};
 ghost use Rattle.rev_model.specs.Sound.{Sound};
 ghost use Rattle.rev_model.specs.Move.{LeadsBack};
 ghost use Rattle.rev_model.specs.Causes.{client_removals};
-ghost use Rattle.rev_edits.specs.Telling.{TellsAll};
+ghost use Rattle.rev_changes.specs.Telling.{TellsAll};
 ghost use Rattle.rev_requests.specs.Plain.{plain_client, plain_keyed};
 
 use crate::delete::delete;

@@ -4,7 +4,7 @@ ghost use Rattle.rev_model.specs.Client.{flush_all as flush_all_of, flush_moment
 ghost use Rattle.rev_model.specs.Sound.{Sound};
 ghost use Rattle.rev_model.specs.Move.{LeadsBack};
 ghost use Rattle.rev_model.specs.State.{State};
-ghost use Rattle.rev_edits.specs.Telling.{TellsAll};
+ghost use Rattle.rev_changes.specs.Telling.{TellsAll};
 ghost use Rattle.rev_commands.specs.Flushing.{flushed};
 
 use rev_changes::{Change, Record};

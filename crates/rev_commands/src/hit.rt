@@ -8,7 +8,7 @@ ghost use Rattle.rev_model.specs.Client.{hit as hit_of, hit_again as hit_again_o
 ghost use Rattle.rev_model.specs.Sound.{Sound};
 ghost use Rattle.rev_model.specs.declared.Queue.{Queue};
 ghost use Rattle.rev_changes.specs.Leads.{Leads};
-ghost use Rattle.rev_edits.specs.Telling.{Tells};
+ghost use Rattle.rev_changes.specs.Telling.{Tells};
 ghost use Rattle.rev_commands.specs.Hitting.{hit_need, led_need};
 
 use rev_changes::{Change, Record};

@@ -8,7 +8,7 @@ ghost use Rattle.rev_model.specs.Client.{lookup, looked_item, removed};
 ghost use Rattle.rev_model.specs.Sound.{SoundBut, Stands};
 ghost use Rattle.rev_changes.specs.Leads.{Leads};
 ghost use Rattle.rev_model.specs.Track.{removal};
-ghost use Rattle.rev_edits.specs.Telling.{Tells};
+ghost use Rattle.rev_changes.specs.Telling.{Tells};
 ghost use Rattle.rev_model.specs.Causes.{dead_removals, look_removals, clear_removals};
 ghost use Rattle.rev_commands.specs.Looking.{dead_need, look_need, found_need, removal_need};
 ghost use Rattle.rev_commands.specs.Finding.{standing};

@@ -8,7 +8,7 @@ ghost use Rattle.rev_model.specs.Client.{lookup as lookup_of, refusal as refusal
 ghost use Rattle.rev_model.specs.Sound.{Sound, SoundBut};
 ghost use Rattle.rev_model.specs.Causes.{look_removals, settled_removals, store_in_removals};
 ghost use Rattle.rev_changes.specs.Leads.{Leads};
-ghost use Rattle.rev_edits.specs.Telling.{Tells};
+ghost use Rattle.rev_changes.specs.Telling.{Tells};
 ghost use Rattle.rev_edits.specs.Paging.{IsPlan};
 ghost use Rattle.rev_maintainer.specs.Rooming.{room_need};
 ghost use Rattle.rev_requests.specs.Plain.{plain_verb};

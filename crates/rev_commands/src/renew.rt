@@ -9,7 +9,7 @@ ghost use Rattle.rev_model.specs.Sound.{Sound, SoundBut};
 ghost use Rattle.rev_model.specs.Causes.{found_removals};
 ghost use Rattle.rev_model.specs.declared.ChunkRef.{ChunkRef as ChunkRefOf};
 ghost use Rattle.rev_changes.specs.Leads.{Leads};
-ghost use Rattle.rev_edits.specs.Telling.{Tells};
+ghost use Rattle.rev_changes.specs.Telling.{Tells};
 ghost use Rattle.rev_commands.specs.Looking.{found_need};
 ghost use Rattle.rev_commands.specs.Finding.{held};
 

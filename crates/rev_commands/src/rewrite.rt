@@ -4,7 +4,7 @@ ghost use Rattle.rev_model.specs.State.{find};
 ghost use Rattle.rev_model.specs.Sound.{Sound};
 ghost use Rattle.rev_model.specs.Move.{LeadsBack};
 ghost use Rattle.rev_model.specs.Causes.{look_removals, rewrite_in_removals};
-ghost use Rattle.rev_edits.specs.Telling.{TellsAll};
+ghost use Rattle.rev_changes.specs.Telling.{TellsAll};
 ghost use Rattle.rev_commands.specs.Rewriting.{rewritten_in, named};
 ghost use Rattle.rev_commands.specs.Drafts.{Drafted, Fits, missed, unchanged, carried, carried_removals};
 

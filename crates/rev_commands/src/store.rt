@@ -8,7 +8,7 @@ ghost use Rattle.rev_model.specs.State.{IsClass};
 ghost use Rattle.rev_model.specs.Move.{LeadsBack};
 ghost use Rattle.rev_model.specs.Causes.{failed_removals, store_in_removals, store_removals};
 ghost use Rattle.rev_model.specs.declared.Outcome.TheVariants as outcome;
-ghost use Rattle.rev_edits.specs.Telling.{TellsAll};
+ghost use Rattle.rev_changes.specs.Telling.{TellsAll};
 ghost use Rattle.rev_requests.specs.Plain.{plain_verb, plain_payload};
 ghost use Rattle.rev_commands.specs.Placing.{stored_in};
 

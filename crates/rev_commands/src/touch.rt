@@ -10,7 +10,7 @@ ghost use Rattle.rev_model.specs.Sound.{Sound};
 ghost use Rattle.rev_model.specs.Move.{LeadsBack};
 ghost use Rattle.rev_model.specs.Causes.{look_removals};
 ghost use Rattle.rev_changes.specs.Leads.{Leads};
-ghost use Rattle.rev_edits.specs.Telling.{Tells, TellsAll};
+ghost use Rattle.rev_changes.specs.Telling.{Tells, TellsAll};
 ghost use Rattle.rev_commands.specs.Hitting.{hit_need, access_need};
 
 use crate::hit::{access_moves, hit};

@@ -6,7 +6,7 @@ ghost use Rattle.rev_model.specs.Sound.{Sound};
 ghost use Rattle.rev_model.specs.Causes.{failed_removals};
 ghost use Rattle.rev_model.specs.declared.Outcome.{Outcome as OutcomeOf};
 ghost use Rattle.rev_changes.specs.Leads.{Leads};
-ghost use Rattle.rev_edits.specs.Telling.{Tells};
+ghost use Rattle.rev_changes.specs.Telling.{Tells};
 ghost use Rattle.rev_requests.specs.Plain.{plain_verb};
 ghost use Rattle.rev_commands.specs.Finding.{held};
 ghost use Rattle.rev_commands.specs.Placing.{failed_need};

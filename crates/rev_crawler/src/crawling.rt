@@ -10,7 +10,7 @@ ghost use Rattle.rev_model.specs.Causes.{crawl_removals, crawl_item_removals};
 ghost use Rattle.rev_model.specs.Track.{removal};
 ghost use Rattle.rev_model.specs.Sound.{Sound, Stands};
 ghost use Rattle.rev_model.specs.Move.{LeadsBack};
-ghost use Rattle.rev_edits.specs.Telling.{TellsAll};
+ghost use Rattle.rev_changes.specs.Telling.{TellsAll};
 
 use crate::reads::{is_class, unchanged};
 use rev_changes::{Change, Record};

@@ -3,7 +3,7 @@ ghost use Rattle.std.specs.Prelude.{◌≡◌, ◌<◌, IfOk, [], true, false};
 ghost use Rattle.rev_model.specs.State.{WellFormed, IsClass};
 ghost use Rattle.rev_model.specs.Move.{is_class, names, names_other, LeadsBack};
 ghost use Rattle.rev_model.specs.Actor.{has_mark, is_busy};
-ghost use Rattle.rev_edits.specs.Telling.{TellsAll};
+ghost use Rattle.rev_changes.specs.Telling.{TellsAll};
 
 use rev_changes::Record;
 use rev_inverse::Store;

@@ -1,4 +1,3 @@
-pub mod Telling
 pub mod Taking
 pub mod Linking
 pub mod Paging

@@ -11,7 +11,7 @@ ghost use Rattle.rev_model.specs.Words.{counted, headed, with_item, header_of};
 ghost use Rattle.rev_model.specs.Pull.{warmed, cooled};
 ghost use Rattle.rev_model.specs.Sound.{Stands};
 ghost use Rattle.rev_changes.specs.Leads.{Leads};
-ghost use Rattle.rev_edits.specs.Telling.{Tells};
+ghost use Rattle.rev_changes.specs.Telling.{Tells};
 
 use crate::moving::change;
 use rev_changes::{Change, Record};

@@ -7,7 +7,7 @@ ghost use Rattle.rev_model.specs.Words.{linked, queue_for, is_brief, class_of};
 ghost use Rattle.rev_model.specs.Pull.{fronted};
 ghost use Rattle.rev_model.specs.Sound.{SoundBut, Sound};
 ghost use Rattle.rev_changes.specs.Leads.{Leads};
-ghost use Rattle.rev_edits.specs.Telling.{Tells};
+ghost use Rattle.rev_changes.specs.Telling.{Tells};
 ghost use Rattle.rev_edits.specs.Linking.{Fresh};
 ghost use Rattle.rev_edits.specs.Taking.{paired};
 

@@ -6,7 +6,7 @@ ghost use Rattle.rev_model.specs.Words.{unlinked, freed, dropped, counted};
 ghost use Rattle.rev_model.specs.Sound.{Stands, Loose};
 ghost use Rattle.rev_changes.specs.Leads.{Leads};
 ghost use Rattle.rev_model.specs.Track.{removal};
-ghost use Rattle.rev_edits.specs.Telling.{Tells};
+ghost use Rattle.rev_changes.specs.Telling.{Tells};
 
 use crate::alter::raise;
 use crate::moving::change;

@@ -5,7 +5,7 @@ ghost use Rattle.rev_model.specs.Move.{moved, Possible, reverse};
 ghost use Rattle.rev_model.specs.Track.{removed};
 ghost use Rattle.rev_changes.specs.Leads.{Leads};
 ghost use Rattle.rev_changes.specs.Seen.{plain_move, IsSingle};
-ghost use Rattle.rev_edits.specs.Telling.{Tells};
+ghost use Rattle.rev_changes.specs.Telling.{Tells};
 
 use rev_changes::{Change, Record};
 use rev_inverse::Store;

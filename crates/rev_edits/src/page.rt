@@ -4,7 +4,7 @@ ghost use Rattle.rev_model.specs.State.{State, WellFormed, free_of, per_page, Is
 ghost use Rattle.rev_model.specs.Pull.{carved, page_of};
 ghost use Rattle.rev_model.specs.Sound.{Sound};
 ghost use Rattle.rev_changes.specs.Leads.{Leads};
-ghost use Rattle.rev_edits.specs.Telling.{Tells};
+ghost use Rattle.rev_changes.specs.Telling.{Tells};
 ghost use Rattle.rev_edits.specs.Paging.{IsPlan};
 
 use crate::moving::change;

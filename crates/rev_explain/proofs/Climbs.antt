@@ -8,11 +8,11 @@ use Rattle.rev_model.specs.Events.{event}
 use Rattle.rev_model.specs.Track.{key_place_of}
 use Rattle.rev_model.specs.declared.Outcome.{Outcome}
 use Rattle.rev_changes.specs.Record.{PlainRecord}
-use Rattle.rev_undotree.specs.Rows.{Row, RowsFall, row_of, at}
-use Rattle.rev_undotree.specs.Machine.{nodes_from, lineage_within, lineage}
-use Rattle.rev_undotree.specs.Positions.{SessionState}
-use Rattle.rev_undotree.specs.Trails.{Trailed}
-use Rattle.rev_undotree.specs.Mentioned.{Still, IsStill}
+use Rattle.rev_tree.specs.Rows.{Row, RowsFall, row_of, at}
+use Rattle.rev_tree.specs.Machine.{nodes_from, lineage_within, lineage}
+use Rattle.rev_tree.specs.Positions.{SessionState}
+use Rattle.rev_tree.specs.Trails.{Trailed}
+use Rattle.rev_tree.specs.Mentioned.{Still, IsStill}
 use Rattle.rev_explain.specs.Story.{told, row_events, events_along, story}
 
 -- ---- the lineage of a node

@@ -29,11 +29,11 @@ use Rattle.rev_changes.specs.Record.{PlainChange, PlainRecord, IsWhole, plain_ch
 use Rattle.rev_changes.specs.Seen.{plain_moves, plain_notes}
 use Rattle.rev_changes.specs.declared.changes.Change as kept
 use Rattle.rev_changes.specs.declared.changes.Change.TheVariants as stored
-use Rattle.rev_undotree.specs.Steps.{outcome_of}
-use Rattle.rev_undotree.specs.Rows.{Row, row_of, at}
-use Rattle.rev_undotree.specs.Machine.{lineage}
-use Rattle.rev_undotree.specs.Positions.{SessionState}
-use Rattle.rev_undotree.specs.Trails.{Trailed}
+use Rattle.rev_tree.specs.Steps.{outcome_of}
+use Rattle.rev_tree.specs.Rows.{Row, row_of, at}
+use Rattle.rev_tree.specs.Machine.{lineage}
+use Rattle.rev_tree.specs.Positions.{SessionState}
+use Rattle.rev_tree.specs.Trails.{Trailed}
 use Rattle.rev_explain.specs.Readings.{removals_by}
 use Rattle.rev_explain.specs.Departures.{PlainDeparture, departure, departures_in, departures_at, row_departures, departures_along, departures, is_enough, at_most, last_of}
 use Rattle.rev_explain.specs.Told.{told_by, story_departures, key_departures, Rise, AreTold}

@@ -20,10 +20,10 @@ use Rattle.rev_model.specs.declared.Outcome.{Outcome}
 use Rattle.rev_model.specs.declared.Queue.{Queue}
 use Rattle.rev_changes.specs.Record.{PlainRecord}
 use Rattle.rev_edits.proofs.Seats.{item_stands, owner_class}
-use Rattle.rev_undotree.specs.Steps.{outcome_of}
-use Rattle.rev_undotree.specs.Rows.{at}
-use Rattle.rev_undotree.specs.Positions.{SessionState}
-use Rattle.rev_undotree.specs.Trails.{Trailed}
+use Rattle.rev_tree.specs.Steps.{outcome_of}
+use Rattle.rev_tree.specs.Rows.{at}
+use Rattle.rev_tree.specs.Positions.{SessionState}
+use Rattle.rev_tree.specs.Trails.{Trailed}
 use Rattle.rev_undotree.proofs.Recalled.{Recalled, Gone, leads_to, cause_told}
 use Rattle.rev_explain.specs.Readings.{left_cause}
 

@@ -13,12 +13,12 @@ use Rattle.rev_model.specs.declared.KeyChange.{KeyChange}
 use Rattle.rev_model.specs.declared.KeyPlace.{KeyPlace}
 use Rattle.rev_model.specs.declared.Outcome.{Outcome}
 use Rattle.rev_changes.specs.Record.{PlainRecord}
-use Rattle.rev_undotree.specs.Rows.{RowsFall, at}
-use Rattle.rev_undotree.specs.Machine.{lineage}
-use Rattle.rev_undotree.specs.Positions.{SessionState}
-use Rattle.rev_undotree.specs.Trails.{Trailed}
+use Rattle.rev_tree.specs.Rows.{RowsFall, at}
+use Rattle.rev_tree.specs.Machine.{lineage}
+use Rattle.rev_tree.specs.Positions.{SessionState}
+use Rattle.rev_tree.specs.Trails.{Trailed}
 use Rattle.rev_undotree.proofs.Recalled.{was_at, tells_at}
-use Rattle.rev_undotree.specs.Mentioned.{IsStill}
+use Rattle.rev_tree.specs.Mentioned.{IsStill}
 use Rattle.rev_explain.specs.Readings.{note_of, left_cause}
 use Rattle.rev_explain.specs.Story.{told, events_along, story, left_or, last_left}
 use Rattle.rev_explain.specs.declared.events.Event.{Event}

@@ -36,11 +36,11 @@ use Rattle.rev_model.specs.declared.PullMode.TheVariants.{Plain, Evicting, Share
 use Rattle.rev_model.specs.declared.Queue.{Queue}
 use Rattle.rev_model.specs.declared.Queue.TheVariants.{Hot, Warm, Cold, Temp}
 use Rattle.rev_changes.specs.Record.{PlainChange, PlainRecord, IsWhole, moves_in}
-use Rattle.rev_undotree.specs.Steps.{next}
-use Rattle.rev_undotree.specs.Rows.{Row, row_of, state_from, at_within, at}
-use Rattle.rev_undotree.specs.Machine.{nodes_from, lineage_within, lineage}
-use Rattle.rev_undotree.specs.Positions.{SessionState}
-use Rattle.rev_undotree.specs.Trails.{Trailed}
+use Rattle.rev_tree.specs.Steps.{next}
+use Rattle.rev_tree.specs.Rows.{Row, row_of, state_from, at_within, at}
+use Rattle.rev_tree.specs.Machine.{nodes_from, lineage_within, lineage}
+use Rattle.rev_tree.specs.Positions.{SessionState}
+use Rattle.rev_tree.specs.Trails.{Trailed}
 use Rattle.rev_explain.specs.Readings.{clock_through}
 use Rattle.rev_explain.specs.Clocks.{later, time_set, clock_at, last_by, node_by}
 use Rattle.rev_explain.proofs.MoveLaws.{drop_at}

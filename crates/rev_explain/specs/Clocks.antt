@@ -3,8 +3,8 @@
 use Rattle.std.specs.Prelude.{ℕ, cond, nat_le, nat_lt, List, [], ◌∷◌, Option, None, Some}
 use Rattle.rev_model.specs.State.{State}
 use Rattle.rev_model.specs.Actor.{Step, Clock}
-use Rattle.rev_undotree.specs.Rows.{Row, at}
-use Rattle.rev_undotree.specs.Machine.{lineage}
+use Rattle.rev_tree.specs.Rows.{Row, at}
+use Rattle.rev_tree.specs.Machine.{lineage}
 
 -- the clock after the step of node n, in seconds; that of the root where n is 0
 abbrev pub clock_at : State → List (Option Row) → ℕ → ℕ

@@ -9,9 +9,9 @@ use Rattle.rev_model.specs.Events.{is_key, stored_key}
 use Rattle.rev_model.specs.Track.{Removal}
 use Rattle.rev_model.specs.declared.Cause.{Cause}
 use Rattle.rev_model.specs.declared.Outcome.{Outcome}
-use Rattle.rev_undotree.specs.Steps.{outcome_of}
-use Rattle.rev_undotree.specs.Rows.{Row, row_of, at}
-use Rattle.rev_undotree.specs.Machine.{lineage}
+use Rattle.rev_tree.specs.Steps.{outcome_of}
+use Rattle.rev_tree.specs.Rows.{Row, row_of, at}
+use Rattle.rev_tree.specs.Machine.{lineage}
 
 -- a key that left at a node, and why
 pub record PlainDeparture : Type 0 where

@@ -15,7 +15,7 @@ use Rattle.rev_model.specs.declared.GlobalPart.TheVariants.{Timing}
 use Rattle.rev_model.specs.declared.KeyChange.{KeyChange}
 use Rattle.rev_model.specs.declared.Listed.TheVariants.{InQueue}
 use Rattle.rev_model.specs.declared.Placed.TheVariants.{ToQueue}
-pub use Rattle.rev_undotree.specs.Named.{note_of}
+pub use Rattle.rev_tree.specs.Named.{note_of}
 
 -- whether the chunk's item has the key after the move, or else which chunk to ask for before it
 abbrev pub keyed_after : List ℕ → Move → ChunkRef → ControlFlow Bool ChunkRef

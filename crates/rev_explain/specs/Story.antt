@@ -6,8 +6,8 @@ use Rattle.rev_model.specs.Track.{held}
 use Rattle.rev_model.specs.Events.{event}
 use Rattle.rev_model.specs.declared.EventKind.{EventKind}
 use Rattle.rev_model.specs.declared.EventKind.TheVariants as kind
-use Rattle.rev_undotree.specs.Rows.{Row, row_of, at}
-use Rattle.rev_undotree.specs.Machine.{lineage}
+use Rattle.rev_tree.specs.Rows.{Row, row_of, at}
+use Rattle.rev_tree.specs.Machine.{lineage}
 use Rattle.rev_undotree.specs.declared.session.NodeId.{NodeId}
 use Rattle.rev_explain.specs.declared.events.Event.{Event}
 use Rattle.rev_explain.specs.declared.events.Why.{Why}

@@ -5,7 +5,7 @@ ghost use Rattle.rev_model.specs.Sound.{Sound};
 ghost use Rattle.rev_model.specs.Track.{key_place_of, key_change};
 ghost use Rattle.rev_model.specs.Events.{is_key, stored_key, event_by};
 ghost use Rattle.rev_requests.specs.Plain.{plain_step};
-ghost use Rattle.rev_undotree.specs.Rows.{at};
+ghost use Rattle.rev_tree.specs.Rows.{at};
 ghost use Rattle.rev_explain.specs.Readings.{left_cause};
 ghost use Rattle.rev_explain.specs.Story.{told, last_left, story as story_of, why_of};
 

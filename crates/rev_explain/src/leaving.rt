@@ -3,8 +3,8 @@ ghost use Rattle.std.specs.Prelude.{◌≡◌, ◌++◌, ◌<◌, ◌⊎◌, len
 ghost use Rattle.rev_model.specs.State.{State};
 ghost use Rattle.rev_model.specs.Track.{removals};
 ghost use Rattle.rev_requests.specs.Plain.{plain_step};
-ghost use Rattle.rev_undotree.specs.Machine.{lineage};
-ghost use Rattle.rev_undotree.specs.Trails.{Trailed};
+ghost use Rattle.rev_tree.specs.Machine.{lineage};
+ghost use Rattle.rev_tree.specs.Trails.{Trailed};
 ghost use Rattle.rev_explain.specs.Readings.{removals_by};
 ghost use Rattle.rev_explain.specs.Departures.{departures as departures_of, departures_in, is_enough as enough, at_most, last_of};
 ghost use Rattle.rev_explain.specs.Told.{AreTold};

@@ -10,10 +10,10 @@ use Rattle.rev_model.specs.declared.Outcome.{Outcome}
 use Rattle.rev_model.specs.declared.Outcome.TheVariants as outcome
 use Rattle.rev_changes.specs.Record.{PlainRecord}
 use Rattle.rev_changes.proofs.Lists.{map-reverse}
-use Rattle.rev_undotree.specs.Rows.{row_of, parent_of, at}
-use Rattle.rev_undotree.specs.Machine.{lineage}
-use Rattle.rev_undotree.specs.Positions.{SessionState}
-use Rattle.rev_undotree.specs.Trails.{Trailed}
+use Rattle.rev_tree.specs.Rows.{row_of, parent_of, at}
+use Rattle.rev_tree.specs.Machine.{lineage}
+use Rattle.rev_tree.specs.Positions.{SessionState}
+use Rattle.rev_tree.specs.Trails.{Trailed}
 use Rattle.rev_explain.specs.Departures.{PlainDeparture, departures_in}
 use Rattle.rev_explain.proofs.Climbs.{Climbs, climb_starts}
 use Rattle.rev_figures.specs.Asks.{no_ask, asked_at, asked_along}

@@ -7,11 +7,11 @@ use Rattle.rev_model.specs.Causes.{step_removals}
 use Rattle.rev_model.specs.Track.{removals}
 use Rattle.rev_model.specs.declared.Outcome.{Outcome}
 use Rattle.rev_changes.specs.Record.{PlainRecord}
-use Rattle.rev_undotree.specs.Steps.{outcome_of}
-use Rattle.rev_undotree.specs.Rows.{row_of, parent_of, option_parent, at}
-use Rattle.rev_undotree.specs.Machine.{lineage}
-use Rattle.rev_undotree.specs.Positions.{SessionState}
-use Rattle.rev_undotree.specs.Trails.{Trailed}
+use Rattle.rev_tree.specs.Steps.{outcome_of}
+use Rattle.rev_tree.specs.Rows.{row_of, parent_of, option_parent, at}
+use Rattle.rev_tree.specs.Machine.{lineage}
+use Rattle.rev_tree.specs.Positions.{SessionState}
+use Rattle.rev_tree.specs.Trails.{Trailed}
 use Rattle.rev_explain.specs.Departures.{departures_in, departures_at}
 use Rattle.rev_explain.proofs.Climbs.{Climbs, climbs, node_is, row_is}
 use Rattle.rev_figures.specs.Asks.{asked_at, asked_along, row_asked}

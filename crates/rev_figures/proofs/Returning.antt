@@ -3,10 +3,10 @@ use Rattle.std.proofs.Common.{◌≡◌, ℕ, zero, suc, ◌↔◌, Bool, true, 
 use Rattle.std.specs.Result.{IsOk, OnOk, OnErr}
 use Rattle.std.proofs.lemmas.Bool.{false≢true, true≢false}
 use Rattle.std.proofs.lemmas.List.{append-nil}
-use Rattle.rev_undotree.specs.Finds.{is_held}
-use Rattle.rev_undotree.specs.Rows.{Row, row_of, at}
-use Rattle.rev_undotree.specs.Machine.{nodes_from, lineage_within, lineage}
-use Rattle.rev_undotree.specs.Positions.{SessionState}
+use Rattle.rev_tree.specs.Finds.{is_held}
+use Rattle.rev_tree.specs.Rows.{Row, row_of, at}
+use Rattle.rev_tree.specs.Machine.{nodes_from, lineage_within, lineage}
+use Rattle.rev_tree.specs.Positions.{SessionState}
 use Rattle.rev_explain.proofs.Timing.{clock_root}
 use Rattle.rev_figures.specs.Climbing.{HasClimbed}
 

@@ -5,8 +5,8 @@ use Rattle.rev_model.specs.State.{State}
 use Rattle.rev_model.specs.Actor.{Step}
 use Rattle.rev_model.specs.Events.{is_key}
 use Rattle.rev_model.specs.declared.Outcome.{Outcome}
-use Rattle.rev_undotree.specs.Steps.{outcome_of}
-use Rattle.rev_undotree.specs.Rows.{Row, row_of, at}
+use Rattle.rev_tree.specs.Steps.{outcome_of}
+use Rattle.rev_tree.specs.Rows.{Row, row_of, at}
 use Rattle.rev_figures.specs.Kinds.{command_key, kind_of}
 use Rattle.rev_figures.specs.declared.asks.Ask.{Ask}
 use Rattle.rev_figures.specs.declared.path.StepKind.{StepKind}

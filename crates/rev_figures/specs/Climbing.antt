@@ -2,8 +2,8 @@
 -- Rule of this project: a way that is read may end above the node where it began, and the session is as it was but for
 -- that.
 use Rattle.std.specs.Prelude.{◌≡◌, ℕ, List, [], ◌++◌}
-use Rattle.rev_undotree.specs.Machine.{lineage}
-use Rattle.rev_undotree.specs.Positions.{SessionState}
+use Rattle.rev_tree.specs.Machine.{lineage}
+use Rattle.rev_tree.specs.Positions.{SessionState}
 
 -- the session stands at a node on the way from the root to where it stood
 pub record HasClimbed (v now : SessionState) : Type 0 where

@@ -2,9 +2,9 @@
 -- Rule of this project: what a report is counted from.
 use Rattle.std.specs.Prelude.{ℕ, ◌+◌, ◌-◌, ◌/◌, ◌%◌, Bool, cond, ◌||◌, nat_eq, List, [], ◌∷◌, ◌++◌, Option, None, Some, length}
 use Rattle.rev_model.specs.State.{State}
-use Rattle.rev_undotree.specs.Steps.{outcome_of}
-use Rattle.rev_undotree.specs.Rows.{Row, row_of, at}
-use Rattle.rev_undotree.specs.Machine.{lineage}
+use Rattle.rev_tree.specs.Steps.{outcome_of}
+use Rattle.rev_tree.specs.Rows.{Row, row_of, at}
+use Rattle.rev_tree.specs.Machine.{lineage}
 use Rattle.rev_explain.specs.Departures.{departures_at}
 use Rattle.rev_figures.specs.Asks.{asked_along}
 use Rattle.rev_figures.specs.Rows.{step_row, leaving_rows, move_rows, bytes_rows}

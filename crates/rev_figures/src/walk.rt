@@ -5,7 +5,7 @@ ghost use Rattle.rev_model.specs.Sound.{Sound};
 ghost use Rattle.rev_model.specs.Actor.{owned_pages};
 ghost use Rattle.rev_model.specs.Events.{item_of};
 ghost use Rattle.rev_requests.specs.Plain.{plain_step};
-ghost use Rattle.rev_undotree.specs.Machine.{lineage};
+ghost use Rattle.rev_tree.specs.Machine.{lineage};
 ghost use Rattle.rev_figures.specs.Asks.{asked_at};
 ghost use Rattle.rev_figures.specs.Asking.{ask_in};
 ghost use Rattle.rev_figures.specs.Kinds.{command_key as key_of};

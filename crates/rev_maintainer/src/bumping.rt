@@ -8,7 +8,7 @@ ghost use Rattle.rev_model.specs.Words.{header_of};
 ghost use Rattle.rev_model.specs.Sound.{Sound, Stands};
 ghost use Rattle.rev_model.specs.Move.{LeadsBack};
 ghost use Rattle.rev_changes.specs.Leads.{Leads};
-ghost use Rattle.rev_edits.specs.Telling.{Tells, TellsAll};
+ghost use Rattle.rev_changes.specs.Telling.{Tells, TellsAll};
 ghost use Rattle.rev_maintainer.specs.Bumping.{asked, bumped, bump_need};
 
 use rev_changes::{Change, Record};

@@ -7,7 +7,7 @@ ghost use Rattle.rev_model.specs.Words.{header_of};
 ghost use Rattle.rev_model.specs.Pull.{pull_live, pull_item, pull};
 ghost use Rattle.rev_model.specs.Sound.{Stands, Sound};
 ghost use Rattle.rev_changes.specs.Leads.{Leads};
-ghost use Rattle.rev_edits.specs.Telling.{Tells};
+ghost use Rattle.rev_changes.specs.Telling.{Tells};
 ghost use Rattle.rev_model.specs.Causes.{live_removals, item_removals, pull_removals};
 
 use crate::reads::{evicts, is_crowded, takes_all};

@@ -4,7 +4,7 @@ ghost use Rattle.rev_model.specs.State.{State, WellFormed, IsChunkOf, free_of, I
 ghost use Rattle.rev_model.specs.Pull.{squeezed, given, page_of, room_by, room};
 ghost use Rattle.rev_model.specs.Sound.{Sound, SoundBut};
 ghost use Rattle.rev_changes.specs.Leads.{Leads};
-ghost use Rattle.rev_edits.specs.Telling.{Tells};
+ghost use Rattle.rev_changes.specs.Telling.{Tells};
 ghost use Rattle.rev_model.specs.Causes.{squeeze_removals, room_removals_by, room_removals};
 ghost use Rattle.rev_edits.specs.Taking.{paired};
 ghost use Rattle.rev_edits.specs.Paging.{IsPlan};

@@ -4,7 +4,7 @@ ghost use Rattle.rev_model.specs.Actor.{pull_step as pull_step_of};
 ghost use Rattle.rev_model.specs.Causes.{pull_step_removals};
 ghost use Rattle.rev_model.specs.Move.{is_class, LeadsBack};
 ghost use Rattle.rev_model.specs.Sound.{Sound};
-ghost use Rattle.rev_edits.specs.Telling.{TellsAll};
+ghost use Rattle.rev_changes.specs.Telling.{TellsAll};
 
 use crate::pulls::pull_queue;
 use rev_changes::Record;

@@ -6,7 +6,7 @@ ghost use Rattle.rev_model.specs.Causes.{cleared_removals, advance_removals};
 ghost use Rattle.rev_model.specs.Sound.{Sound, SoundBut};
 ghost use Rattle.rev_model.specs.Move.{LeadsBack};
 ghost use Rattle.rev_changes.specs.Leads.{Leads};
-ghost use Rattle.rev_edits.specs.Telling.{Tells, TellsAll};
+ghost use Rattle.rev_changes.specs.Telling.{Tells, TellsAll};
 ghost use Rattle.rev_mover.specs.Moving.{slot_chunk, next_mover, with_mover, IsLeft};
 ghost use Rattle.rev_mover.specs.Clearing.{clearing_of, clearing_moves};
 

@@ -11,7 +11,7 @@ ghost use Rattle.rev_model.specs.Causes.{cleared_removals};
 ghost use Rattle.rev_model.specs.Track.{removal};
 ghost use Rattle.rev_model.specs.Sound.{Sound, SoundBut};
 ghost use Rattle.rev_changes.specs.Leads.{Leads};
-ghost use Rattle.rev_edits.specs.Telling.{Tells};
+ghost use Rattle.rev_changes.specs.Telling.{Tells};
 ghost use Rattle.rev_mover.specs.Clearing.{clearing_of, clearing_moves};
 
 use rev_changes::{Change, Record};

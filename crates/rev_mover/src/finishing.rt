@@ -5,7 +5,7 @@ ghost use Rattle.rev_model.specs.Actor.{handed};
 ghost use Rattle.rev_model.specs.Sound.{Sound};
 ghost use Rattle.rev_model.specs.Move.{LeadsBack};
 ghost use Rattle.rev_changes.specs.Leads.{Leads};
-ghost use Rattle.rev_edits.specs.Telling.{Tells, TellsAll};
+ghost use Rattle.rev_changes.specs.Telling.{Tells, TellsAll};
 ghost use Rattle.rev_mover.specs.Moving.{pooled, finished, IsDone};
 ghost use Rattle.rev_mover.specs.Parting.{AreParts, parts_moves};
 

@@ -4,7 +4,7 @@ ghost use Rattle.rev_model.specs.Actor.{owned_pages, schedule as schedule_of};
 ghost use Rattle.rev_model.specs.Sound.{Sound, MoverSound};
 ghost use Rattle.rev_model.specs.Move.{LeadsBack};
 ghost use Rattle.rev_model.specs.declared.Outcome.TheVariants as outcome;
-ghost use Rattle.rev_edits.specs.Telling.{TellsAll};
+ghost use Rattle.rev_changes.specs.Telling.{TellsAll};
 ghost use Rattle.rev_mover.specs.Moving.{with_mover};
 
 use rev_changes::{Change, Record};

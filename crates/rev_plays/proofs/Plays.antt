@@ -3,9 +3,9 @@ use Rattle.std.proofs.Common.{◌≡◌, ◌∙◌, ap, sym, ℕ, ◌<◌, ◌&&
 use Rattle.std.proofs.lemmas.List.{append-nil}
 use Rattle.std.proofs.lemmas.Bool.Decides.{nat_tests}
 use Rattle.rev_model.specs.Actor.{Step}
-use Rattle.rev_undotree.specs.Steps.{outcome_of}
-use Rattle.rev_undotree.specs.Machine.{nesting_below}
-use Rattle.rev_undotree.specs.Positions.{SessionState}
+use Rattle.rev_tree.specs.Steps.{outcome_of}
+use Rattle.rev_tree.specs.Machine.{nesting_below}
+use Rattle.rev_tree.specs.Positions.{SessionState}
 use Rattle.rev_plays.specs.Replies.{state_of, is_full, is_too_deep, reply, after_step, value_of, values, or_refused, played, if_played, after_gets}
 use Rattle.rev_script.specs.Steps.{get}
 use Rattle.rev_plays.specs.declared.play.Reply.{Reply}

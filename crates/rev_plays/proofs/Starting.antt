@@ -1,12 +1,12 @@
 -- One step more of a start.
 use Rattle.std.proofs.Common.{◌≡◌, ℕ, ◌+◌, ◌<◌, ◌≤◌, Bool, true, false, cond, not, suc, zero, List, [], ◌∷◌, ◌++◌, length, Option, None, Some, refl, sym, ◌∙◌, ap, arith, length-append}
-use Rattle.rev_undotree.specs.Steps.{State, Step, next, outcome_of}
-use Rattle.rev_undotree.specs.Rows.{Row, row_of, row, at}
-use Rattle.rev_undotree.specs.Machine.{count_from, nesting_within, nesting, nesting_below, is_continued}
-use Rattle.rev_undotree.specs.Positions.{SessionState}
-use Rattle.rev_undotree.proofs.Growth.{row_of-last, falls_more}
+use Rattle.rev_tree.specs.Steps.{State, Step, next, outcome_of}
+use Rattle.rev_tree.specs.Rows.{Row, row_of, row, at}
+use Rattle.rev_tree.specs.Machine.{count_from, nesting_within, nesting, nesting_below, is_continued}
+use Rattle.rev_tree.specs.Positions.{SessionState}
+use Rattle.rev_tree.proofs.Growth.{row_of-last, falls_more}
 use Rattle.rev_undotree.proofs.Mentioned.{at_more}
-use Rattle.rev_undotree.proofs.Rows.{at-step}
+use Rattle.rev_tree.proofs.Rows.{at-step}
 use Rattle.rev_plays.specs.Replies.{state_of, reply, played, after_step, if_played}
 use Rattle.rev_plays.specs.Quiet.{quiet_of}
 use Rattle.rev_plays.specs.Start.{IsShort, run_forward, from_state}

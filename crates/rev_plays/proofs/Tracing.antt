@@ -3,7 +3,7 @@ use Rattle.std.proofs.Common.{◌≡◌, ℕ, ◌+◌, ◌<◌, ◌≤◌, ◌�
 use Rattle.std.proofs.Math.Seq.{take-append_seam}
 use Rattle.std.specs.Io.KnownBytes.{Consumes, IsAtEnd}
 use Rattle.rev_model.specs.Actor.{Step}
-use Rattle.rev_undotree.specs.Positions.{SessionState}
+use Rattle.rev_tree.specs.Positions.{SessionState}
 use Rattle.rev_script.specs.ByteReader.{PlainReader, Passed, Took, AtEnd, IsEnded, ahead}
 use Rattle.rev_script.specs.Script.{ScriptLine, onwards, cuts, lines, whole_lines}
 use Rattle.rev_script.specs.Line.{PlainInput, IsNext, IsFault}

@@ -3,7 +3,7 @@
 use Rattle.std.specs.Prelude.{[]}
 use Rattle.rev_classes.specs.declared.Config.{Config}
 use Rattle.rev_inverse.specs.Empty.{empty_state}
-use Rattle.rev_undotree.specs.Positions.{SessionState}
+use Rattle.rev_tree.specs.Positions.{SessionState}
 
 -- the session of a program: an empty store, and no node but the root
 abbrev pub opened : Config → SessionState

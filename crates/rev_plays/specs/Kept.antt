@@ -3,7 +3,7 @@
 use Rattle.std.specs.Prelude.{◌≡◌, ◌≢◌, ◌+◌, ◌⊎◌, ℕ, List, [], ◌∷◌, ◌++◌, take, None, Some, slice_get}
 use Rattle.std.specs.Io.KnownBytes.{Consumes}
 use Rattle.rev_model.specs.Actor.{Step}
-use Rattle.rev_undotree.specs.Positions.{SessionState}
+use Rattle.rev_tree.specs.Positions.{SessionState}
 use Rattle.rev_script.specs.Script.{ScriptLine, lines}
 use Rattle.rev_script.specs.Steps.{steps_of, all_steps}
 use Rattle.rev_script.specs.Source.{Told}

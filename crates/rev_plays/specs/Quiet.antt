@@ -3,7 +3,7 @@
 use Rattle.std.specs.Prelude.{◌≡◌, List, [], ◌∷◌, map}
 use Rattle.rev_model.specs.Actor.{Step}
 use Rattle.rev_steps.specs.Plain.{plain_step}
-use Rattle.rev_undotree.specs.Positions.{SessionState}
+use Rattle.rev_tree.specs.Positions.{SessionState}
 use Rattle.rev_script.specs.Steps.{get}
 use Rattle.rev_script.specs.declared.byte_reader.LineFault.{LineFault}
 use Rattle.rev_script.specs.declared.byte_reader.LineFault.TheVariants as faults

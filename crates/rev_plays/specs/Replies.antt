@@ -6,10 +6,10 @@ use Rattle.rev_model.specs.State.{State}
 use Rattle.rev_model.specs.Actor.{Step}
 use Rattle.rev_model.specs.declared.Outcome.{Outcome}
 use Rattle.rev_model.specs.declared.Outcome.TheVariants as outcomes
-use Rattle.rev_undotree.specs.Steps.{outcome_of}
-use Rattle.rev_undotree.specs.Rows.{at, row}
-use Rattle.rev_undotree.specs.Machine.{is_continued, nesting_below}
-use Rattle.rev_undotree.specs.Positions.{SessionState}
+use Rattle.rev_tree.specs.Steps.{outcome_of}
+use Rattle.rev_tree.specs.Rows.{at, row}
+use Rattle.rev_tree.specs.Machine.{is_continued, nesting_below}
+use Rattle.rev_tree.specs.Positions.{SessionState}
 use Rattle.rev_texts.specs.Texts.{output, outcome_text, found_value, item_of}
 use Rattle.rev_script.specs.Steps.{get}
 use Rattle.rev_plays.specs.declared.play.Reply.{Reply}

@@ -1,9 +1,9 @@
 -- What a start leaves: the state after its steps, and no node.
 -- Rule of this project: a start may have any number of steps, and nothing above the root that it leaves is known.
 use Rattle.std.specs.Prelude.{◌≡◌, ◌≤◌, List, [], ◌∷◌, length, Some}
-use Rattle.rev_undotree.specs.Steps.{State, Step, next}
-use Rattle.rev_undotree.specs.Rows.{RowsFall}
-use Rattle.rev_undotree.specs.Positions.{SessionState}
+use Rattle.rev_tree.specs.Steps.{State, Step, next}
+use Rattle.rev_tree.specs.Rows.{RowsFall}
+use Rattle.rev_tree.specs.Positions.{SessionState}
 use Rattle.rev_script.specs.Script.{ScriptLine}
 use Rattle.rev_script.specs.Steps.{steps_of}
 

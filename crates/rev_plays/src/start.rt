@@ -1,7 +1,7 @@
 //! Steps of scripts that are played on a session before its run, without a tree that grows.
 ghost use Rattle.std.specs.Prelude.{◌≡◌, ◌<◌, length, map, MatchBool, None, OnOk, IfOk, IfErr};
 ghost use Rattle.rev_steps.specs.Plain.{plain_step};
-ghost use Rattle.rev_undotree.specs.Steps.{next};
+ghost use Rattle.rev_tree.specs.Steps.{next};
 ghost use Rattle.rev_script.specs.Line.{view};
 ghost use Rattle.rev_script.specs.Lines.{IsFirst};
 ghost use Rattle.rev_script.specs.Steps.{get, steps_of};

@@ -6,7 +6,7 @@ use Rattle.std.specs.Io.KnownBytes.{Keeps}
 use Rattle.std.specs.declared.alloc.Global.{Global}
 use Rattle.rev_model.specs.Actor.{Step}
 use Rattle.rev_classes.specs.declared.Config.{Config}
-use Rattle.rev_undotree.specs.Positions.{SessionState}
+use Rattle.rev_tree.specs.Positions.{SessionState}
 use Rattle.rev_script.specs.Script.{lines}
 use Rattle.rev_script.specs.Steps.{all_steps}
 use Rattle.rev_script.specs.declared.dialect.Dialect.{Dialect}

@@ -3,10 +3,10 @@ use Rattle.std.proofs.Common.{◌≡◌, ℕ, ◌+◌, List, [], ◌∷◌, ◌+
 use Rattle.rev_model.specs.Actor.{Step}
 use Rattle.rev_model.specs.declared.Outcome.{Outcome}
 use Rattle.rev_undotree.specs.declared.session.NodeId.{NodeId}
-use Rattle.rev_undotree.specs.Steps.{outcome_of}
-use Rattle.rev_undotree.specs.Rows.{row, at}
-use Rattle.rev_undotree.specs.Machine.{is_continued}
-use Rattle.rev_undotree.specs.Positions.{SessionState}
+use Rattle.rev_tree.specs.Steps.{outcome_of}
+use Rattle.rev_tree.specs.Rows.{row, at}
+use Rattle.rev_tree.specs.Machine.{is_continued}
+use Rattle.rev_tree.specs.Positions.{SessionState}
 use Rattle.rev_recorder.specs.declared.hand.Call.{Call}
 use Rattle.rev_recorder.specs.declared.hand.Call.TheVariants.{Play}
 use Rattle.rev_recorder.specs.declared.hand.LogRow.{LogRow}

@@ -5,7 +5,7 @@ use Rattle.std.proofs.lemmas.List.Sums.{sum_by-cons}
 use Rattle.std.proofs.lemmas.List.Folds.{Any-from_list_any, list_any_at}
 use Rattle.std.proofs.lemmas.Option.{slice_get_within, get_or_from_slice_get, slice_get-get_or}
 use Rattle.std.proofs.lemmas.Bool.Decides.{nat_tests}
-use Rattle.rev_undotree.specs.Positions.{SessionState}
+use Rattle.rev_tree.specs.Positions.{SessionState}
 use Rattle.rev_recorder.specs.declared.hand.Call.{Call}
 use Rattle.rev_recorder.specs.declared.hand.LogRow.{LogRow}
 use Rattle.rev_recorder.specs.Hands.{PlainHand, told, calls_from, calls_of, has_player, Agrees, HasPlayers, HasOneEach, IsSecond, Settles}

@@ -2,8 +2,8 @@
 use Rattle.std.proofs.Common.{◌≡◌, Bool, true, false, ℕ, zero, suc, ◌+◌, ◌≤◌, List, [], ◌∷◌, ◌++◌, length, Option, Some, refl, sym, ap, ◌∙◌, subst, arith, add-one, length-append}
 use Rattle.std.proofs.lemmas.List.{take-append-le}
 use Rattle.rev_undotree.specs.declared.session.NodeId.{NodeId}
-use Rattle.rev_undotree.specs.Rows.{Row, parent_of}
-use Rattle.rev_undotree.specs.Positions.{SessionState}
+use Rattle.rev_tree.specs.Rows.{Row, parent_of}
+use Rattle.rev_tree.specs.Positions.{SessionState}
 use Rattle.rev_recorder.specs.declared.hand.Call.{Call}
 use Rattle.rev_recorder.specs.declared.hand.Call.TheVariants.{Play, Go, Many, Deep, Lost}
 use Rattle.rev_recorder.specs.declared.hand.LogRow.{LogRow}

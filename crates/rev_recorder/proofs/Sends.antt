@@ -6,12 +6,12 @@ use Rattle.std.specs.contracts.impls.GlobalAllocator.TheImpl.{ghosts}
 use Rattle.rev_inverse.specs.contracts.store.Store as store
 use Rattle.rev_inverse.proofs.store.Store.TheSendSync as sent_store
 use Rattle.rev_undotree.specs.contracts.session.Session as session
-use Rattle.rev_undotree.specs.contracts.branch.Branch as branch
-use Rattle.rev_undotree.specs.contracts.run.Run as run
-use Rattle.rev_undotree.specs.contracts.index.Index as index
-use Rattle.rev_undotree.proofs.run.Run.TheSendSync as sent_run
-use Rattle.rev_undotree.proofs.branch.Branch.TheLaws.TheKnot as sent_branch
-use Rattle.rev_undotree.proofs.index.Index.TheSendSync as sent_index
+use Rattle.rev_tree.specs.contracts.branch.Branch as branch
+use Rattle.rev_tree.specs.contracts.run.Run as run
+use Rattle.rev_tree.specs.contracts.index.Index as index
+use Rattle.rev_tree.proofs.run.Run.TheSendSync as sent_run
+use Rattle.rev_tree.proofs.branch.Branch.TheLaws.TheKnot as sent_branch
+use Rattle.rev_tree.proofs.index.Index.TheSendSync as sent_index
 use Rattle.rev_recorder.specs.contracts.recording.Recording as recording
 use Rattle.rev_recorder.specs.contracts.recorder.Recorder as recorder
 

@@ -5,10 +5,10 @@ use Rattle.rev_model.specs.Actor.{Step}
 use Rattle.rev_model.specs.declared.Outcome.{Outcome}
 use Rattle.rev_model.specs.declared.Outcome.TheVariants.{Okay}
 use Rattle.rev_undotree.specs.declared.session.NodeId.{NodeId}
-use Rattle.rev_undotree.specs.Rows.{row}
-use Rattle.rev_undotree.specs.Finds.{is_held}
-use Rattle.rev_undotree.specs.Machine.{is_continued, nesting_below}
-use Rattle.rev_undotree.specs.Positions.{SessionState}
+use Rattle.rev_tree.specs.Rows.{row}
+use Rattle.rev_tree.specs.Finds.{is_held}
+use Rattle.rev_tree.specs.Machine.{is_continued, nesting_below}
+use Rattle.rev_tree.specs.Positions.{SessionState}
 use Rattle.rev_recorder.specs.declared.hand.Call.{Call}
 use Rattle.rev_recorder.specs.declared.hand.Call.TheVariants.{Play, Go, Many, Deep, Lost}
 use Rattle.rev_recorder.specs.declared.hand.Receipt.{Receipt}

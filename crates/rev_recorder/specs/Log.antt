@@ -1,10 +1,10 @@
 -- The log of a recorder's calls, and when it is legal for the rows of a session.
 -- Rule of this project: calls stand in the order in which the tree took them.
 use Rattle.std.specs.Prelude.{◌≡◌, ℕ, ◌+◌, ◌<◌, true, false, List, [], ◌∷◌, length, take, Option, Some}
-use Rattle.rev_undotree.specs.Rows.{Row, parent_of}
-use Rattle.rev_undotree.specs.Finds.{is_held}
-use Rattle.rev_undotree.specs.Machine.{nesting_below}
-use Rattle.rev_undotree.specs.Positions.{SessionState}
+use Rattle.rev_tree.specs.Rows.{Row, parent_of}
+use Rattle.rev_tree.specs.Finds.{is_held}
+use Rattle.rev_tree.specs.Machine.{nesting_below}
+use Rattle.rev_tree.specs.Positions.{SessionState}
 use Rattle.rev_recorder.specs.declared.hand.Call.{Call}
 use Rattle.rev_recorder.specs.declared.hand.Call.TheVariants.{Play, Go, Many, Deep, Lost}
 use Rattle.rev_recorder.specs.declared.hand.LogRow.{LogRow}

@@ -1,7 +1,7 @@
 -- What `open` and `settle` answer.
 -- Rule of this project: a recording settles only where hands, log and session agree.
 use Rattle.std.specs.Prelude.{◌≡◌, ℕ, ◌<◌, true, false, List, [], length, slice_index_or, Result, Ok, Err}
-use Rattle.rev_undotree.specs.Positions.{SessionState}
+use Rattle.rev_tree.specs.Positions.{SessionState}
 use Rattle.rev_recorder.specs.declared.hand.LogRow.{LogRow}
 use Rattle.rev_recorder.specs.declared.settle.Settled.{Settled}
 use Rattle.rev_recorder.specs.declared.settle.SettleFault.{SettleFault}

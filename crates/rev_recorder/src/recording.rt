@@ -1,9 +1,9 @@
 //! What lies under the lock: the session, and the log of the calls that led to it.
 ghost use Rattle.std.specs.Prelude.{◌≡◌, ◌+◌, length, [], true, IfOk, IfErr, Some};
 ghost use Rattle.rev_requests.specs.Plain.{plain_step};
-ghost use Rattle.rev_undotree.specs.Steps.{outcome_of};
-ghost use Rattle.rev_undotree.specs.Rows.{at};
-ghost use Rattle.rev_undotree.specs.Finds.{is_held};
+ghost use Rattle.rev_tree.specs.Steps.{outcome_of};
+ghost use Rattle.rev_tree.specs.Rows.{at};
+ghost use Rattle.rev_tree.specs.Finds.{is_held};
 ghost use Rattle.rev_recorder.specs.declared.hand.Call.TheVariants.{Play, Go};
 ghost use Rattle.rev_recorder.specs.Answers.{node, played, moved, logged, receipt_at, okay_at, PlayRefusedAs, GoRefusedAs};
 

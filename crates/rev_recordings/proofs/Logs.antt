@@ -1,6 +1,6 @@
 -- Rows of a log, one after another.
 use Rattle.std.proofs.Common.{◌≡◌, ◌<◌, ℕ, zero, suc, ◌+◌, List, [], ◌∷◌, ◌++◌, length, map, drop, slice_index_or, All, Result, refl, ◌∙◌, ap, arith, append_assoc}
-use Rattle.rev_undotree.specs.Positions.{SessionState}
+use Rattle.rev_tree.specs.Positions.{SessionState}
 use Rattle.rev_recorder.specs.declared.hand.LogRow.{LogRow}
 use Rattle.rev_recorder.specs.declared.recorder.RecordFault.{RecordFault}
 use Rattle.rev_recorder.specs.Hands.{PlainHand}

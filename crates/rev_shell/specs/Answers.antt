@@ -3,8 +3,8 @@
 -- Rule of this project: the lines that begin with `:`.
 use Rattle.std.specs.Prelude.{ℕ, ◌++◌, false, List, codes}
 use Rattle.rev_model.specs.State.{free_of, queue_of, find}
-use Rattle.rev_undotree.specs.Rows.{row_of, parent_of}
-use Rattle.rev_undotree.specs.Positions.{SessionState}
+use Rattle.rev_tree.specs.Rows.{row_of, parent_of}
+use Rattle.rev_tree.specs.Positions.{SessionState}
 use Rattle.rev_script.specs.declared.command.DebugCommand.{DebugCommand}
 use Rattle.rev_script.specs.declared.command.DebugCommand.TheVariants as debugs
 use Rattle.rev_script.specs.declared.command.KeyQuery.{KeyQuery}

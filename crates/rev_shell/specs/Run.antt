@@ -5,7 +5,7 @@ use Rattle.std.specs.Prelude.{◌≡◌, ◌<◌, ◌+◌, ℕ, zero, suc, Bool,
 use Rattle.std.specs.List.{ends_with}
 use Rattle.std.specs.Io.KnownBytes.{Consumes, Appends, IsAtEnd}
 use Rattle.rev_classes.specs.declared.Config.{Config}
-use Rattle.rev_undotree.specs.Positions.{SessionState}
+use Rattle.rev_tree.specs.Positions.{SessionState}
 use Rattle.rev_script.specs.Script.{ScriptLine, BadLine, lines, whole_lines}
 use Rattle.rev_script.specs.Source.{Told, one_more}
 use Rattle.rev_script.specs.declared.dialect.Dialect.{Dialect}

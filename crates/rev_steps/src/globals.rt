@@ -3,7 +3,7 @@ ghost use Rattle.std.specs.Prelude.{◌≡◌, ◌≤◌, length, IfOk, OnOk, On
 ghost use Rattle.rev_model.specs.Move.{with_part, Sets, LeadsBack};
 ghost use Rattle.rev_model.specs.Sound.{SettingsSound, Sound};
 ghost use Rattle.rev_changes.specs.Seen.{plain_move, IsSingle};
-ghost use Rattle.rev_edits.specs.Telling.{TellsAll};
+ghost use Rattle.rev_changes.specs.Telling.{TellsAll};
 ghost use Rattle.rev_steps.specs.Exchange.{exchanged};
 
 use rev_changes::{Change, Record};

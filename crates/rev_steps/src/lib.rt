@@ -6,7 +6,7 @@ ghost use Rattle.rev_model.specs.Actor.{step as step_of};
 ghost use Rattle.rev_model.specs.Causes.{step_removals};
 ghost use Rattle.rev_model.specs.Sound.{Sound};
 ghost use Rattle.rev_model.specs.Move.{LeadsBack};
-ghost use Rattle.rev_edits.specs.Telling.{TellsAll};
+ghost use Rattle.rev_changes.specs.Telling.{TellsAll};
 ghost use Rattle.rev_steps.specs.Plain.{plain_actor, plain_step};
 
 mod clocks;

@@ -1,7 +1,7 @@
 -- Numbers rise along the way from the root to a node.
 use Rattle.std.proofs.Common.{◌≡◌, ℕ, suc, zero, ◌<◌, ◌≤◌, List, [], ◌∷◌, ◌++◌, length, slice_get, refl, arith, Option, Some, None, ◌⊎◌, inl, inr, ⊎_elim}
-use Rattle.rev_undotree.specs.Rows.{Row, RowsFall, row_of}
-use Rattle.rev_undotree.specs.Machine.{lineage, lineage_within, nodes_from}
+use Rattle.rev_tree.specs.Rows.{Row, RowsFall, row_of}
+use Rattle.rev_tree.specs.Machine.{lineage, lineage_within, nodes_from}
 
 one_number : (m n : ℕ) → Some m ≡ Some n → n ≡ m
 one_number m n e = cc

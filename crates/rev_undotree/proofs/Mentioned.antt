@@ -4,27 +4,27 @@ use Rattle.std.specs.Prelude.{nat_eq}
 use Rattle.std.proofs.lemmas.List.{length_push}
 use Rattle.std.proofs.lemmas.Bool.{true≢false}
 use Rattle.rev_items.specs.Hash.{hash_of}
-use Rattle.rev_undotree.specs.declared.mention.Mention.{Mention}
-use Rattle.rev_undotree.specs.Mentions.{Holds, Within}
+use Rattle.rev_tree.specs.declared.mention.Mention.{Mention}
+use Rattle.rev_tree.specs.Mentions.{Holds, Within}
 use Rattle.rev_model.specs.Events.{event}
 use Rattle.rev_model.specs.Track.{key_place_of}
-use Rattle.rev_undotree.specs.Steps.{State, Step, Outcome, PlainRecord, next}
-use Rattle.rev_undotree.specs.Tree.{PlainBranch}
-use Rattle.rev_undotree.specs.Index.{PlainIndex}
-use Rattle.rev_undotree.specs.Leading.{IsIndex}
-use Rattle.rev_undotree.specs.Rows.{Row, RowsFall, row_of, row, rows_of, number_at, at, at_within, state_from}
-use Rattle.rev_undotree.specs.Machine.{lineage}
-use Rattle.rev_undotree.specs.Prunes.{is_among, is_below, spared, pruned}
-use Rattle.rev_undotree.specs.Positions.{Kept}
-use Rattle.rev_undotree.proofs.Named.{is_named}
+use Rattle.rev_tree.specs.Steps.{State, Step, Outcome, PlainRecord, next}
+use Rattle.rev_tree.specs.Tree.{PlainBranch}
+use Rattle.rev_tree.specs.Index.{PlainIndex}
+use Rattle.rev_tree.specs.Leading.{IsIndex}
+use Rattle.rev_tree.specs.Rows.{Row, RowsFall, row_of, row, rows_of, number_at, at, at_within, state_from}
+use Rattle.rev_tree.specs.Machine.{lineage}
+use Rattle.rev_tree.specs.Prunes.{is_among, is_below, spared, pruned}
+use Rattle.rev_tree.specs.Positions.{Kept}
+use Rattle.rev_tree.proofs.Named.{is_named}
 use Rattle.rev_undotree.proofs.Recalled.{Recalled, unnamed_still}
-use Rattle.rev_undotree.specs.Mentioned.{Still, Mentioned, Noted}
-use Rattle.rev_undotree.proofs.Fits.{row_of-within}
-use Rattle.rev_undotree.proofs.Growth.{row_of-last, row_of-older, length_rows, number_at_le, le_cases}
-use Rattle.rev_undotree.proofs.Positions.{stands_at}
-use Rattle.rev_undotree.proofs.Rows.{at-step}
-use Rattle.rev_undotree.proofs.Trips.{lineage-step}
-use Rattle.rev_undotree.specs.declared.junction.Junction.{Junction}
+use Rattle.rev_tree.specs.Mentioned.{Still, Mentioned, Noted}
+use Rattle.rev_tree.proofs.Fits.{row_of-within}
+use Rattle.rev_tree.proofs.Growth.{row_of-last, row_of-older, length_rows, number_at_le, le_cases}
+use Rattle.rev_tree.proofs.Positions.{stands_at}
+use Rattle.rev_tree.proofs.Rows.{at-step}
+use Rattle.rev_tree.proofs.Trips.{lineage-step}
+use Rattle.rev_tree.specs.declared.junction.Junction.{Junction}
 
 -- ---- the state at a node does not see later rows, nor those that are pruned beside it
 

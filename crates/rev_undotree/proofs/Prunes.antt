@@ -2,31 +2,31 @@
 use Rattle.std.proofs.Common.{◌≡◌, ℕ, suc, zero, ◌+◌, ◌-◌, ◌<◌, ◌≤◌, Bool, true, false, cond, eqb, nat_eq, List, [], ◌∷◌, ◌++◌, length, slice_get, refl, ap, sym, ◌∙◌, subst, arith, Option, Some, None, ◌⊎◌, inl, inr, ⊎_elim}
 use Rattle.std.proofs.lemmas.Bool.{cases_Bool, false≢true}
 use Rattle.std.proofs.lemmas.Bool.Decides.{nat_tests}
-use Rattle.rev_undotree.specs.Steps.{State}
-use Rattle.rev_undotree.specs.Tree.{PlainNode, PlainBranch, Forks, bare, fork, fork_at}
-use Rattle.rev_undotree.specs.Ways.{reach, at_end}
-use Rattle.rev_undotree.specs.States.{rewind}
-use Rattle.rev_undotree.specs.Rows.{Row, row, row_of, number_after, start_at, number_at, find_in, find_run, find_forks, or_else, rows_of, Known, KnownRun, KnownForks}
-use Rattle.rev_undotree.specs.Positions.{SessionState, Kept, Proper, depth}
-use Rattle.rev_undotree.specs.Paths.{IsPath, IsOnWay}
-use Rattle.rev_undotree.specs.Order.{Fitted}
-use Rattle.rev_undotree.specs.Finds.{FoundAt, is_held}
-use Rattle.rev_undotree.specs.Machine.{lineage}
-use Rattle.rev_undotree.specs.Trails.{cut}
-use Rattle.rev_undotree.specs.Prunes.{is_among, is_below, spared, pruned, cropped}
-use Rattle.rev_undotree.proofs.Positions.{stands_root}
-use Rattle.rev_undotree.proofs.Rows.{cond-none, or_else-none, fork-none}
-use Rattle.rev_undotree.proofs.Growth.{length_rows}
-use Rattle.rev_undotree.proofs.Fits.{row_of-within, path_proper}
-use Rattle.rev_undotree.proofs.Finds.{number_of, number_after-get}
-use Rattle.rev_undotree.proofs.Held.{row_find, row_found, option_case, path_held}
-use Rattle.rev_undotree.proofs.Spots.{Tree, spot, same_spot, or_else-some, path_within, path_positive}
-use Rattle.rev_undotree.proofs.Machine.{kept_tree, kept_path}
-use Rattle.rev_undotree.proofs.Trips.{lineage_depth}
-use Rattle.rev_undotree.proofs.Trails.{Position, cut_near, cut_far, cut_path, cut_proper, cut_positive, lineage_cut, split_le}
-use Rattle.rev_undotree.proofs.Subs.{Sub, holds_sub, state_sub, known_sub, fitted_sub, number_at-sub, path_sub}
-use Rattle.rev_undotree.proofs.Crops.{sub_crop, crop_gone, crop_left}
-use Rattle.rev_undotree.specs.declared.junction.Junction.{Junction}
+use Rattle.rev_tree.specs.Steps.{State}
+use Rattle.rev_tree.specs.Tree.{PlainNode, PlainBranch, Forks, bare, fork, fork_at}
+use Rattle.rev_tree.specs.Ways.{reach, at_end}
+use Rattle.rev_tree.specs.States.{rewind}
+use Rattle.rev_tree.specs.Rows.{Row, row, row_of, number_after, start_at, number_at, find_in, find_run, find_forks, or_else, rows_of, Known, KnownRun, KnownForks}
+use Rattle.rev_tree.specs.Positions.{SessionState, Kept, Proper, depth}
+use Rattle.rev_tree.specs.Paths.{IsPath, IsOnWay}
+use Rattle.rev_tree.specs.Order.{Fitted}
+use Rattle.rev_tree.specs.Finds.{FoundAt, is_held}
+use Rattle.rev_tree.specs.Machine.{lineage}
+use Rattle.rev_tree.specs.Trails.{cut}
+use Rattle.rev_tree.specs.Prunes.{is_among, is_below, spared, pruned, cropped}
+use Rattle.rev_tree.proofs.Positions.{stands_root}
+use Rattle.rev_tree.proofs.Rows.{cond-none, or_else-none, fork-none}
+use Rattle.rev_tree.proofs.Growth.{length_rows}
+use Rattle.rev_tree.proofs.Fits.{row_of-within, path_proper}
+use Rattle.rev_tree.proofs.Finds.{number_of, number_after-get}
+use Rattle.rev_tree.proofs.Held.{row_find, row_found, option_case, path_held}
+use Rattle.rev_tree.proofs.Spots.{Tree, spot, same_spot, or_else-some, path_within, path_positive}
+use Rattle.rev_tree.proofs.Machine.{kept_tree, kept_path}
+use Rattle.rev_tree.proofs.Trips.{lineage_depth}
+use Rattle.rev_tree.proofs.Trails.{Position, cut_near, cut_far, cut_path, cut_proper, cut_positive, lineage_cut, split_le}
+use Rattle.rev_tree.proofs.Subs.{Sub, holds_sub, state_sub, known_sub, fitted_sub, number_at-sub, path_sub}
+use Rattle.rev_tree.proofs.Crops.{sub_crop, crop_gone, crop_left}
+use Rattle.rev_tree.specs.declared.junction.Junction.{Junction}
 
 eqb-same : (n m : ℕ) → eqb n m ≡ true → m ≡ n
 eqb-same n m e = grind (arith, nat_tests)

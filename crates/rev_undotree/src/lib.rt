@@ -2,17 +2,6 @@
 //! The store stands at the current node; going to another node turns the records in between, and no node holds a copy.
 #![tactic(auto)]
 
-mod branch;
-mod hint;
-mod index;
-mod junction;
-mod links;
-mod mention;
-mod mentions;
-mod naming;
-mod position;
-mod records;
-mod run;
 pub mod session;
 
 pub use session::{

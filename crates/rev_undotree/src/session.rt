@@ -2,35 +2,31 @@
 ghost use Rattle.std.specs.Prelude.{◌≡◌, ◌≢◌, ◌++◌, ◌∷◌, [], ◌+◌, ◌-◌, ◌≤◌, ℕ, eqb, length, IfOk, IfErr, OnErr, OnOk, IsOk, IsTrue, ◌↔◌, Some, None, Err, true, false, not, ◌<◌, slice_get, IfSome, IfNone, IsNone, IsSome, ◌⊎◌};
 ghost use Rattle.std.specs.Option.{option_map};
 ghost use Rattle.rev_steps.specs.Plain.{plain_step};
-ghost use Rattle.rev_undotree.specs.Steps.{Sound, outcome_of};
-ghost use Rattle.rev_undotree.specs.Rows.{at, number_at, parent_of, row, row_of, Row, RowsFall};
-ghost use Rattle.rev_undotree.specs.Finds.{is_held};
-ghost use Rattle.rev_undotree.specs.Machine.{is_continued, nesting_below, lineage, distance, children};
-ghost use Rattle.rev_undotree.specs.Trails.{Trailed};
-ghost use Rattle.rev_undotree.specs.Prunes.{pruned, is_below};
+ghost use Rattle.rev_tree.specs.Steps.{Sound, outcome_of};
+ghost use Rattle.rev_tree.specs.Rows.{at, number_at, parent_of, row, row_of, Row, RowsFall};
+ghost use Rattle.rev_tree.specs.Finds.{is_held};
+ghost use Rattle.rev_tree.specs.Machine.{is_continued, nesting_below, lineage, distance, children};
+ghost use Rattle.rev_tree.specs.Trails.{Trailed};
+ghost use Rattle.rev_tree.specs.Prunes.{pruned, is_below};
 ghost use Rattle.rev_undotree.specs.Faults.{IsFault, TooManyNodes, TooDeep};
-ghost use Rattle.rev_undotree.specs.Mentioned.{IsStill, IsOver, AreMentioned, Grows};
-ghost use Rattle.rev_undotree.specs.Named.{stored_keys, named};
-ghost use Rattle.rev_undotree.specs.Leading.{Notes};
-ghost use Rattle.rev_undotree.specs.Positions.{Stands, Grown, Proper};
-ghost use Rattle.rev_undotree.specs.Ways.{reach, IsWay};
-ghost use Rattle.rev_undotree.specs.Tree.{PlainNode};
-ghost use Rattle.rev_undotree.specs.Steps.{State, next, Undoes};
-ghost use Rattle.rev_undotree.specs.Mentions.{Within};
+ghost use Rattle.rev_tree.specs.Mentioned.{IsStill, IsOver, AreMentioned, Grows};
+ghost use Rattle.rev_tree.specs.Named.{stored_keys, named};
+ghost use Rattle.rev_tree.specs.Leading.{Notes};
+ghost use Rattle.rev_tree.specs.Positions.{Stands, Grown, Proper};
+ghost use Rattle.rev_tree.specs.Ways.{reach, IsWay};
+ghost use Rattle.rev_tree.specs.Tree.{PlainNode};
+ghost use Rattle.rev_tree.specs.Steps.{State, next, Undoes};
+ghost use Rattle.rev_tree.specs.Mentions.{Within};
 
-use crate::branch::Branch;
-use crate::index::Index;
-use crate::junction::Junction;
-use crate::mentions::Mentions;
-use crate::naming::mention;
-use crate::position::{Position, above, is_on_way};
-use crate::run::Node;
 use arrayvec::ArrayVec;
 use rev_changes::RecordRef;
 use rev_inverse::Store;
 use rev_items::Key;
 use rev_model::Outcome;
 use rev_steps::{Step, apply};
+use rev_tree::naming::mention;
+use rev_tree::position::{Position, above, is_on_way};
+use rev_tree::{Branch, Index, Junction, Mentions, Node};
 use std::alloc::{AllocError, Allocator};
 use std::marker::Model;
 use thiserror::Error;
@@ -103,10 +99,10 @@ pub struct Session<A: Allocator> {
 impl<A: Allocator> Model for Session<A> {
     ghost use Rattle.std.specs.Coded.{codes};
     ghost use Rattle.rev_model.specs.Codes.{coded_contents, coded_keys};
-    ghost use Rattle.rev_undotree.specs.Rows.{rows_of, number_at};
-    ghost use Rattle.rev_undotree.specs.States.{rewind};
-    ghost use Rattle.rev_undotree.specs.Positions.{SessionState};
-    ghost use Rattle.rev_undotree.specs.Mentioned.{Noted};
+    ghost use Rattle.rev_tree.specs.Rows.{rows_of, number_at};
+    ghost use Rattle.rev_tree.specs.States.{rewind};
+    ghost use Rattle.rev_tree.specs.Positions.{SessionState};
+    ghost use Rattle.rev_tree.specs.Mentioned.{Noted};
 
     ghost Value = { SessionState };
 

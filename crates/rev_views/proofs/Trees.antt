@@ -1,8 +1,8 @@
 -- The lines of a tree, one node more.
 use Rattle.std.proofs.Common.{◌≡◌, ℕ, suc, ◌+◌, ◌<◌, List, [], ◌∷◌, ◌++◌, length, take, get_or, Option, None, sym, ◌∙◌, ap, arith, append_assoc, append-nil}
 use Rattle.std.proofs.lemmas.List.{take_more, length-take-le}
-use Rattle.rev_undotree.specs.Rows.{Row, row_of}
-use Rattle.rev_undotree.specs.Positions.{SessionState}
+use Rattle.rev_tree.specs.Rows.{Row, row_of}
+use Rattle.rev_tree.specs.Positions.{SessionState}
 use Rattle.rev_views.specs.Trees.{row_text, rows_text}
 
 rows_text-more : (m : SessionState) (n : ℕ) (qs : List (Option Row)) (q : Option Row) → rows_text m n (qs ++ q ∷ []) ≡ rows_text m n qs ++ row_text m (suc (n + length qs)) q

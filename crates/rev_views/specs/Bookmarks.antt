@@ -2,7 +2,7 @@
 -- Rule of this project: `:mark`, `:marks` and `:goto`.
 use Rattle.std.specs.Prelude.{ℕ, cond, List, [], ◌∷◌, ◌++◌, Option, None, Some, codes, decimal}
 use Rattle.std.specs.Str.{bytes_eq}
-use Rattle.rev_undotree.specs.Positions.{SessionState}
+use Rattle.rev_tree.specs.Positions.{SessionState}
 use Rattle.rev_texts.specs.Texts.{output}
 use Rattle.rev_views.specs.Trees.{go_text, gone}
 

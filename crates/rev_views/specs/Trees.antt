@@ -1,12 +1,12 @@
 -- What the commands of the tree answer, and where they go.
 -- Rule of this project: `:back`, `:forward`, `:go`, `:tree` and `:prune`.
 use Rattle.std.specs.Prelude.{ℕ, suc, cond, nat_eq, List, [], ◌∷◌, ◌++◌, slice_get, Option, None, Some, codes, decimal}
-use Rattle.rev_undotree.specs.Steps.{outcome_of}
-use Rattle.rev_undotree.specs.Rows.{Row, at}
-use Rattle.rev_undotree.specs.Finds.{is_held}
-use Rattle.rev_undotree.specs.Machine.{children, distance}
-use Rattle.rev_undotree.specs.Prunes.{pruned, is_below}
-use Rattle.rev_undotree.specs.Positions.{SessionState}
+use Rattle.rev_tree.specs.Steps.{outcome_of}
+use Rattle.rev_tree.specs.Rows.{Row, at}
+use Rattle.rev_tree.specs.Finds.{is_held}
+use Rattle.rev_tree.specs.Machine.{children, distance}
+use Rattle.rev_tree.specs.Prunes.{pruned, is_below}
+use Rattle.rev_tree.specs.Positions.{SessionState}
 use Rattle.rev_texts.specs.Texts.{output, node_text}
 use Rattle.rev_texts.specs.Words.{step_word, outcome_word}
 

@@ -5,9 +5,9 @@ use Rattle.rev_model.specs.Client.{ClientStep, Stores, Joins, Gets, Touches, Del
 use Rattle.rev_model.specs.Actor.{Step, Client, Pull, Crawl}
 use Rattle.rev_model.specs.declared.Outcome.{Outcome}
 use Rattle.rev_model.specs.declared.Queue.{Queue}
-use Rattle.rev_undotree.specs.Steps.{outcome_of}
-use Rattle.rev_undotree.specs.Rows.{Row, at}
-use Rattle.rev_undotree.specs.Positions.{SessionState}
+use Rattle.rev_tree.specs.Steps.{outcome_of}
+use Rattle.rev_tree.specs.Rows.{Row, at}
+use Rattle.rev_tree.specs.Positions.{SessionState}
 use Rattle.rev_explain.specs.Departures.{PlainDeparture}
 use Rattle.rev_explain.specs.Clocks.{clock_at}
 use Rattle.rev_texts.specs.Texts.{output, queue_text}

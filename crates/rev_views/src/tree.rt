@@ -1,6 +1,6 @@
 //! The commands of the tree.
 ghost use Rattle.std.specs.Prelude.{◌≡◌, ◌++◌, OnOk};
-ghost use Rattle.rev_undotree.specs.Rows.{parent_of, row_of};
+ghost use Rattle.rev_tree.specs.Rows.{parent_of, row_of};
 ghost use Rattle.rev_texts.specs.Texts.{parent_text};
 ghost use Rattle.rev_views.specs.Trees.{gone_to, child_at, child_text, trip_text, go_text, gone, pruned_text, prune_text, after_prune, row_text, tree_text};
 

@@ -1,7 +1,7 @@
 //! What is told of a node, of the way from the root to the current node, and of the slab classes.
 ghost use Rattle.std.specs.Prelude.{◌≡◌, ◌++◌, OnOk};
 ghost use Rattle.rev_requests.specs.Plain.{plain_client, plain_step};
-ghost use Rattle.rev_undotree.specs.Rows.{row_of};
+ghost use Rattle.rev_tree.specs.Rows.{row_of};
 ghost use Rattle.rev_explain.specs.Departures.{departures as departures_of, last_of};
 ghost use Rattle.rev_explain.specs.Clocks.{node_by};
 ghost use Rattle.rev_views.specs.Views.{departure_text, departures_text, client_subject, queue_name, step_subject, played_text, numbers_text, root_text, step_text, time_text, after_time};

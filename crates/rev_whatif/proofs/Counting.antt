@@ -3,7 +3,7 @@ use Rattle.std.proofs.Common.{◌≡◌, ℕ, ◌+◌, ◌*◌, ◌^◌, ◌<◌
 use Rattle.std.proofs.lemmas.List.{drop_all}
 use Rattle.rev_model.specs.State.{State}
 use Rattle.rev_model.specs.Actor.{Step}
-use Rattle.rev_undotree.specs.Steps.{next, outcome_of}
+use Rattle.rev_tree.specs.Steps.{next, outcome_of}
 use Rattle.rev_explain.specs.Departures.{departures_at}
 use Rattle.rev_explain.proofs.MoveLaws.{drop_at}
 use Rattle.rev_figures.specs.Kinds.{kind_of}

@@ -4,10 +4,10 @@ use Rattle.std.proofs.lemmas.List.{reverse-append, reverse-reverse, length-appen
 use Rattle.rev_model.specs.Actor.{Step}
 use Rattle.rev_model.specs.declared.Outcome.{Outcome}
 use Rattle.rev_changes.specs.Record.{PlainRecord}
-use Rattle.rev_undotree.specs.Rows.{Row, row_of}
-use Rattle.rev_undotree.specs.Machine.{nodes_from, lineage_within, lineage}
-use Rattle.rev_undotree.specs.Positions.{SessionState}
-use Rattle.rev_undotree.specs.Trails.{Trailed}
+use Rattle.rev_tree.specs.Rows.{Row, row_of}
+use Rattle.rev_tree.specs.Machine.{nodes_from, lineage_within, lineage}
+use Rattle.rev_tree.specs.Positions.{SessionState}
+use Rattle.rev_tree.specs.Trails.{Trailed}
 use Rattle.rev_explain.proofs.Climbs.{Climbs, climb_starts, climbs, row_is, at_end}
 use Rattle.rev_whatif.specs.Trials.{row_steps, steps_along, path_steps}
 

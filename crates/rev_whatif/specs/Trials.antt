@@ -8,9 +8,9 @@ use Rattle.rev_model.specs.State.{State}
 use Rattle.rev_model.specs.Actor.{Step, Tune}
 use Rattle.rev_requests.specs.Limits.{PlainTune}
 use Rattle.rev_inverse.specs.Empty.{empty_state}
-use Rattle.rev_undotree.specs.Steps.{next, outcome_of}
-use Rattle.rev_undotree.specs.Rows.{Row, row_of}
-use Rattle.rev_undotree.specs.Machine.{lineage}
+use Rattle.rev_tree.specs.Steps.{next, outcome_of}
+use Rattle.rev_tree.specs.Rows.{Row, row_of}
+use Rattle.rev_tree.specs.Machine.{lineage}
 use Rattle.rev_explain.specs.Departures.{PlainDeparture, departures_at}
 use Rattle.rev_figures.specs.Kinds.{kind_of}
 use Rattle.rev_figures.specs.Tables.{is_eviction}

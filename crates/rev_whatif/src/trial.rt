@@ -7,7 +7,7 @@ ghost use Rattle.rev_model.specs.Track.{removals};
 ghost use Rattle.rev_model.specs.Events.{is_key, stored_key};
 ghost use Rattle.rev_requests.specs.Plain.{plain_step};
 ghost use Rattle.rev_inverse.specs.Empty.{empty_state};
-ghost use Rattle.rev_undotree.specs.Steps.{next, outcome_of};
+ghost use Rattle.rev_tree.specs.Steps.{next, outcome_of};
 ghost use Rattle.rev_explain.specs.Readings.{removals_by};
 ghost use Rattle.rev_explain.specs.Departures.{departure, departures_in, departures_at};
 ghost use Rattle.rev_whatif.specs.Settings.{fault_with};

@@ -1,6 +1,6 @@
 use Rattle.std.proofs.Common.{refl, arith, sym, ◌∙◌, ap, subst, length}
 use Rattle.rev_requests.specs.Plain.{plain_step}
-use Rattle.rev_undotree.specs.Machine.{lineage}
+use Rattle.rev_tree.specs.Machine.{lineage}
 use Rattle.rev_explain.proofs.Climbs.{above_root, at_end}
 use Rattle.rev_explain.proofs.Timing.{Timed, time_starts, time_here, time_up, time_root, time_none}
 use Rattle.rev_explain.proofs.clocks.node_by_time.Goals as goal

@@ -1,6 +1,6 @@
 use Rattle.std.proofs.Common.{refl, sym, ◌∙◌, ap, subst, length}
 use Rattle.rev_requests.specs.Plain.{plain_step}
-use Rattle.rev_undotree.specs.Machine.{lineage}
+use Rattle.rev_tree.specs.Machine.{lineage}
 use Rattle.rev_explain.proofs.Climbs.{above_root, at_end}
 use Rattle.rev_explain.proofs.Timing.{Clocked, clock_starts, clock_up, clock_root}
 use Rattle.rev_explain.proofs.clocks.root_clock.Goals as goal

@@ -1,6 +1,6 @@
 use Rattle.std.proofs.Common.{sym, ◌∙◌, ◌-◌, subst, length}
 use Rattle.rev_requests.specs.Plain.{plain_step}
-use Rattle.rev_undotree.specs.Machine.{lineage}
+use Rattle.rev_tree.specs.Machine.{lineage}
 use Rattle.rev_explain.proofs.Climbs.{above_root}
 use Rattle.rev_explain.proofs.Searches.{Searching, search_starts, search_skip, search_more, search_found}
 use Rattle.rev_explain.proofs.explain.find_departure.Goals as goal

@@ -2,10 +2,10 @@ use Rattle.std.proofs.Common.{ℕ, List, ◌≡◌, ◌≤◌, ⊎_elim, length-
 use Rattle.rev_model.specs.Track.{key_place_of, key_change}
 use Rattle.rev_model.specs.Events.{event_by}
 use Rattle.rev_requests.specs.Plain.{plain_step}
-use Rattle.rev_undotree.specs.Machine.{lineage}
+use Rattle.rev_tree.specs.Machine.{lineage}
 use Rattle.rev_explain.proofs.Climbs.{Climbs, above_root}
 use Rattle.rev_explain.specs.declared.events.Event.{Event}
-use Rattle.rev_undotree.specs.Positions.{SessionState}
+use Rattle.rev_tree.specs.Positions.{SessionState}
 use Rattle.rev_explain.proofs.Searches.{Telling, tell_starts, tell_skip, tell_more, tell_ends}
 use Rattle.rev_explain.proofs.explain.story.Goals as goal
 

@@ -1,6 +1,6 @@
 use Rattle.std.proofs.Common.{refl, arith, sym, ◌∙◌, ap, subst, reverse}
 use Rattle.rev_requests.specs.Plain.{plain_step}
-use Rattle.rev_undotree.specs.Rows.{at}
+use Rattle.rev_tree.specs.Rows.{at}
 use Rattle.rev_explain.proofs.Departing.{Leaving, leave_starts, leave_more, leave_stops, leave_told}
 use Rattle.rev_explain.specs.Story.{story}
 use Rattle.rev_explain.specs.Told.{AreTold}

@@ -1,8 +1,8 @@
 use Rattle.std.proofs.Common.{◌++◌, ◌∷◌, [], ◌∙◌, refl, sym, ap, subst, cond, length, reverse}
 use Rattle.rev_model.specs.Track.{removals}
 use Rattle.rev_requests.specs.Plain.{plain_step}
-use Rattle.rev_undotree.specs.Rows.{at}
-use Rattle.rev_undotree.specs.Machine.{lineage}
+use Rattle.rev_tree.specs.Rows.{at}
+use Rattle.rev_tree.specs.Machine.{lineage}
 use Rattle.rev_explain.specs.Departures.{departures_in}
 use Rattle.rev_explain.proofs.Climbs.{above_root}
 use Rattle.rev_figures.specs.Asking.{ask_in}

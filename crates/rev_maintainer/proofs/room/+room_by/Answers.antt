@@ -4,7 +4,7 @@ use Rattle.rev_model.specs.State.{State, Fixed, free_of, IsClass}
 use Rattle.rev_model.specs.Pull.{squeezed, page_of}
 use Rattle.rev_changes.specs.Record.{PlainRecord}
 use Rattle.rev_edits.specs.Taking.{paired}
-use Rattle.rev_edits.specs.Telling.{Tells}
+use Rattle.rev_changes.specs.Telling.{Tells}
 use Rattle.rev_edits.proofs.Telling.{tells_more, tells_then}
 use Rattle.rev_model.specs.Causes.{squeeze_removals, room_removals_by}
 use Rattle.rev_maintainer.proofs.Causes.{later_removals, given_removals}

@@ -1,6 +1,6 @@
 use Rattle.std.proofs.Common.{sym, ◌∙◌, ap}
 use Rattle.rev_steps.specs.Plain.{plain_step}
-use Rattle.rev_undotree.specs.Positions.{SessionState}
+use Rattle.rev_tree.specs.Positions.{SessionState}
 use Rattle.rev_plays.specs.Replies.{played, if_played}
 use Rattle.rev_plays.specs.declared.play.Reply.TheVariants.{Played}
 use Rattle.rev_plays.proofs.Plays.{reply-many, reply-deep, reply-played}

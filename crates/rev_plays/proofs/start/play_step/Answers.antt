@@ -1,6 +1,6 @@
 use Rattle.std.proofs.Common.{◌≡◌, inl, inr, sym, ◌∙◌, ap, subst}
 use Rattle.rev_steps.specs.Plain.{plain_step}
-use Rattle.rev_undotree.specs.Steps.{next}
+use Rattle.rev_tree.specs.Steps.{next}
 use Rattle.rev_plays.specs.Replies.{state_of}
 use Rattle.rev_plays.specs.Start.{IsShort}
 use Rattle.rev_plays.specs.declared.quiet.Quiet.TheVariants.{Played}

@@ -1,5 +1,5 @@
 use Rattle.std.proofs.Common.{map}
-use Rattle.rev_undotree.specs.Positions.{SessionState}
+use Rattle.rev_tree.specs.Positions.{SessionState}
 use Rattle.rev_script.specs.Steps.{get}
 use Rattle.rev_plays.specs.Kept.{Plays, Fills}
 use Rattle.rev_plays.proofs.trace.play_gets.Given as goal

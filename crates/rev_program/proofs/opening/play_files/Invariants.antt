@@ -1,5 +1,5 @@
 use Rattle.std.proofs.Common.{length, Option}
-use Rattle.rev_undotree.specs.Positions.{SessionState}
+use Rattle.rev_tree.specs.Positions.{SessionState}
 use Rattle.rev_program.specs.Opening.{AreTraces}
 use Rattle.rev_program.specs.declared.opening.Full.{Full}
 use Rattle.rev_program.proofs.opening.play_files.Given as goal

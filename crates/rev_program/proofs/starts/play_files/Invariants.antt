@@ -1,5 +1,5 @@
 use Rattle.std.proofs.Common.{length}
-use Rattle.rev_undotree.specs.Positions.{SessionState}
+use Rattle.rev_tree.specs.Positions.{SessionState}
 use Rattle.rev_program.specs.Starts.{AreStarts, DoHalt}
 use Rattle.rev_messages.specs.declared.stop.Stop.{Stop}
 use Rattle.rev_program.proofs.starts.play_files.Given as goal

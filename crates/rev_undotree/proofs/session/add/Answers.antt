@@ -1,12 +1,12 @@
 use Rattle.std.specs.Option.{option_copied, option_map}
 use Rattle.std.proofs.Common.{◌++◌, sym, ap, ◌∙◌, subst}
-use Rattle.rev_undotree.proofs.Runs.{some_inj}
+use Rattle.rev_tree.proofs.Runs.{some_inj}
 use Rattle.rev_steps.specs.Plain.{plain_step}
-use Rattle.rev_undotree.specs.Tree.{PlainNode}
-use Rattle.rev_undotree.specs.Runs.{node_of}
-use Rattle.rev_undotree.specs.Named.{stored_keys, named}
-use Rattle.rev_undotree.specs.Mentioned.{AreMentioned}
-use Rattle.rev_undotree.proofs.Named.{ok_any}
+use Rattle.rev_tree.specs.Tree.{PlainNode}
+use Rattle.rev_tree.specs.Runs.{node_of}
+use Rattle.rev_tree.specs.Named.{stored_keys, named}
+use Rattle.rev_tree.specs.Mentioned.{AreMentioned}
+use Rattle.rev_tree.proofs.Named.{ok_any}
 use Rattle.rev_undotree.proofs.session.add.Goals as goal
 
 pub returns-clause-named : goal.returns-clause-named

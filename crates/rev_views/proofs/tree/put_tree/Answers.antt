@@ -1,5 +1,5 @@
 use Rattle.std.proofs.Common.{◌+◌, ◌++◌, codes, take, sym, ◌∙◌, ap, arith, append_assoc}
-use Rattle.rev_undotree.specs.Rows.{row_of}
+use Rattle.rev_tree.specs.Rows.{row_of}
 use Rattle.rev_texts.specs.Texts.{output}
 use Rattle.rev_views.specs.Trees.{row_text, rows_text}
 use Rattle.rev_views.proofs.Trees.{rows_text-next}

@@ -2,7 +2,7 @@ use Rattle.std.proofs.Common.{◌∷◌, [], refl, sym, ◌∙◌, ap, subst, ar
 use Rattle.std.proofs.lemmas.List.{map-append, length-map}
 use Rattle.rev_changes.proofs.Lists.{map-reverse}
 use Rattle.rev_requests.specs.Plain.{plain_step}
-use Rattle.rev_undotree.specs.Machine.{lineage}
+use Rattle.rev_tree.specs.Machine.{lineage}
 use Rattle.rev_explain.proofs.Climbs.{above_root}
 use Rattle.rev_whatif.proofs.Reading.{Reading, read_starts, read_more, read_ends, path_short}
 use Rattle.rev_whatif.proofs.path.steps.Goals as goal

@@ -4,7 +4,7 @@ use Rattle.rev_model.specs.State.{State}
 use Rattle.rev_model.specs.Actor.{step}
 use Rattle.rev_model.specs.declared.Outcome.{Outcome}
 use Rattle.rev_requests.specs.Plain.{plain_step}
-use Rattle.rev_undotree.specs.Steps.{next, outcome_of}
+use Rattle.rev_tree.specs.Steps.{next, outcome_of}
 use Rattle.rev_whatif.proofs.trial.play.Goals as goal
 
 pub returns-in-Ok-clause-state : goal.returns-in-Ok-clause-state

@@ -1,7 +1,7 @@
 use Rattle.std.proofs.Common.{◌≡◌, true, refl, ap}
 use Rattle.std.proofs.Math.Seq.{take-length}
-use Rattle.rev_undotree.specs.Finds.{is_held}
-use Rattle.rev_undotree.specs.Positions.{SessionState}
+use Rattle.rev_tree.specs.Finds.{is_held}
+use Rattle.rev_tree.specs.Positions.{SessionState}
 use Rattle.rev_recorder.specs.declared.hand.Call.TheVariants.{Go, Lost}
 use Rattle.rev_recorder.proofs.Legal.{legal-call, refuted}
 use Rattle.rev_recorder.proofs.recording.Recording.go.Goals as goal

@@ -1,9 +1,9 @@
 use Rattle.std.proofs.Common.{not, refl, ap, length, ◌≡◌, arith, List}
 use Rattle.std.proofs.Math.Seq.{take-length}
 use Rattle.rev_requests.specs.Plain.{plain_step}
-use Rattle.rev_undotree.specs.Rows.{row}
-use Rattle.rev_undotree.specs.Machine.{is_continued}
-use Rattle.rev_undotree.specs.Positions.{SessionState}
+use Rattle.rev_tree.specs.Rows.{row}
+use Rattle.rev_tree.specs.Machine.{is_continued}
+use Rattle.rev_tree.specs.Positions.{SessionState}
 use Rattle.rev_recorder.specs.declared.hand.Call.TheVariants.{Many, Deep}
 use Rattle.rev_recorder.proofs.Legal.{legal-call, legal-play}
 use Rattle.rev_recorder.specs.Log.{PlainRecording}

@@ -1,8 +1,8 @@
 use Rattle.std.proofs.Common.{sym, refl}
 use Rattle.std.proofs.Common.{ap}
 use Rattle.rev_undotree.proofs.Mentioned.{moved_noted}
-use Rattle.rev_undotree.proofs.Indexes.{index_moved}
-use Rattle.rev_undotree.proofs.Positions.{stands_way, number_root, moved_kept, moved_state, moved_parent}
+use Rattle.rev_tree.proofs.Indexes.{index_moved}
+use Rattle.rev_tree.proofs.Positions.{stands_way, number_root, moved_kept, moved_state, moved_parent}
 use Rattle.rev_undotree.proofs.session.Session.back.Goals as goal
 
 pub returns-then-self-eq0-clause-err : goal.returns-then-self-eq0-clause-err

@@ -1,9 +1,9 @@
 use Rattle.std.proofs.Common.{ap, sym, ◌∙◌, slice_get}
-use Rattle.rev_undotree.specs.Children.{children_at}
-use Rattle.rev_undotree.proofs.Held.{kept_rises, kept_fewer}
-use Rattle.rev_undotree.proofs.Spots.{path_way}
-use Rattle.rev_undotree.proofs.Machine.{kept_tree}
-use Rattle.rev_undotree.proofs.Children.{missing_children, placed_child}
+use Rattle.rev_tree.specs.Children.{children_at}
+use Rattle.rev_tree.proofs.Held.{kept_rises, kept_fewer}
+use Rattle.rev_tree.proofs.Spots.{path_way}
+use Rattle.rev_tree.proofs.Machine.{kept_tree}
+use Rattle.rev_tree.proofs.Children.{missing_children, placed_child}
 use Rattle.rev_undotree.proofs.session.Session.child.Goals as goal
 
 pub find-requires-clause-fewer : goal.find-requires-clause-fewer

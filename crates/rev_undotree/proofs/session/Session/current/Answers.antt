@@ -1,5 +1,5 @@
 use Rattle.std.proofs.Common.{ap, ◌∙◌}
-use Rattle.rev_undotree.proofs.Positions.{stands_way}
+use Rattle.rev_tree.proofs.Positions.{stands_way}
 use Rattle.rev_undotree.proofs.session.Session.current.Goals as goal
 
 pub number-requires-clause-way : goal.number-requires-clause-way

@@ -1,6 +1,6 @@
 use Rattle.std.proofs.Common.{sym, ◌∙◌}
-use Rattle.rev_undotree.proofs.Machine.{kept_tree, kept_path}
-use Rattle.rev_undotree.proofs.Trips.{lineage_depth, depth_within}
+use Rattle.rev_tree.proofs.Machine.{kept_tree, kept_path}
+use Rattle.rev_tree.proofs.Trips.{lineage_depth, depth_within}
 use Rattle.rev_undotree.proofs.session.Session.depth.Goals as goal
 
 pub depth-requires : goal.depth-requires

@@ -1,5 +1,5 @@
 use Rattle.std.specs.Prelude.{◌≡◌, ℕ, ◌-◌, ◌<◌, ◌≤◌, Some, slice_get}
-use Rattle.rev_undotree.specs.Machine.{lineage}
+use Rattle.rev_tree.specs.Machine.{lineage}
 use Rattle.rev_undotree.proofs.session.Session.depth_of.Given as goal
 
 -- the nodes behind `high` have numbers over that one

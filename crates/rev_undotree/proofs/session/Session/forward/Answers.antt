@@ -1,6 +1,6 @@
 use Rattle.std.proofs.Common.{◌≡◌, ap, sym, ◌∙◌}
 use Rattle.std.specs.Option.{option_map}
-use Rattle.rev_undotree.proofs.Children.{child_held}
+use Rattle.rev_tree.proofs.Children.{child_held}
 use Rattle.std.proofs.Common.{Result, Err, Ok, is_ok, true}
 use Rattle.rev_undotree.proofs.session.Session.forward.Goals as goal
 

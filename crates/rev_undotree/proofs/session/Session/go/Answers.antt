@@ -1,12 +1,12 @@
 use Rattle.std.proofs.Common.{sym, refl, subst}
-use Rattle.rev_undotree.specs.Paths.{IsPath}
-use Rattle.rev_undotree.specs.Positions.{Proper}
+use Rattle.rev_tree.specs.Paths.{IsPath}
+use Rattle.rev_tree.specs.Positions.{Proper}
 use Rattle.std.proofs.Common.{ap}
 use Rattle.rev_undotree.proofs.Mentioned.{moved_noted}
-use Rattle.rev_undotree.proofs.Indexes.{index_moved}
-use Rattle.rev_undotree.proofs.Positions.{moved_kept, moved_state}
-use Rattle.rev_undotree.proofs.Held.{placed_held, missing_held, kept_rises, kept_fewer, went_state}
-use Rattle.rev_undotree.proofs.Trips.{depth_few, go_distance}
+use Rattle.rev_tree.proofs.Indexes.{index_moved}
+use Rattle.rev_tree.proofs.Positions.{moved_kept, moved_state}
+use Rattle.rev_tree.proofs.Held.{placed_held, missing_held, kept_rises, kept_fewer, went_state}
+use Rattle.rev_tree.proofs.Trips.{depth_few, go_distance}
 use Rattle.rev_undotree.proofs.session.Session.go.Goals as goal
 
 pub find-requires-clause-fewer : goal.find-requires-clause-fewer

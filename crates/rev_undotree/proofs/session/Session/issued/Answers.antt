@@ -1,5 +1,5 @@
 use Rattle.std.proofs.Common.{sym}
-use Rattle.rev_undotree.proofs.Growth.{length_rows}
+use Rattle.rev_tree.proofs.Growth.{length_rows}
 use Rattle.rev_undotree.proofs.session.Session.issued.Goals as goal
 
 pub returns : goal.returns

@@ -1,6 +1,6 @@
 use Rattle.std.proofs.Common.{◌-◌, sym, subst, ⊎_elim, arith}
-use Rattle.rev_undotree.specs.Mentions.{Holds}
-use Rattle.rev_undotree.specs.Mentioned.{Mentioned}
+use Rattle.rev_tree.specs.Mentions.{Holds}
+use Rattle.rev_tree.specs.Mentioned.{Mentioned}
 use Rattle.rev_undotree.proofs.Lineage.{lineage_rises}
 use Rattle.rev_undotree.proofs.session.Session.last_mention.Goals as goal
 

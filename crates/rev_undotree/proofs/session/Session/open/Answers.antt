@@ -1,7 +1,7 @@
 use Rattle.std.proofs.Common.{arith}
 use Rattle.rev_undotree.proofs.Mentioned.{open_noted}
-use Rattle.rev_undotree.proofs.Indexes.{index_opened}
-use Rattle.rev_undotree.proofs.Growth.{open_kept, open_state}
+use Rattle.rev_tree.proofs.Indexes.{index_opened}
+use Rattle.rev_tree.proofs.Growth.{open_kept, open_state}
 use Rattle.rev_undotree.proofs.session.Session.open.Goals as goal
 
 pub invariant_of-result : goal.invariant_of-result

@@ -1,6 +1,6 @@
-use Rattle.rev_undotree.proofs.Held.{kept_rises, kept_fewer}
-use Rattle.rev_undotree.proofs.Machine.{kept_tree}
-use Rattle.rev_undotree.proofs.Trips.{placed_inside, placed_parent, missing_parent, path_below}
+use Rattle.rev_tree.proofs.Held.{kept_rises, kept_fewer}
+use Rattle.rev_tree.proofs.Machine.{kept_tree}
+use Rattle.rev_tree.proofs.Trips.{placed_inside, placed_parent, missing_parent, path_below}
 use Rattle.rev_undotree.proofs.session.Session.parent.Goals as goal
 
 pub find-requires-clause-fewer : goal.find-requires-clause-fewer

@@ -1,24 +1,24 @@
 use Rattle.std.proofs.Common.{ℕ, List, rules, ◌≡◌, ◌+◌, length, arith, ap, ◌∙◌, sym, refl, add-one, eqb, subst}
-use Rattle.rev_undotree.specs.Steps.{State, outcome_of}
-use Rattle.rev_undotree.specs.Tree.{PlainNode, PlainBranch}
-use Rattle.rev_undotree.specs.States.{rewind}
-use Rattle.rev_undotree.specs.Rows.{rows_of, number_at}
-use Rattle.rev_undotree.specs.Positions.{SessionState}
-use Rattle.rev_undotree.specs.Mentioned.{Noted}
-use Rattle.rev_undotree.specs.declared.junction.Junction.{Junction}
-use Rattle.rev_undotree.specs.declared.mention.Mention.{Mention}
-use Rattle.rev_undotree.specs.Runs.{node_of}
+use Rattle.rev_tree.specs.Steps.{State, outcome_of}
+use Rattle.rev_tree.specs.Tree.{PlainNode, PlainBranch}
+use Rattle.rev_tree.specs.States.{rewind}
+use Rattle.rev_tree.specs.Rows.{rows_of, number_at}
+use Rattle.rev_tree.specs.Positions.{SessionState}
+use Rattle.rev_tree.specs.Mentioned.{Noted}
+use Rattle.rev_tree.specs.declared.junction.Junction.{Junction}
+use Rattle.rev_tree.specs.declared.mention.Mention.{Mention}
+use Rattle.rev_tree.specs.Runs.{node_of}
 use Rattle.rev_steps.specs.Plain.{plain_step}
-use Rattle.rev_undotree.proofs.Turns.{step_next, step_outcome, undoes_applied}
-use Rattle.rev_undotree.specs.Ways.{reach}
-use Rattle.rev_undotree.specs.Index.{PlainIndex}
-use Rattle.rev_undotree.proofs.Indexes.{index_grown}
+use Rattle.rev_tree.proofs.Turns.{step_next, step_outcome, undoes_applied}
+use Rattle.rev_tree.specs.Ways.{reach}
+use Rattle.rev_tree.specs.Index.{PlainIndex}
+use Rattle.rev_tree.proofs.Indexes.{index_grown}
 use Rattle.rev_undotree.proofs.Mentioned.{play_noted, noted_more}
-use Rattle.rev_undotree.proofs.Positions.{stands_way, stands_within, stands_at}
-use Rattle.rev_undotree.proofs.Growth.{kept_sound, length_rows, play_kept, play_state}
-use Rattle.rev_undotree.proofs.Machine.{kept_tree, kept_path, goes_on_is, deep_is, deep_not}
-use Rattle.rev_undotree.specs.Mentions.{Within}
-use Rattle.rev_undotree.proofs.Junctions.{held_number}
+use Rattle.rev_tree.proofs.Positions.{stands_way, stands_within, stands_at}
+use Rattle.rev_tree.proofs.Growth.{kept_sound, length_rows, play_kept, play_state}
+use Rattle.rev_tree.proofs.Machine.{kept_tree, kept_path, goes_on_is, deep_is, deep_not}
+use Rattle.rev_tree.specs.Mentions.{Within}
+use Rattle.rev_tree.proofs.Junctions.{held_number}
 use Rattle.rev_undotree.proofs.session.Session.play_once.Goals as goal
 
 -- a session with all its parts as they were

@@ -1,10 +1,10 @@
 use Rattle.std.proofs.Common.{ap, refl, arith}
 use Rattle.std.proofs.lemmas.Bool.{false≢true}
-use Rattle.rev_undotree.proofs.Spots.{path_way}
-use Rattle.rev_undotree.proofs.Trips.{placed_inside}
-use Rattle.rev_undotree.proofs.Held.{kept_rises, kept_fewer, placed_held, missing_held}
+use Rattle.rev_tree.proofs.Spots.{path_way}
+use Rattle.rev_tree.proofs.Trips.{placed_inside}
+use Rattle.rev_tree.proofs.Held.{kept_rises, kept_fewer, placed_held, missing_held}
 use Rattle.rev_undotree.proofs.Mentioned.{prune_noted}
-use Rattle.rev_undotree.proofs.Indexes.{index_cut}
+use Rattle.rev_tree.proofs.Indexes.{index_cut}
 use Rattle.rev_undotree.proofs.Prunes.{below_held, below_root, held_false, true_false, prune_kept, prune_state, on_path_below, off_path_below}
 use Rattle.rev_undotree.proofs.session.Session.prune.Goals as goal
 

@@ -1,11 +1,11 @@
 use Rattle.std.proofs.Common.{◌≡◌, [], sym, ◌∙◌, ap, subst}
-use Rattle.rev_undotree.specs.Steps.{Sound, State}
-use Rattle.rev_undotree.specs.Rows.{rows_of, number_at, at}
-use Rattle.rev_undotree.specs.States.{rewind}
-use Rattle.rev_undotree.specs.Positions.{SessionState}
-use Rattle.rev_undotree.proofs.Positions.{stands_at}
-use Rattle.rev_undotree.proofs.Growth.{kept_sound, open_kept, open_state}
-use Rattle.rev_undotree.proofs.Indexes.{index_opened}
+use Rattle.rev_tree.specs.Steps.{Sound, State}
+use Rattle.rev_tree.specs.Rows.{rows_of, number_at, at}
+use Rattle.rev_tree.specs.States.{rewind}
+use Rattle.rev_tree.specs.Positions.{SessionState}
+use Rattle.rev_tree.proofs.Positions.{stands_at}
+use Rattle.rev_tree.proofs.Growth.{kept_sound, open_kept, open_state}
+use Rattle.rev_tree.proofs.Indexes.{index_opened}
 use Rattle.rev_undotree.proofs.Mentioned.{open_noted}
 use Rattle.rev_undotree.proofs.session.Session.restart.Goals as goal
 

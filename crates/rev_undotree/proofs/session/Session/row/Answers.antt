@@ -1,8 +1,8 @@
 use Rattle.std.proofs.Common.{◌∙◌, arith, ◌-◌}
-use Rattle.rev_undotree.proofs.Held.{kept_rises, kept_fewer}
-use Rattle.rev_undotree.proofs.Spots.{path_way, path_within}
-use Rattle.rev_undotree.proofs.Trips.{placed_inside, missing_row}
-use Rattle.rev_undotree.proofs.Outcomes.{placed_row, step_read, outcome_read}
+use Rattle.rev_tree.proofs.Held.{kept_rises, kept_fewer}
+use Rattle.rev_tree.proofs.Spots.{path_way, path_within}
+use Rattle.rev_tree.proofs.Trips.{placed_inside, missing_row}
+use Rattle.rev_tree.proofs.Outcomes.{placed_row, step_read, outcome_read}
 use Rattle.rev_undotree.proofs.session.Session.row.Goals as goal
 
 pub find-requires-clause-fewer : goal.find-requires-clause-fewer

@@ -1,10 +1,10 @@
 use Rattle.std.proofs.Common.{◌∙◌, arith, ◌-◌}
-use Rattle.rev_undotree.specs.Rows.{rows_of}
-use Rattle.rev_undotree.proofs.Held.{kept_rises, kept_fewer}
-use Rattle.rev_undotree.proofs.Spots.{path_way, path_within}
-use Rattle.rev_undotree.proofs.Machine.{kept_tree}
-use Rattle.rev_undotree.proofs.Trips.{placed_inside, placed_parent, missing_row, path_below, row_parent_is}
-use Rattle.rev_undotree.proofs.Outcomes.{placed_row, step_read, outcome_read}
+use Rattle.rev_tree.specs.Rows.{rows_of}
+use Rattle.rev_tree.proofs.Held.{kept_rises, kept_fewer}
+use Rattle.rev_tree.proofs.Spots.{path_way, path_within}
+use Rattle.rev_tree.proofs.Machine.{kept_tree}
+use Rattle.rev_tree.proofs.Trips.{placed_inside, placed_parent, missing_row, path_below, row_parent_is}
+use Rattle.rev_tree.proofs.Outcomes.{placed_row, step_read, outcome_read}
 use Rattle.rev_undotree.proofs.session.Session.row_with_parent.Goals as goal
 
 pub find-requires-clause-fewer : goal.find-requires-clause-fewer

@@ -1,5 +1,5 @@
-use Rattle.rev_undotree.proofs.Positions.{stands_at}
-use Rattle.rev_undotree.proofs.Growth.{kept_sound}
+use Rattle.rev_tree.proofs.Positions.{stands_at}
+use Rattle.rev_tree.proofs.Growth.{kept_sound}
 use Rattle.rev_undotree.proofs.session.Session.store.Goals as goal
 
 pub returns-clause-state : goal.returns-clause-state

@@ -1,9 +1,9 @@
 use Rattle.std.proofs.Common.{◌≤◌, ◌-◌, length, get_or, take, arith, ap, sym, refl, subst, inr, ⊎_elim}
-use Rattle.rev_undotree.specs.Ways.{IsWay, no_node}
-use Rattle.rev_undotree.proofs.Machine.{kept_tree, kept_path}
-use Rattle.rev_undotree.proofs.Trips.{lineage_depth, depth_within}
-use Rattle.rev_undotree.proofs.Spots.{path_way}
-use Rattle.rev_undotree.proofs.Trails.{cut_inside, take_length, trailed, trailed_parts, cut_place}
+use Rattle.rev_tree.specs.Ways.{IsWay, no_node}
+use Rattle.rev_tree.proofs.Machine.{kept_tree, kept_path}
+use Rattle.rev_tree.proofs.Trips.{lineage_depth, depth_within}
+use Rattle.rev_tree.proofs.Spots.{path_way}
+use Rattle.rev_tree.proofs.Trails.{cut_inside, take_length, trailed, trailed_parts, cut_place}
 use Rattle.rev_undotree.proofs.session.Session.trail.Goals as goal
 
 pub depth-requires : goal.depth-requires

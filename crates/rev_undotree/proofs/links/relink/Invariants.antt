@@ -1,9 +1,0 @@
-use Rattle.std.proofs.Common.{◌≡◌}
-use Rattle.rev_undotree.specs.Links.{mentions_of, IsLinked}
-use Rattle.rev_undotree.proofs.links.relink.Given as goal
-
-abbrev pub invariant-loop-at : goal.invariant-loop-at
-invariant-loop-at l = record {
-  same : mentions_of l.entries ≡ mentions_of l.initial.entries;
-  linked : IsLinked l.heads l.entries l.at;
-}

@@ -1,7 +1,0 @@
-use Rattle.rev_undotree.specs.Mentioned.{Grows}
-use Rattle.rev_undotree.proofs.Named.{IsSoFar}
-use Rattle.rev_undotree.proofs.naming.mention_record.Given as goal
-
--- what the changes before the i-th name is mentioned
-abbrev pub invariant-loop-i : goal.invariant-loop-i
-invariant-loop-i g l = Grows l.fn.mentions l.mentions l.node × IsSoFar l.mentions l.store l.undo.changes l.i l.node
