@@ -162,9 +162,7 @@ fn steps<'a>(alloc: Global) -> Result<Arg<'a>, AllocError> {
 // The options by which logs are played.
 fn with_logs<'a>(alloc: Global, command: Command<'a>) -> Result<Command<'a>, AllocError> {
     let command = command.arg(watch_alone(alloc)?)?;
-    command
-        .arg(settings(alloc)?)?
-        .arg(exact_factor(alloc)?)
+    command.arg(settings(alloc)?)?.arg(exact_factor(alloc)?)
 }
 
 // The options by which rows are played.

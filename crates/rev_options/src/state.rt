@@ -38,15 +38,11 @@ fn with_items<'a>(alloc: Global, command: Command<'a>) -> Result<Command<'a>, Al
 }
 
 pub(crate) fn state_command<'a>(alloc: Global) -> Result<Command<'a>, AllocError> {
-    let command = Command::new(alloc, "state")
-        .about("Makes a start of the items that a running memcached holds");
+    let command = Command::new(alloc, "state").about(
+        "Makes a start of the items that a running memcached holds",
+    );
     with_items(alloc, command)?
-        .arg(needed(
-            alloc,
-            "settings",
-            "FILE",
-            "Its text of `stats settings`",
-        ))?
+        .arg(needed(alloc, "settings", "FILE", "Its text of `stats settings`"))?
         .arg(needed(
             alloc,
             "out",
