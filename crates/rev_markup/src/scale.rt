@@ -21,6 +21,17 @@ impl Scale {
     }
 }
 
+/// Where a picture's lines stand, in tenths of a point.
+#[derive(Clone, Copy)]
+pub struct Frame {
+    pub left: u32,
+    pub bottom: u32,
+    pub across: u32,
+    pub up: u32,
+    /// How high a line of text is.
+    pub line: u32,
+}
+
 /// What the numbers along a line count.
 #[derive(Clone, Copy, Debug, PartialEq, Eq)]
 pub enum Unit {

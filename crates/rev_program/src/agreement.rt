@@ -1,6 +1,7 @@
 //! How far the replay of logs agrees with them.
 
 use crate::direct::{ALL, begun};
+use rev_comparisons::agreement::Agreement;
 use rev_import_commands::check::{Check, CheckedLogs, Tally};
 use rev_import_commands::import::{Making, all_opened, setup_of};
 use rev_intake::intake::Intake;
@@ -9,7 +10,6 @@ use rev_messages::Stop;
 use rev_messages::progress::Progress;
 use rev_options::WatchOpening;
 use rev_output::{Sink, ToWrite};
-use rev_report::agreement::Agreement;
 use rev_undotree::MAX_NODES;
 use std::alloc::{AllocError, Global};
 use std::io;

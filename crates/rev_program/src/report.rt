@@ -9,6 +9,8 @@ use crate::direct::{kept, with_logs, with_rows};
 use crate::opening::{Full, opened_with_traces};
 use crate::trials::what_ifs;
 use rev_classes::{ClassTable, Config, ConfigFault, fault_of};
+use rev_comparisons::agreement::Agreement;
+use rev_comparisons::what_if::WhatIf;
 use rev_import_commands::import::{cannot_write, rename, with_end};
 use rev_intake::report::put_part;
 use rev_intake::words::put_all_options;
@@ -18,14 +20,12 @@ use rev_messages::ends::ended;
 use rev_messages::progress::Progress;
 use rev_options::{Opening, Played, Reporting};
 use rev_output::Sink;
-use rev_report::agreement::Agreement;
 use rev_report::figures::{Figures, figures_of};
 use rev_report::life::{Life, life_of};
 use rev_report::page::{Curves, Subject, curves_of, put_page};
 use rev_report::rows::{
     RowsFailed, write_classes, write_left, write_lives, write_moves, write_queues, write_what_ifs,
 };
-use rev_report::what_if::WhatIf;
 use rev_undotree::Session;
 use std::alloc::{AllocError, Global};
 use std::fs;

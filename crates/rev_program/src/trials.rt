@@ -1,8 +1,8 @@
 //! What other settings would have done with a trace that was played.
 
 use rev_classes::Config;
+use rev_comparisons::what_if::{Counts, Trial, Value, Varied, WhatIf};
 use rev_options::WhatIf as Asked;
-use rev_report::what_if::{Counts, Trial, Value, Varied, WhatIf};
 use rev_undotree::Session;
 use rev_whatif::{Setting, Trial as Tried, try_settings};
 use std::alloc::{AllocError, Global};

@@ -1,7 +1,10 @@
 //! The figures of a session that a report is made of.
+ghost use Rattle.std.specs.Prelude.{◌≡◌, ◌+◌, ◌-◌, ◌^◌, min};
+
 use crate::slots::{Slot, rows_at, slots_of};
 use crate::words::{Clock, cause_numbers};
 use rev_classes::ClassTable;
+use rev_comparisons::what_if::Counts;
 use rev_figures::{
     CauseCounts, ClassFigures, Path, StepKind, Totals, class_figures, count_all, gather,
 };
@@ -39,6 +42,20 @@ impl Figures {
             path: &self.path,
             begin: self.begin,
         }
+    }
+}
+
+/// What the steps of the trace itself did.
+pub fn own_counts(figures: &Figures) -> Counts
+    ensures hits { result.hits ≡ figures.now.totals.hits }
+    ensures misses { result.misses ≡ figures.now.totals.misses }
+    ensures evictions { result.evictions ≡ min (figures.now.totals.left.evicted + figures.now.totals.left.evicted_by_mover) (2 ^ 64 - 1) }
+{
+    let left = &figures.totals.left;
+    Counts {
+        hits: figures.totals.hits as u64,
+        misses: figures.totals.misses as u64,
+        evictions: (left.evicted as u64).saturating_add(left.evicted_by_mover as u64),
     }
 }
 

@@ -1,8 +1,8 @@
 //! What a report tells first: which cache, which trace, and how it went.
-use crate::agreement::put_agreement;
 use crate::figures::{Figures, all_left};
 use crate::page::Subject;
 use rev_classes::Config;
+use rev_comparisons::agreement::put_agreement;
 use rev_markup::charts::put_fact;
 use rev_markup::markup::Piece::{Count, Markup};
 use rev_markup::markup::{outside, put};

@@ -1,13 +1,13 @@
 //! The lives of keys, a band for each.
 use crate::figures::{Figures, clock_of};
 use crate::life::Life;
-use crate::plot::{Frame, Plot};
+use crate::plot::Plot;
 use crate::words::{QUEUE_FILLS, QUEUES, put_clock};
 use rev_explain::events::{Event, EventKind};
 use rev_figures::Path;
 use rev_markup::markup::Piece::{Count, Markup, Plain, Tenths};
 use rev_markup::markup::{outside, put};
-use rev_markup::scale::Unit;
+use rev_markup::scale::{Frame, Unit};
 use rev_markup::units::put_counted;
 use rev_model::{Cause, Queue};
 use std::alloc::{AllocError, Global};

@@ -2,9 +2,7 @@
 //! the rows that the pictures are made of as CSV.
 #![tactic(auto)]
 
-pub mod agreement;
 mod classes;
-mod curve;
 pub mod figures;
 mod header;
 mod keys;
@@ -16,5 +14,4 @@ pub mod rows;
 pub mod slots;
 mod style;
 mod times;
-pub mod what_if;
 mod words;

@@ -1,7 +1,6 @@
 //! The page of a report.
-use crate::agreement::Agreement;
 use crate::classes::put_classes;
-use crate::figures::Figures;
+use crate::figures::{Figures, own_counts};
 use crate::header::put_header;
 use crate::keys::put_keys;
 use crate::life::Life;
@@ -10,8 +9,9 @@ use crate::queues::{QueueCurve, put_queues, queue_curves};
 use crate::slots::{left_columns, move_columns};
 use crate::style::{FILLS, STYLE};
 use crate::times::put_times;
-use crate::what_if::{WhatIf, put_what_ifs};
 use rev_classes::Config;
+use rev_comparisons::agreement::Agreement;
+use rev_comparisons::what_if::{WhatIf, put_what_ifs};
 use rev_markup::markup::Piece::Markup;
 use rev_markup::markup::put;
 use std::alloc::{AllocError, Global};
@@ -84,7 +84,7 @@ fn put_steps(
     put_classes(out, figures)?;
     put_times(out, figures, &curves.left, &curves.moved)?;
     put_queues(out, alloc, figures, &curves.queues)?;
-    put_what_ifs(out, alloc, figures, subject.what_ifs)
+    put_what_ifs(out, alloc, &own_counts(figures), subject.what_ifs)
 }
 
 /// Puts the whole page.

@@ -3,7 +3,7 @@
 use crate::words::{Clock, put_clock};
 use rev_markup::markup::Piece::{Count, Markup, Tenths};
 use rev_markup::markup::put;
-use rev_markup::scale::{Marks, Scale, Unit, marks_over, marks_within};
+use rev_markup::scale::{Frame, Marks, Scale, Unit, marks_over, marks_within};
 use rev_markup::units::put_round_bytes;
 use std::alloc::AllocError;
 
@@ -28,17 +28,6 @@ impl Column {
         }
         height
     }
-}
-
-/// Where a picture's lines stand, in tenths of a point.
-#[derive(Clone, Copy)]
-pub struct Frame {
-    pub left: u32,
-    pub bottom: u32,
-    pub across: u32,
-    pub up: u32,
-    /// How high a line of text is.
-    pub line: u32,
 }
 
 /// A picture of numbers along the steps of a trace.

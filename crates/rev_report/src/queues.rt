@@ -1,12 +1,12 @@
 //! How full the queues of the worst classes are over time.
 use crate::figures::Figures;
-use crate::plot::{Column, Frame, Plot, highest};
+use crate::plot::{Column, Plot, highest};
 use crate::slots::queue_columns;
 use crate::words::{QUEUE_FILLS, QUEUES};
 use rev_markup::charts::put_fills;
 use rev_markup::markup::Piece::{Count, Markup};
 use rev_markup::markup::put;
-use rev_markup::scale::Unit;
+use rev_markup::scale::{Frame, Unit};
 use rev_markup::units::{put_bytes, put_counted};
 use std::alloc::{AllocError, Global};
 

@@ -5,15 +5,15 @@ ghost use Rattle.csv.specs.Writing.{writer_setup, fields_written, text_written, 
 ghost use Rattle.csv.specs.declared.writer.QuoteStyle.TheVariants as style;
 
 use crate::classes::{CELL_NAMES, cells};
-use crate::figures::Figures;
+use crate::figures::{Figures, own_counts};
 use crate::keys::{cause_words, step_of};
 use crate::life::Life;
 use crate::page::Curves;
 use crate::plot::Column;
-use crate::what_if::{Counts, Trial, Value, WhatIf, own_counts, setting_word};
 use crate::words::{CAUSES, QUEUES, second_after};
 use csv::{Writer, WriterBuilder};
 use itoa::Buffer;
+use rev_comparisons::what_if::{Counts, Trial, Value, WhatIf, setting_word};
 use rev_explain::events::EventKind;
 use rev_figures::Path;
 use rev_model::Queue;

@@ -1,11 +1,11 @@
 //! What happened over time: keys that left, and pages that moved.
 use crate::figures::{Figures, all_left, clock_of};
-use crate::plot::{Column, Frame, MOST_SERIES, Plot, has_series, highest};
+use crate::plot::{Column, MOST_SERIES, Plot, has_series, highest};
 use crate::words::{CAUSE_FILLS, CAUSES};
 use rev_markup::charts::put_fills;
 use rev_markup::markup::Piece::Markup;
 use rev_markup::markup::put;
-use rev_markup::scale::Unit;
+use rev_markup::scale::{Frame, Unit};
 use rev_markup::units::put_counted;
 use std::alloc::AllocError;
 

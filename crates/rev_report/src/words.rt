@@ -2,11 +2,8 @@
 ghost use Rattle.std.specs.Prelude.{◌≡◌};
 ghost use Rattle.rev_report.specs.Cells.{causes_of};
 
-use crate::what_if::Value;
 use rev_figures::{CauseCounts, Path};
-use rev_markup::markup::Piece::{Count, Markup};
-use rev_markup::markup::put;
-use rev_markup::units::{put_span, put_thousandths};
+use rev_markup::units::put_span;
 use std::alloc::{AllocError, Global};
 
 /// The causes in the order in which they are told.
@@ -57,23 +54,6 @@ pub fn second_after(path: &Path<Global>, steps: u64) -> u32 {
         Some(step) => step.second,
         None => path.start,
     }
-}
-
-/// Puts the value of a setting.
-pub fn put_value(out: &mut Vec<u8>, value: Value) -> Result<(), AllocError> {
-    put(out, &[Count(u64::from(value.num))])?;
-    if value.den == 1 {
-        return Ok(());
-    }
-    put(
-        out,
-        &[
-            Markup("/"),
-            Count(u64::from(value.den)),
-            Markup("\u{202f}=\u{202f}"),
-        ],
-    )?;
-    put_thousandths(out, value.thousandths())
 }
 
 /// The clock along a path, counted from its beginning.

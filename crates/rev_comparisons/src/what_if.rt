@@ -2,11 +2,10 @@
 ghost use Rattle.std.specs.Prelude.{◌≡◌, ◌+◌, ◌-◌, ◌*◌, ◌/◌, ◌^◌, max, min};
 
 use crate::curve::{Point, put_evictions, put_shares};
-use crate::figures::Figures;
-use crate::words::put_value;
 use rev_markup::markup::Piece::{Count, Markup};
 use rev_markup::markup::put;
 use rev_markup::share::{Share, put_per_cent};
+use rev_markup::units::put_thousandths;
 use std::alloc::{AllocError, Global};
 
 /// Which setting is varied.
@@ -82,20 +81,6 @@ pub struct WhatIf {
     pub trials: Vec<Trial>,
 }
 
-/// What the steps of the trace itself did.
-pub fn own_counts(figures: &Figures) -> Counts
-    ensures hits { result.hits ≡ figures.now.totals.hits }
-    ensures misses { result.misses ≡ figures.now.totals.misses }
-    ensures evictions { result.evictions ≡ min (figures.now.totals.left.evicted + figures.now.totals.left.evicted_by_mover) (2 ^ 64 - 1) }
-{
-    let left = &figures.totals.left;
-    Counts {
-        hits: figures.totals.hits as u64,
-        misses: figures.totals.misses as u64,
-        evictions: (left.evicted as u64).saturating_add(left.evicted_by_mover as u64),
-    }
-}
-
 /// What a setting is called among the options.
 pub fn setting_word(setting: Varied) -> &'static str {
     match setting {
@@ -127,6 +112,23 @@ pub fn axis_name(setting: Varied) -> &'static str {
         Varied::Warm => "WARM\u{2019}s share, per cent",
         Varied::TempTtl => "enters TEMP if it expires within fewer seconds",
     }
+}
+
+// Puts the value of a setting.
+fn put_value(out: &mut Vec<u8>, value: Value) -> Result<(), AllocError> {
+    put(out, &[Count(u64::from(value.num))])?;
+    if value.den == 1 {
+        return Ok(());
+    }
+    put(
+        out,
+        &[
+            Markup("/"),
+            Count(u64::from(value.den)),
+            Markup("\u{202f}=\u{202f}"),
+        ],
+    )?;
+    put_thousandths(out, value.thousandths())
 }
 
 // Puts a cell of a number.
@@ -259,11 +261,12 @@ fn put_what_if(
     put(out, &[Markup("</div>")])
 }
 
-/// Puts what other settings would have done, a table and two curves for each setting.
+/// Puts what other settings would have done, a table and two curves for each setting. `own` is what the steps of the
+/// trace itself did.
 pub fn put_what_ifs(
     out: &mut Vec<u8>,
     alloc: Global,
-    figures: &Figures,
+    own: &Counts,
     what_ifs: &[WhatIf],
 ) -> Result<(), AllocError> {
     if what_ifs.is_empty() {
@@ -275,9 +278,8 @@ pub fn put_what_ifs(
             "<h2>What if</h2><p class=\"soft\">The same steps with one setting changed, on an empty cache.</p><ul class=\"legend\"><li><svg viewBox=\"0 0 22 14\" aria-hidden=\"true\"><path class=\"own\" d=\"M11 1l6 6l-6 6l-6 -6z\"/></svg>this trace</li><li><svg viewBox=\"0 0 22 14\" aria-hidden=\"true\"><circle class=\"dot\" cx=\"11\" cy=\"7\" r=\"3.5\"/></svg>another value</li></ul>",
         )],
     )?;
-    let own = own_counts(figures);
     for what_if in what_ifs {
-        put_what_if(out, alloc, what_if, &own)?;
+        put_what_if(out, alloc, what_if, own)?;
     }
     Ok(())
 }

@@ -1,9 +1,8 @@
 //! A curve through what several values of a setting lead to.
-use crate::plot::Frame;
 use crate::what_if::{Counts, Varied, axis_name};
 use rev_markup::markup::Piece::{Count, Markup, Tenths};
 use rev_markup::markup::put;
-use rev_markup::scale::{Marks, Scale, Unit, marks_over, marks_within};
+use rev_markup::scale::{Frame, Marks, Scale, Unit, marks_over, marks_within};
 use rev_markup::share::put_per_cent;
 use rev_markup::units::put_thousandths;
 use std::alloc::AllocError;
