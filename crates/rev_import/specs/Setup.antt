@@ -11,7 +11,7 @@ use Rattle.rev_requests.specs.Limits.{PlainTune, is_tune}
 use Rattle.rev_requests.specs.declared.actors.ActorStep.TheVariants.{TempTtl}
 use Rattle.rev_script.specs.Script.{ScriptLine, ActorLine, TuneLine}
 use Rattle.rev_watch.specs.declared.settings.Settings.{Settings}
-use Rattle.rev_import.specs.declared.setup.Factor.{Factor}
+use Rattle.rev_choices.specs.declared.Factor.{Factor}
 use Rattle.rev_import.specs.declared.setup.Unfollowed.{Unfollowed}
 use Rattle.rev_import.specs.declared.setup.Unfollowed.TheVariants.{TooLittleMemory, TooMuchMemory, ChunkSize, ItemSizeMax, TooManyClasses, TemporaryTtl}
 use Rattle.rev_import.specs.declared.setup.Unfollowed.TheVariants as unfollowed

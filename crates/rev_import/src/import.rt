@@ -7,8 +7,8 @@ ghost use Rattle.rev_import.specs.Figures.{no_figures};
 
 use crate::figures::{EventCounts, Figures, one_more};
 use crate::guess::Guesses;
-use crate::policy::Rhythm;
 use crate::scribe::Scribe;
+use rev_choices::Rhythm;
 use rev_classes::ClassTable;
 use rev_items::Key;
 use rev_watch::event::{Event, LogLine};

@@ -5,7 +5,6 @@ pub mod figures;
 mod guess;
 mod held_key;
 pub mod import;
-pub mod policy;
 pub mod requests;
 pub mod sample;
 mod scribe;

@@ -6,9 +6,9 @@ ghost use Rattle.rev_import.specs.Requests.{stored, row_lines, clock_at};
 ghost use Rattle.rev_import.specs.Writing.{Writes};
 
 use crate::figures::{Figures, one_more};
-use crate::policy::Rhythm;
 use crate::scribe::{Scribe, exptime_of};
 use crate::writing::{MOST_DATA, Storing};
+use rev_choices::Rhythm;
 use rev_classes::ClassTable;
 use rev_trace::row::{Operation, Row};
 use std::alloc::{AllocError, Allocator};

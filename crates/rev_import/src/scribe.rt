@@ -7,11 +7,11 @@ ghost use Rattle.rev_import.specs.Becoming.{look_up_lines, hit_lines, miss_lines
 
 use crate::figures::{Figures, one_more};
 use crate::guess::{Guess, is_too_large};
-use crate::policy::Rhythm;
 use crate::writing::{
     Storing, put_bump, put_clock, put_crawl, put_crawl_start, put_decrement, put_delete, put_get,
     put_increment, put_move, put_pull, put_reassign, put_store,
 };
+use rev_choices::Rhythm;
 use rev_classes::ClassTable;
 use rev_items::{Key, MAX_RELATIVE_TTL, footprint};
 use rev_model::Queue;

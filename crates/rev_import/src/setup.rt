@@ -6,6 +6,7 @@ ghost use Rattle.rev_import.specs.Writing.{Adds, Writes};
 ghost use Rattle.rev_import.specs.Setup.{tune_lines, temp_ttl_lines, setup_lines, pages_of, memory_unfollowed, IsReduced, IsWanted, usual_factor, config_of, opened_config, factor_unfollowed, tune_of, tune_unfollowed, temp_ttl_of, temp_ttl_unfollowed, bound_of, chunk_unfollowed, item_unfollowed, Follows};
 
 use crate::writing::{put_temp_ttl, put_tune};
+use rev_choices::Factor;
 use rev_classes::{ClassTable, Config, ConfigFault};
 use rev_requests::Tune;
 use rev_watch::settings::Settings;
@@ -20,13 +21,6 @@ pub const MOST_PAGES: u32 = 4096;
 
 /// The bytes for key, value and flags by which memcached sizes its first class; lrudb's first class is the same.
 pub const CHUNK_SIZE: u32 = 48;
-
-/// A growth factor of chunk sizes, numerator and denominator.
-#[derive(Clone, Copy, Debug, PartialEq, Eq)]
-pub struct Factor {
-    pub num: u32,
-    pub den: u32,
-}
 
 /// The factor that is used where the server's can't be.
 pub const USUAL_FACTOR: Factor = Factor { num: 5, den: 4 };

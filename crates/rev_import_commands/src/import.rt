@@ -8,10 +8,10 @@ ghost use Rattle.rev_import_commands.specs.Importing.{Reports, TellsLogs, counte
 
 use crate::check::{Check, CheckedLogs};
 use either::Either;
+use rev_choices::{Factor, LEAST_PAGE, Sample};
 use rev_classes::{ClassTable, Config};
 use rev_import::figures::Figures;
-use rev_import::sample::{LEAST_PAGE, Sample};
-use rev_import::setup::{Factor, Setup, follow};
+use rev_import::setup::{Setup, follow};
 use rev_intake::counts::LineCounts;
 use rev_intake::fault::IntakeFault;
 use rev_intake::intake::{Intake, Range};
@@ -646,6 +646,51 @@ fn add_report(
     }
 }
 
+// What lrudb is opened with in the place of the server, for the sample that is asked for, and notes of what is not
+// followed.
+fn setup_asked<R: Files + AllocGlobal>(
+    rt: &R,
+    asked: &WatchImport,
+    notes: &mut Vec<u8>,
+) -> Result<Setup, Stop> {
+    let setup = setup_of(rt, asked.settings.as_str(), asked.factor)?;
+    put_unfollowed(notes, &setup.unfollowed)?;
+    sampled(setup, asked.sample, notes)
+}
+
+// Makes the script that is asked for, of a store with this setup, and adds what is told of it to the notes.
+fn import_into<R: Files + AllocGlobal, I: Read + Drop, O: Write, C: Clock, W: Sink>(
+    rt: &R,
+    asked: &WatchImport,
+    setup: Setup,
+    words: &[u8],
+    stats: Option<LogStats>,
+    reader: I,
+    writer: &mut O,
+    notes: &mut Vec<u8>,
+    progress: &Progress<C, W>,
+) -> Result<(), Stop>
+    ensures { OnOk result (TellsLogs asked.now notes.new.items) }
+{
+    let setup_lines = setup_lines(&setup);
+    let mut check = check_of(rt.alloc(), asked.check, &setup.config)?;
+    let mut intake = intake_of(rt.alloc(), setup, asked)?;
+    import_logs(
+        rt,
+        asked,
+        words,
+        &mut intake,
+        &mut check,
+        reader,
+        writer,
+        progress,
+    )?;
+    match add_report(notes, asked, words, &intake, &check, setup_lines, stats) {
+        Ok(()) => Ok(()),
+        Err(_) => Err(Stop::Memory),
+    }
+}
+
 // Makes the script that is asked for, and adds what is told of it to the notes.
 fn import<R: Files + AllocGlobal, I: Read + Drop, O: Write, C: Clock, W: Sink>(
     rt: &R,
@@ -658,30 +703,20 @@ fn import<R: Files + AllocGlobal, I: Read + Drop, O: Write, C: Clock, W: Sink>(
     ensures { OnOk result (TellsLogs asked.now notes.new.items) }
 {
     let stats = stats_if(rt, &asked.stats)?;
-    let setup = setup_of(rt, asked.settings.as_str(), asked.factor)?;
-    put_unfollowed(notes, &setup.unfollowed)?;
-    let setup = sampled(setup, asked.sample, notes)?;
-    let setup_lines = setup_lines(&setup);
+    let setup = setup_asked(rt, asked, notes)?;
     let mut words = Vec::new(rt.alloc());
     put_options(&mut words, &setup.config)?;
-    let mut check = check_of(rt.alloc(), asked.check, &setup.config)?;
-    let mut intake = intake_of(rt.alloc(), setup, asked)?;
-    let words = words.as_slice();
-    import_logs(
+    import_into(
         rt,
         asked,
-        words,
-        &mut intake,
-        &mut check,
+        setup,
+        words.as_slice(),
+        stats,
         reader,
         writer,
+        notes,
         progress,
-    )?;
-    let told = add_report(notes, asked, words, &intake, &check, setup_lines, stats);
-    match told {
-        Ok(()) => Ok(()),
-        Err(_) => Err(Stop::Memory),
-    }
+    )
 }
 
 /// Makes the script that is asked for. Answers the exit status, 0, 3, 4 or 5. At status 0 what the import tells of

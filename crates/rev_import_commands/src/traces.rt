@@ -5,9 +5,8 @@ ghost use Rattle.rev_messages.specs.declared.stop.Stop.{Stop};
 ghost use Rattle.rev_import_commands.specs.Importing.{Reports, TellsRows};
 
 use crate::import::{Making, all_opened, copied, name_in, send};
+use rev_choices::{LEAST_PAGE, Rhythm, Sample};
 use rev_classes::{ClassTable, Config, fault_of};
-use rev_import::policy::Rhythm;
-use rev_import::sample::{LEAST_PAGE, Sample};
 use rev_intake::fault::RowsFault;
 use rev_intake::outlet::Outlet;
 use rev_intake::report::put_run;

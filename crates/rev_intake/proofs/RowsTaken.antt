@@ -9,9 +9,9 @@ use Rattle.csv.proofs.ReadFacts.{rows-more, rows-end}
 use Rattle.rev_output.specs.Sink.{one_more}
 use Rattle.rev_script.specs.Script.{ScriptLine}
 use Rattle.rev_import.specs.Requests.{clock_at, latest_of, lines_of, row_lines}
-use Rattle.rev_import.specs.Sample.{takes}
+use Rattle.rev_choices.specs.Sample.{takes}
 use Rattle.rev_import.specs.Writing.{Writes}
-use Rattle.rev_import.specs.declared.sample.Sample.{Sample}
+use Rattle.rev_choices.specs.declared.Sample.{Sample}
 use Rattle.rev_import.proofs.Written.{more, writes_none}
 use Rattle.rev_trace.specs.Row.{row_of}
 use Rattle.rev_trace.specs.Trace.{AreRows, Says, IsTrace, IsFirstBad, HasBad, IsSteady, IsAtStart, TakesNext, StopsBy, reader_in, row_count, unquoted}

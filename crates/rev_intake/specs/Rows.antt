@@ -4,10 +4,10 @@ use Rattle.std.specs.Prelude.{◌≡◌, ℕ, ◌+◌, max, Bool, true, false, n
 use Rattle.std.specs.Io.KnownBytes.{Appends}
 use Rattle.rev_output.specs.Sink.{one_more}
 use Rattle.rev_import.specs.Requests.{clock_at, latest_of, lines_of, row_lines}
-use Rattle.rev_import.specs.Sample.{takes}
+use Rattle.rev_choices.specs.Sample.{takes}
 use Rattle.rev_import.specs.Writing.{Writes}
 use Rattle.rev_import.specs.declared.figures.Figures.{Figures}
-use Rattle.rev_import.specs.declared.sample.Sample.{Sample}
+use Rattle.rev_choices.specs.declared.Sample.{Sample}
 use Rattle.rev_trace.specs.Trace.{IsTrace, HasBad}
 use Rattle.rev_trace.specs.declared.fault.TraceFault.{TraceFault}
 use Rattle.rev_trace.specs.declared.fault.TraceFault.TheVariants as trace

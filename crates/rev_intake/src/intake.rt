@@ -10,10 +10,10 @@ ghost use Rattle.rev_intake.specs.Splitting.{start_ended, split_off, lines_of_st
 use crate::counts::{LineCounts, add};
 use crate::fault::IntakeFault;
 use crate::outlet::{Outlet, is_due};
+use rev_choices::{Rhythm, Sample};
 use rev_import::figures::Figures;
 use rev_import::import::Import;
-use rev_import::policy::Rhythm;
-use rev_import::sample::Sample;
+use rev_import::sample::takes_event;
 use rev_import::setup::{Setup, put_setup};
 use rev_output::write_all;
 use rev_script::source::Source;
@@ -210,7 +210,7 @@ impl<A: Allocator + Copy> Intake<A> {
         match line {
             Line::Log(line) => {
                 if self.range.has(line.time.seconds) {
-                    if self.range.sample.takes_event(&line.event) {
+                    if takes_event(self.range.sample, &line.event) {
                         self.put(line, sink)
                     } else {
                         add(&mut self.counts.other_keys, 1);

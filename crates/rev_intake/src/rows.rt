@@ -1,7 +1,7 @@
 //! Rows of traces taken in one by one, and the script that they become sent out piece by piece.
 ghost use Rattle.std.specs.Prelude.{◌≡◌, ◌∷◌, [], List, IfErr, OnOk};
 ghost use Rattle.rev_import.specs.Figures.{no_figures};
-ghost use Rattle.rev_import.specs.Sample.{takes};
+ghost use Rattle.rev_choices.specs.Sample.{takes};
 ghost use Rattle.rev_trace.specs.Trace.{IsTrace};
 ghost use Rattle.rev_trace.specs.declared.row.Row.{Row};
 ghost use Rattle.rev_intake.specs.Rows.{PlainRowIntake, no_rows, PutsRow, TakesRows, EndsRows, StopsRow, SpoilsTrace, StopsEndingRows};
@@ -10,11 +10,10 @@ use crate::counts::add;
 use crate::fault::RowsFault;
 use crate::row_counts::RowCounts;
 use crate::sending::{send, send_piece};
+use rev_choices::{Rhythm, Sample};
 use rev_classes::ClassTable;
 use rev_import::figures::Figures;
-use rev_import::policy::Rhythm;
 use rev_import::requests::RowScribe;
-use rev_import::sample::Sample;
 use rev_output::Sink;
 use rev_trace::reader::TraceReader;
 use rev_trace::row::Row;

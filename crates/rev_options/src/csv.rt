@@ -4,12 +4,11 @@ ghost use Rattle.rev_options.specs.Request.{is_temp_ttl};
 
 use crate::import::{MOST_LOGS, STANDARD, number, one_of, prefix, required, rhythm_of, steps};
 use crate::opening::progress;
-use crate::{config_of, fault, with_config};
+use crate::{config_of, fault, with, with_config};
 use clap::error::ErrorKind;
 use clap::{Arg, ArgAction, ArgMatches, Command, Error};
+use rev_choices::{Rhythm, Sample};
 use rev_classes::Config;
-use rev_import::policy::Rhythm;
-use rev_import::sample::Sample;
 use std::alloc::{AllocError, Global};
 
 /// Traces, and the script that they become.
@@ -37,20 +36,12 @@ fn traces<'a>(alloc: Global) -> Arg<'a> {
         )
 }
 
-fn with_script<'a>(alloc: Global, command: Command<'a>) -> Result<Command<'a>, AllocError> {
-    command
-        .arg(prefix(alloc))?
-        .arg(steps(alloc))?
-        .arg(one_of(alloc))
-}
-
 /// The subcommand `csv` of `import`.
 pub fn csv_command<'a>(alloc: Global) -> Result<Command<'a>, AllocError> {
-    let csv = Command::new(alloc, "csv")
-        .about("Makes a script of the published trace of a cache")
-        .arg(traces(alloc))?
-        .arg(progress(alloc))?;
-    with_config(alloc, with_script(alloc, csv)?)
+    let csv = Command::new(alloc, "csv").about("Makes a script of the published trace of a cache");
+    let csv = with(with(Ok(csv), traces(alloc)), progress(alloc));
+    let csv = with(with(with(csv, prefix(alloc)), steps(alloc)), one_of(alloc));
+    with_config(alloc, csv?)
 }
 
 fn sample(text: &str) -> Option<Sample> {

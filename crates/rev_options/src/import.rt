@@ -5,12 +5,10 @@ ghost use Rattle.rev_options.specs.Request.{IsInRange, IsOfWords, OpensBy, Bring
 use crate::csv::{csv_command, csv_import, sample_of};
 use crate::opening::progress;
 use crate::state::{state_command, state_import};
-use crate::{Request, fault};
+use crate::{Request, fault, with, with_command};
 use clap::error::ErrorKind;
 use clap::{Arg, ArgAction, ArgMatches, Command, Error, value_parser};
-use rev_import::policy::Rhythm;
-use rev_import::sample::Sample;
-use rev_import::setup::Factor;
+use rev_choices::{Factor, Rhythm, Sample};
 use std::alloc::{AllocError, Global};
 use std::convert::AsStr;
 
@@ -143,55 +141,38 @@ fn check<'a>(alloc: Global) -> Arg<'a> {
         .help("Also plays the script, and tells how many gets and evictions are as logged")
 }
 
-// Long chains of options are in parts, since what a check of one takes grows faster than its length.
-fn with_files<'a>(alloc: Global, command: Command<'a>) -> Result<Command<'a>, AllocError> {
-    command
-        .arg(logs(alloc))?
-        .arg(progress(alloc))?
-        .arg(needed(
-            alloc,
-            "settings",
-            "FILE",
-            "The server's text of `stats settings`",
-        ))?
-        .arg(prefix(alloc))
+fn settings<'a>(alloc: Global) -> Arg<'a> {
+    needed(
+        alloc,
+        "settings",
+        "FILE",
+        "The server's text of `stats settings`",
+    )
 }
 
-fn with_cache<'a>(alloc: Global, command: Command<'a>) -> Result<Command<'a>, AllocError> {
-    command
-        .arg(stats(alloc))?
-        .arg(exact_factor(alloc))?
-        .arg(steps(alloc))
+fn from<'a>(alloc: Global) -> Arg<'a> {
+    second(
+        alloc,
+        "from",
+        "0",
+        "The first second of the events that are asked for, by the Unix clock",
+    )
 }
 
-fn with_events<'a>(alloc: Global, command: Command<'a>) -> Result<Command<'a>, AllocError> {
-    command
-        .arg(second(
-            alloc,
-            "from",
-            "0",
-            "The first second of the events that are asked for, by the Unix clock",
-        ))?
-        .arg(second(alloc, "to", "4294967295", "The last second"))?
-        .arg(one_of(alloc))
+fn to<'a>(alloc: Global) -> Arg<'a> {
+    second(alloc, "to", "4294967295", "The last second")
 }
 
 fn watch_command<'a>(alloc: Global) -> Result<Command<'a>, AllocError> {
     let command = Command::new(alloc, "watch").about(
         "Makes a script of logs that `watch fetchers mutations evictions sysevents deletions` sent",
     );
-    let command = with_files(alloc, command)?;
-    let command = with_cache(alloc, command)?;
-    with_events(alloc, command)?
-        .arg(split(alloc))?
-        .arg(check(alloc))
-}
-
-// The imports of what was asked of a cache.
-fn with_requests<'a>(alloc: Global, command: Command<'a>) -> Result<Command<'a>, AllocError> {
-    command
-        .subcommand(watch_command(alloc)?)?
-        .subcommand(csv_command(alloc)?)
+    let command = with(with(Ok(command), logs(alloc)), progress(alloc));
+    let command = with(with(command, settings(alloc)), prefix(alloc));
+    let command = with(with(command, stats(alloc)), exact_factor(alloc));
+    let command = with(with(command, steps(alloc)), from(alloc));
+    let command = with(with(command, to(alloc)), one_of(alloc));
+    with(with(command, split(alloc)), check(alloc))
 }
 
 /// The subcommand `import` with its own.
@@ -200,7 +181,9 @@ pub fn import_command<'a>(alloc: Global) -> Result<Command<'a>, AllocError> {
         .about("Makes a script of what a running memcached tells of itself")
         .subcommand_required(true)
         .arg_required_else_help(true);
-    with_requests(alloc, command)?.subcommand(state_command(alloc)?)
+    let command = with_command(command, watch_command(alloc))?;
+    let command = with_command(command, csv_command(alloc))?;
+    with_command(command, state_command(alloc))
 }
 
 /// Whether the first word says `import`.

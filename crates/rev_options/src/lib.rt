@@ -110,12 +110,37 @@ fn temp_ttl<'a>(alloc: Global) -> Arg<'a> {
         )
 }
 
+// The command with one more option, if there is a command. A chain of these has one way out: each way out of a function
+// that holds a `Command` is dear to prove.
+fn with<'a>(
+    command: Result<Command<'a>, AllocError>,
+    option: Arg<'a>,
+) -> Result<Command<'a>, AllocError> {
+    command?.arg(option)
+}
+
+// The command with one more option, if that was made.
+fn with_made<'a>(
+    command: Command<'a>,
+    option: Result<Arg<'a>, AllocError>,
+) -> Result<Command<'a>, AllocError> {
+    command.arg(option?)
+}
+
+// The command with one more of its own, if that was made.
+fn with_command<'a>(
+    command: Command<'a>,
+    other: Result<Command<'a>, AllocError>,
+) -> Result<Command<'a>, AllocError> {
+    command.subcommand(other?)
+}
+
 fn with_config<'a>(alloc: Global, command: Command<'a>) -> Result<Command<'a>, AllocError> {
-    let mut command = command;
+    let mut command = Ok(command);
     for of in &NUMBERS {
-        command = command.arg(option(alloc, of))?;
+        command = with(command, option(alloc, of));
     }
-    command.arg(temp_ttl(alloc))
+    with(command, temp_ttl(alloc))
 }
 
 fn heap<'a>(alloc: Global) -> Arg<'a> {
@@ -157,11 +182,8 @@ fn run_command<'a>(alloc: Global) -> Result<Command<'a>, AllocError> {
     let run = Command::new(alloc, "run").about(
         "Runs a script from the standard input, and answers each line",
     );
-    with_config(alloc, run)?
-        .arg(heap(alloc))?
-        .arg(line_feed(alloc))?
-        .arg(start(alloc))?
-        .arg(json(alloc))
+    let run = with(with_config(alloc, run), heap(alloc));
+    with(with(with(run, line_feed(alloc)), start(alloc)), json(alloc))
 }
 
 fn files<'a>(alloc: Global) -> Arg<'a> {
@@ -177,24 +199,8 @@ fn record_command<'a>(alloc: Global) -> Result<Command<'a>, AllocError> {
     let record = Command::new(alloc, "record").about(
         "Plays the scripts of files at once, each by an actor on a thread, and tells in which order their steps came",
     );
-    with_config(alloc, record)?
-        .arg(line_feed(alloc))?
-        .arg(start(alloc))?
-        .arg(files(alloc))
-}
-
-// The commands that play scripts.
-fn with_scripts<'a>(alloc: Global, command: Command<'a>) -> Result<Command<'a>, AllocError> {
-    command
-        .subcommand(run_command(alloc)?)?
-        .subcommand(record_command(alloc)?)
-}
-
-// The command that makes a script, and the one that looks around in it.
-fn with_traces<'a>(alloc: Global, command: Command<'a>) -> Result<Command<'a>, AllocError> {
-    command
-        .subcommand(import_command(alloc)?)?
-        .subcommand(open_command(alloc)?)
+    let record = with(with_config(alloc, record), line_feed(alloc));
+    with(with(record, start(alloc)), files(alloc))
 }
 
 fn whole_command<'a>(alloc: Global) -> Result<Command<'a>, AllocError> {
@@ -205,8 +211,11 @@ fn whole_command<'a>(alloc: Global) -> Result<Command<'a>, AllocError> {
         .no_binary_name(true)
         .subcommand_required(true)
         .arg_required_else_help(true);
-    let command = with_scripts(alloc, command)?;
-    with_traces(alloc, command)?.subcommand(report_command(alloc)?)
+    let command = with_command(command, run_command(alloc))?;
+    let command = with_command(command, record_command(alloc))?;
+    let command = with_command(command, import_command(alloc))?;
+    let command = with_command(command, open_command(alloc))?;
+    with_command(command, report_command(alloc))
 }
 
 // Each number has a default and passed its parser, so none is absent.

@@ -5,13 +5,14 @@ ghost use Rattle.rev_options.specs.Request.{IsInRange, IsOfWords, asks_open, Ope
 use crate::csv::sample_of;
 use crate::import::{STANDARD, factor_of, required, rhythm_of, text};
 use crate::number::NUMBERS;
-use crate::{Request, config_of, dialect_of, fault, files_of, json, line_feed, start, with_config};
+use crate::{
+    Request, config_of, dialect_of, fault, files_of, json, line_feed, start, with, with_config,
+    with_made,
+};
 use clap::error::ErrorKind;
 use clap::{Arg, ArgAction, ArgMatches, Command, Error};
+use rev_choices::{Factor, Rhythm, Sample};
 use rev_classes::Config;
-use rev_import::policy::Rhythm;
-use rev_import::sample::Sample;
-use rev_import::setup::Factor;
 use rev_script::dialect::Dialect;
 use std::alloc::{AllocError, Global};
 use std::convert::AsStr;
@@ -159,24 +160,17 @@ fn steps<'a>(alloc: Global) -> Result<Arg<'a>, AllocError> {
     .conflicts_with("traces")
 }
 
-// The options by which logs are played.
-fn with_logs<'a>(alloc: Global, command: Command<'a>) -> Result<Command<'a>, AllocError> {
-    let command = command.arg(watch_alone(alloc)?)?;
-    command.arg(settings(alloc)?)?.arg(exact_factor(alloc)?)
-}
-
-// The options by which rows are played.
-fn with_rows<'a>(alloc: Global, command: Command<'a>) -> Result<Command<'a>, AllocError> {
-    command.arg(csv(alloc)?)?.arg(one_of(alloc)?)
-}
-
 /// The same with the options by which something is imported.
 pub(crate) fn with_imports<'a>(
     alloc: Global,
     command: Command<'a>,
 ) -> Result<Command<'a>, AllocError> {
-    let command = with_logs(alloc, command)?;
-    with_rows(alloc, command)?.arg(steps(alloc)?)
+    let command = with_made(command, watch_alone(alloc))?;
+    let command = with_made(command, settings(alloc))?;
+    let command = with_made(command, exact_factor(alloc))?;
+    let command = with_made(command, csv(alloc))?;
+    let command = with_made(command, one_of(alloc))?;
+    with_made(command, steps(alloc))
 }
 
 // Where it is given by the launcher, at a terminal.
@@ -195,24 +189,15 @@ pub(crate) fn progress<'a>(alloc: Global) -> Arg<'a> {
         .hide(true)
 }
 
-fn with_manner<'a>(alloc: Global, command: Command<'a>) -> Result<Command<'a>, AllocError> {
-    command
-        .arg(line_feed(alloc))?
-        .arg(prompt(alloc))?
-        .arg(progress(alloc))
-}
-
 /// The subcommand `open`.
 pub fn open_command<'a>(alloc: Global) -> Result<Command<'a>, AllocError> {
     let command = Command::new(alloc, "open").about(
         "Plays the steps of traces, and answers the lines of the standard input at any node of theirs",
     );
-    let command = with_config(alloc, command)?;
-    let command = with_manner(alloc, command)?
-        .arg(start(alloc))?
-        .arg(traces(alloc))?
-        .arg(json(alloc))?;
-    with_imports(alloc, command)
+    let command = with(with_config(alloc, command), line_feed(alloc));
+    let command = with(with(command, prompt(alloc)), progress(alloc));
+    let command = with(with(command, start(alloc)), traces(alloc));
+    with_imports(alloc, with(command, json(alloc))?)
 }
 
 /// Whether the first word says `open`.

@@ -7,10 +7,12 @@ use crate::opening::{
     CsvOpening, Manner, Opening, WatchOpening, csv_opening, named, names, progress, watch_opening,
     with_imports,
 };
-use crate::{Request, config_of, dialect_of, fault, files_of, line_feed, start, with_config};
+use crate::{
+    Request, config_of, dialect_of, fault, files_of, line_feed, start, with, with_config, with_made,
+};
 use clap::error::ErrorKind;
 use clap::{Arg, ArgAction, ArgMatches, Command, Error};
-use rev_import::setup::Factor;
+use rev_choices::Factor;
 use std::alloc::{AllocError, Global};
 use std::convert::AsStr;
 
@@ -72,31 +74,26 @@ fn what_ifs<'a>(alloc: Global) -> Result<Arg<'a>, AllocError> {
     .conflicts_with("start")
 }
 
-// The options by which traces are played.
-fn with_traces<'a>(alloc: Global, command: Command<'a>) -> Result<Command<'a>, AllocError> {
-    command
-        .arg(line_feed(alloc))?
-        .arg(progress(alloc))?
-        .arg(start(alloc))?
-        .arg(traces(alloc)?)
+fn page<'a>(alloc: Global) -> Arg<'a> {
+    needed(alloc, "out", "FILE", "Writes the page to this file")
 }
 
-// The options that say what is written.
-fn with_texts<'a>(alloc: Global, command: Command<'a>) -> Result<Command<'a>, AllocError> {
-    command
-        .arg(needed(alloc, "out", "FILE", "Writes the page to this file"))?
-        .arg(text(
-            alloc,
-            "data",
-            "PREFIX",
-            "Also writes each table and curve as CSV, to PREFIX.NAME.csv",
-        ))?
-        .arg(names(
-            alloc,
-            "key",
-            "KEY",
-            "Also tells the life of a key [may be given again]",
-        ))
+fn data<'a>(alloc: Global) -> Arg<'a> {
+    text(
+        alloc,
+        "data",
+        "PREFIX",
+        "Also writes each table and curve as CSV, to PREFIX.NAME.csv",
+    )
+}
+
+fn keys<'a>(alloc: Global) -> Arg<'a> {
+    names(
+        alloc,
+        "key",
+        "KEY",
+        "Also tells the life of a key [may be given again]",
+    )
 }
 
 /// The subcommand `report`.
@@ -104,10 +101,12 @@ pub(crate) fn report_command<'a>(alloc: Global) -> Result<Command<'a>, AllocErro
     let command = Command::new(alloc, "report").about(
         "Plays the steps of traces, and writes a page that tells where the cache loses its keys",
     );
-    let command = with_config(alloc, command)?;
-    let command = with_traces(alloc, command)?;
-    let command = with_texts(alloc, command)?.arg(what_ifs(alloc)?)?;
-    with_imports(alloc, command)
+    let command = with(with_config(alloc, command), line_feed(alloc));
+    let command = with(with(command, progress(alloc)), start(alloc));
+    let command = with_made(command?, traces(alloc));
+    let command = with(with(command, page(alloc)), data(alloc));
+    let command = with(command, keys(alloc));
+    with_imports(alloc, with_made(command?, what_ifs(alloc))?)
 }
 
 /// Whether the first word says `report`.

@@ -1,8 +1,9 @@
 //! The words of `lrudb import state`.
 
 use crate::import::{exact_factor, factor_of, needed, required};
-use clap::{ArgMatches, Command, Error};
-use rev_import::setup::Factor;
+use crate::with;
+use clap::{Arg, ArgMatches, Command, Error};
+use rev_choices::Factor;
 use std::alloc::{AllocError, Global};
 
 /// The texts in which a server tells of its items, and the start that they become.
@@ -19,37 +20,48 @@ pub struct StateImport {
     pub out: String,
 }
 
-// The texts that tell of the items.
-fn with_items<'a>(alloc: Global, command: Command<'a>) -> Result<Command<'a>, AllocError> {
-    command
-        .arg(needed(
-            alloc,
-            "metadump",
-            "FILE",
-            "What `lru_crawler metadump all` sent",
-        ))?
-        .arg(needed(
-            alloc,
-            "items",
-            "FILE",
-            "The server's text of `stats items`, just before or behind it",
-        ))?
-        .arg(needed(alloc, "slabs", "FILE", "Its text of `stats slabs`"))
+fn metadump<'a>(alloc: Global) -> Arg<'a> {
+    needed(
+        alloc,
+        "metadump",
+        "FILE",
+        "What `lru_crawler metadump all` sent",
+    )
+}
+
+fn items<'a>(alloc: Global) -> Arg<'a> {
+    needed(
+        alloc,
+        "items",
+        "FILE",
+        "The server's text of `stats items`, just before or behind it",
+    )
+}
+
+fn slabs<'a>(alloc: Global) -> Arg<'a> {
+    needed(alloc, "slabs", "FILE", "Its text of `stats slabs`")
+}
+
+fn settings<'a>(alloc: Global) -> Arg<'a> {
+    needed(alloc, "settings", "FILE", "Its text of `stats settings`")
+}
+
+fn prefix<'a>(alloc: Global) -> Arg<'a> {
+    needed(
+        alloc,
+        "out",
+        "PREFIX",
+        "Writes PREFIX.start and PREFIX.options",
+    )
 }
 
 pub(crate) fn state_command<'a>(alloc: Global) -> Result<Command<'a>, AllocError> {
     let command = Command::new(alloc, "state").about(
         "Makes a start of the items that a running memcached holds",
     );
-    with_items(alloc, command)?
-        .arg(needed(alloc, "settings", "FILE", "Its text of `stats settings`"))?
-        .arg(needed(
-            alloc,
-            "out",
-            "PREFIX",
-            "Writes PREFIX.start and PREFIX.options",
-        ))?
-        .arg(exact_factor(alloc))
+    let command = with(with(Ok(command), metadump(alloc)), items(alloc));
+    let command = with(with(command, slabs(alloc)), settings(alloc));
+    with(with(command, prefix(alloc)), exact_factor(alloc))
 }
 
 pub(crate) fn state_import(alloc: Global, matches: &ArgMatches<'_>) -> Result<StateImport, Error> {

@@ -4,8 +4,7 @@ mod disk;
 mod files;
 
 use crate::streams::{Narrow, Stutter};
-use rev_import::policy::Rhythm;
-use rev_import::sample::Sample;
+use rev_choices::{Rhythm, Sample};
 use rev_import::setup::{Setup, follow};
 use rev_intake::counts::LineCounts;
 use rev_intake::fault::IntakeFault;

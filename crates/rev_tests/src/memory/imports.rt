@@ -2,7 +2,7 @@
 use crate::imports::{ALL, LOG, SCRIPT, setup};
 use crate::memory::heap::{Trial, fill, refuse_in_turn};
 use linked_list_allocator::LocalHeap;
-use rev_import::policy::Rhythm;
+use rev_choices::Rhythm;
 use rev_intake::fault::IntakeFault;
 use rev_intake::intake::Intake;
 use rev_output::ToWrite;

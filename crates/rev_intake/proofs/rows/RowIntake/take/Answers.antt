@@ -1,5 +1,5 @@
 use Rattle.std.proofs.Common.{refl, sym, ◌∙◌, ap}
-use Rattle.rev_import.specs.Sample.{takes}
+use Rattle.rev_choices.specs.Sample.{takes}
 use Rattle.rev_intake.proofs.RowsTaken.{row_left_out}
 use Rattle.rev_intake.proofs.rows.RowIntake.take.Goals as goal
 
