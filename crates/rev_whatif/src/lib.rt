@@ -8,6 +8,3 @@ mod trial;
 
 pub use setting::{Setting, SettingFault};
 pub use trial::{Counts, Trial, try_settings};
-
-#[cfg(test)]
-mod tests;
