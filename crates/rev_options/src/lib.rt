@@ -1,25 +1,27 @@
 //! The command line of `lrudb`: which words ask for what.
 #![tactic(auto)]
 
+mod commands;
 mod csv;
 mod import;
 mod number;
 mod opening;
 mod reporting;
 mod state;
+mod table;
 
 ghost use Rattle.std.specs.Prelude.{◌≡◌, ◌≤◌, length, map, IfOk, IfSome, true, false};
 ghost use Rattle.rev_options.specs.Request.{IsInRange, IsHeap, IsOfWords, OpensBy, BringsBy, ReportsBy, RunsBy, asks_import, asks_open, asks_report, asks_run, brings, is_temp_ttl};
 
-use crate::import::{asks_import, import, import_command};
-use crate::opening::{asks_open, brings, open_command, opening_of};
-use crate::reporting::{asks_report, report_command, reporting_of};
+use crate::commands::whole_command;
+use crate::import::{asks_import, import};
+use crate::opening::{asks_open, brings, opening_of};
+use crate::reporting::{asks_report, reporting_of};
 use clap::error::ErrorKind;
-use clap::{Arg, ArgAction, ArgMatches, Command, Error, value_parser};
+use clap::{ArgMatches, Error};
 pub use csv::CsvImport;
 pub use import::{STANDARD, WatchImport};
 pub use number::Number;
-use number::{NUMBERS, NumberOption};
 pub use opening::{CsvOpening, Manner, Opening, WatchOpening};
 pub use reporting::{Played, Reporting, WhatIf};
 use rev_classes::Config;
@@ -41,7 +43,7 @@ pub const MIN_HEAP: usize = 4096;
 pub const MAX_HEAP: usize = 1073741824;
 
 /// What a command line asks for.
-#[derive(Debug, Drop)]
+#[derive(Drop)]
 pub enum Request {
     /// Run the script of the standard input, from the state that the steps of the files `starts` leave. With `heap`,
     /// all that the run keeps lies in one heap of so many bytes. The script and the files are read in the dialect. With
@@ -83,139 +85,6 @@ pub enum Refused {
     /// The words are at fault or ask for help: the parser's text for the user.
     Told(String),
     Memory,
-}
-
-const ABOUT: &str =
-    "Replays memcached's storage commands and the steps of its segmented LRU, forwards and backwards";
-
-const AFTER: &str =
-    "A script has one command a line: memcached's own (set, get, delete, ..) and questions (:item KEY, :back, ..).\n\nExit status: 0 done, 2 command line or configuration, 3 out of memory, 4 input or output, 5 a file of steps has a line that is not a step, or what is imported is at fault, 6 the log differs.";
-
-fn option<'a>(alloc: Global, of: &'static NumberOption) -> Arg<'a> {
-    Arg::new(alloc, of.name)
-        .long(of.name)
-        .value_name(of.unit)
-        .value_parser(value_parser!(u32))
-        .default_value(of.default)
-        .help(of.help)
-}
-
-fn temp_ttl<'a>(alloc: Global) -> Arg<'a> {
-    Arg::new(alloc, "temp-ttl")
-        .long("temp-ttl")
-        .value_name("SECONDS")
-        .value_parser(value_parser!(i32).range(0..))
-        .help(
-            "Items that expire within fewer seconds enter TEMP: 0 to 2147483647 [without it: never]",
-        )
-}
-
-// The command with one more option, if there is a command. A chain of these has one way out: each way out of a function
-// that holds a `Command` is dear to prove.
-fn with<'a>(
-    command: Result<Command<'a>, AllocError>,
-    option: Arg<'a>,
-) -> Result<Command<'a>, AllocError> {
-    command?.arg(option)
-}
-
-// The command with one more option, if that was made.
-fn with_made<'a>(
-    command: Command<'a>,
-    option: Result<Arg<'a>, AllocError>,
-) -> Result<Command<'a>, AllocError> {
-    command.arg(option?)
-}
-
-// The command with one more of its own, if that was made.
-fn with_command<'a>(
-    command: Command<'a>,
-    other: Result<Command<'a>, AllocError>,
-) -> Result<Command<'a>, AllocError> {
-    command.subcommand(other?)
-}
-
-fn with_config<'a>(alloc: Global, command: Command<'a>) -> Result<Command<'a>, AllocError> {
-    let mut command = Ok(command);
-    for of in &NUMBERS {
-        command = with(command, option(alloc, of));
-    }
-    with(command, temp_ttl(alloc))
-}
-
-fn heap<'a>(alloc: Global) -> Arg<'a> {
-    Arg::new(alloc, "heap")
-        .long("heap")
-        .value_name("BYTES")
-        .value_parser(value_parser!(usize).range(4096..=1073741824))
-        .help(
-            "All that the run keeps lies in one heap of so many bytes: 4096 to 1073741824 [without it: no such limit]",
-        )
-}
-
-fn start<'a>(alloc: Global) -> Arg<'a> {
-    Arg::new(alloc, "start")
-        .long("start")
-        .value_name("FILE")
-        .action(ArgAction::Append)
-        .help(
-            "Plays the steps of a file first, of any number: the tree's root is the state after them [may be given again]",
-        )
-}
-
-/// The option by which answers are told as JSON.
-fn json<'a>(alloc: Global) -> Arg<'a> {
-    Arg::new(alloc, "json")
-        .long("json")
-        .action(ArgAction::SetTrue)
-        .help("Tells of each line in a line of JSON, in the place of its answer")
-}
-
-fn line_feed<'a>(alloc: Global) -> Arg<'a> {
-    Arg::new(alloc, "lf")
-        .long("lf")
-        .action(ArgAction::SetTrue)
-        .help("LF ends a data block of a file or script as CR LF does")
-}
-
-fn run_command<'a>(alloc: Global) -> Result<Command<'a>, AllocError> {
-    let run = Command::new(alloc, "run").about(
-        "Runs a script from the standard input, and answers each line",
-    );
-    let run = with(with_config(alloc, run), heap(alloc));
-    with(with(with(run, line_feed(alloc)), start(alloc)), json(alloc))
-}
-
-fn files<'a>(alloc: Global) -> Arg<'a> {
-    Arg::new(alloc, "files")
-        .value_name("FILE")
-        .required(true)
-        .num_args(1..=MOST_FILES)
-        .action(ArgAction::Append)
-        .help("Scripts without questions, each played by an actor: 1 to 8 files")
-}
-
-fn record_command<'a>(alloc: Global) -> Result<Command<'a>, AllocError> {
-    let record = Command::new(alloc, "record").about(
-        "Plays the scripts of files at once, each by an actor on a thread, and tells in which order their steps came",
-    );
-    let record = with(with_config(alloc, record), line_feed(alloc));
-    with(with(record, start(alloc)), files(alloc))
-}
-
-fn whole_command<'a>(alloc: Global) -> Result<Command<'a>, AllocError> {
-    let command = Command::new(alloc, "lrudb")
-        .bin_name("lrudb")?
-        .about(ABOUT)
-        .after_help(AFTER)
-        .no_binary_name(true)
-        .subcommand_required(true)
-        .arg_required_else_help(true);
-    let command = with_command(command, run_command(alloc))?;
-    let command = with_command(command, record_command(alloc))?;
-    let command = with_command(command, import_command(alloc))?;
-    let command = with_command(command, open_command(alloc))?;
-    with_command(command, report_command(alloc))
 }
 
 // Each number has a default and passed its parser, so none is absent.
@@ -264,7 +133,7 @@ fn heap_of(alloc: Global, matches: &ArgMatches<'_>) -> Result<Option<usize>, Err
         None => Ok(None),
         Some(bytes) if MIN_HEAP <= bytes && bytes <= MAX_HEAP => Ok(Some(bytes)),
         // The parser has looked at the range, and its contracts do not say so.
-        Some(_) => Err(fault(alloc, ErrorKind::ValueValidation, "run: no such heap")?),
+        Some(_) => Err(fault(alloc, ErrorKind::ValueValidation, "run: no such heap")),
     }
 }
 
@@ -279,16 +148,16 @@ fn run(alloc: Global, matches: &ArgMatches<'_>) -> Result<Request, Error>
 {
     let config = config_of(matches);
     let heap = heap_of(alloc, matches)?;
-    let dialect = dialect_of(matches);
-    let starts = files_of(alloc, matches, "start")?;
     let json = matches.get_flag("json");
     if json && heap.is_some() {
         return Err(fault(
             alloc,
             ErrorKind::ArgumentConflict,
             "run: --json takes no --heap",
-        )?);
+        ));
     }
+    let dialect = dialect_of(matches);
+    let starts = files_of(alloc, matches, "start")?;
     Ok(Request::Run {
         config,
         heap,
@@ -309,9 +178,19 @@ fn files_of(alloc: Global, matches: &ArgMatches<'_>, of: &str) -> Result<Vec<Str
     Ok(files)
 }
 
-// The parser's error of this kind, in its own form.
-fn fault(alloc: Global, kind: ErrorKind, text: &str) -> Result<Error, AllocError> {
-    whole_command(alloc)?.error(kind, text)
+fn made_fault(alloc: Global, kind: ErrorKind, text: &str) -> Result<Error, AllocError> {
+    let mut command = whole_command(alloc)?;
+    let made = command.error(kind, text);
+    drop(command);
+    made
+}
+
+// The parser's error of this kind, in its own form, or that of a want of memory.
+fn fault(alloc: Global, kind: ErrorKind, text: &str) -> Error {
+    match made_fault(alloc, kind, text) {
+        Ok(error) => error,
+        Err(refused) => Error::from(refused),
+    }
 }
 
 // The recording that the words ask for, or the parser's error.
@@ -329,10 +208,10 @@ fn recording(alloc: Global, matches: &ArgMatches<'_>) -> Result<Request, Error>
     let files = files_of(alloc, matches, "files")?;
     // The parser has counted them, and its contracts do not say so.
     if files.is_empty() {
-        return Err(fault(alloc, ErrorKind::TooFewValues, "record: no file")?);
+        return Err(fault(alloc, ErrorKind::TooFewValues, "record: no file"));
     }
     if files.len() > MOST_FILES {
-        return Err(fault(alloc, ErrorKind::TooManyValues, "record: more than 8 files")?);
+        return Err(fault(alloc, ErrorKind::TooManyValues, "record: more than 8 files"));
     }
     Ok(Request::Record {
         config,
@@ -372,7 +251,7 @@ fn other_request(
             return opening_of(alloc, inner, brings);
         }
     }
-    Err(fault(alloc, ErrorKind::MissingSubcommand, "run")?)
+    Err(fault(alloc, ErrorKind::MissingSubcommand, "run"))
 }
 
 // The run that the words ask for by the parser's reading of them, or the parser's error.
@@ -386,7 +265,7 @@ fn run_request(alloc: Global, matches: &ArgMatches<'_>) -> Result<Request, Error
 {
     match matches.subcommand_matches("run") {
         Some(inner) => run(alloc, inner),
-        None => Err(fault(alloc, ErrorKind::MissingSubcommand, "run")?),
+        None => Err(fault(alloc, ErrorKind::MissingSubcommand, "run")),
     }
 }
 
@@ -401,7 +280,7 @@ fn report_request(alloc: Global, matches: &ArgMatches<'_>) -> Result<Request, Er
 {
     match matches.subcommand_matches("report") {
         Some(inner) => reporting_of(alloc, inner),
-        None => Err(fault(alloc, ErrorKind::MissingSubcommand, "report")?),
+        None => Err(fault(alloc, ErrorKind::MissingSubcommand, "report")),
     }
 }
 

@@ -2,57 +2,95 @@
 ghost use Rattle.std.specs.Prelude.{◌≡◌};
 ghost use Rattle.rev_options.specs.Number.{name_of, help_of};
 
-/// An option, without its two dashes, with what its help says.
-pub struct NumberOption {
-    pub name: &'static str,
-    pub unit: &'static str,
-    pub default: &'static str,
-    pub help: &'static str,
-}
+use crate::table::{NUMBER, OptionSpec, TEXT};
+use clap::builder::ValueParser;
 
-/// All of them, in the order of the help and of `Number`.
-pub static NUMBERS: [NumberOption; 7] = [
-    NumberOption {
-        name: "page-size",
+// Names and helps stand apart from the table, since each arm of `name` and `help` would carry all of it in a proof.
+const PAGE_SIZE: &str = "page-size";
+
+const PAGE_SIZE_HELP: &str = "Bytes of a slab page: 256 to 1048576, a multiple of 8";
+
+const PAGES: &str = "pages";
+
+const PAGES_HELP: &str = "Pages before classes that own one have to evict: 1 to 4096";
+
+const NUM: &str = "num";
+
+const NUM_HELP: &str = "Growth factor of chunk sizes, numerator: 1 to 1000, the factor 21/20 to 4";
+
+const DEN: &str = "den";
+
+const DEN_HELP: &str = "Growth factor of chunk sizes, denominator: 1 to 1000";
+
+const BUMP: &str = "bump";
+
+const BUMP_HELP: &str = "Entries that the bump queue of COLD items holds: 1 to 4096";
+
+const HASH_POWER: &str = "hash-power";
+
+const HASH_POWER_HELP: &str = "The index has 2 to this power buckets: 4 to 20";
+
+const NOW: &str = "now";
+
+const NOW_HELP: &str = "Where the clock starts: 1 to 4294967295";
+
+/// The options that tell of the cache, in the order of the help: those of `Number`, in its order, and one more.
+pub static NUMBERS: [OptionSpec; 8] = [
+    OptionSpec {
+        name: PAGE_SIZE,
         unit: "BYTES",
-        default: "1048576",
-        help: "Bytes of a slab page: 256 to 1048576, a multiple of 8",
+        help: PAGE_SIZE_HELP,
+        default: Some(&["1048576"]),
+        ..NUMBER
     },
-    NumberOption {
-        name: "pages",
+    OptionSpec {
+        name: PAGES,
         unit: "COUNT",
-        default: "64",
-        help: "Pages before classes that own one have to evict: 1 to 4096",
+        help: PAGES_HELP,
+        default: Some(&["64"]),
+        ..NUMBER
     },
-    NumberOption {
-        name: "num",
+    OptionSpec {
+        name: NUM,
         unit: "NUMBER",
-        default: "5",
-        help: "Growth factor of chunk sizes, numerator: 1 to 1000, the factor 21/20 to 4",
+        help: NUM_HELP,
+        default: Some(&["5"]),
+        ..NUMBER
     },
-    NumberOption {
-        name: "den",
+    OptionSpec {
+        name: DEN,
         unit: "NUMBER",
-        default: "4",
-        help: "Growth factor of chunk sizes, denominator: 1 to 1000",
+        help: DEN_HELP,
+        default: Some(&["4"]),
+        ..NUMBER
     },
-    NumberOption {
-        name: "bump",
+    OptionSpec {
+        name: BUMP,
         unit: "COUNT",
-        default: "64",
-        help: "Entries that the bump queue of COLD items holds: 1 to 4096",
+        help: BUMP_HELP,
+        default: Some(&["64"]),
+        ..NUMBER
     },
-    NumberOption {
-        name: "hash-power",
+    OptionSpec {
+        name: HASH_POWER,
         unit: "POWER",
-        default: "10",
-        help: "The index has 2 to this power buckets: 4 to 20",
+        help: HASH_POWER_HELP,
+        default: Some(&["10"]),
+        ..NUMBER
     },
-    NumberOption {
-        name: "now",
+    OptionSpec {
+        name: NOW,
         unit: "SECONDS",
-        default: "1",
-        help: "Where the clock starts: 1 to 4294967295",
+        help: NOW_HELP,
+        default: Some(&["1"]),
+        ..NUMBER
+    },
+    OptionSpec {
+        name: "temp-ttl",
+        unit: "SECONDS",
+        help: "Items that expire within fewer seconds enter TEMP: 0 to 2147483647 [without it: never]",
+        values: ValueParser::Signed(0, 2147483647),
+        ..TEXT
     },
 ];
 
@@ -74,13 +112,13 @@ impl Number {
         ensures { result.now ≡ name_of self }
     {
         match self {
-            Number::PageSize => NUMBERS[0].name,
-            Number::Pages => NUMBERS[1].name,
-            Number::Num => NUMBERS[2].name,
-            Number::Den => NUMBERS[3].name,
-            Number::Bump => NUMBERS[4].name,
-            Number::HashPower => NUMBERS[5].name,
-            Number::Now => NUMBERS[6].name,
+            Number::PageSize => PAGE_SIZE,
+            Number::Pages => PAGES,
+            Number::Num => NUM,
+            Number::Den => DEN,
+            Number::Bump => BUMP,
+            Number::HashPower => HASH_POWER,
+            Number::Now => NOW,
         }
     }
 
@@ -89,13 +127,13 @@ impl Number {
         ensures { result.now ≡ help_of self }
     {
         match self {
-            Number::PageSize => NUMBERS[0].help,
-            Number::Pages => NUMBERS[1].help,
-            Number::Num => NUMBERS[2].help,
-            Number::Den => NUMBERS[3].help,
-            Number::Bump => NUMBERS[4].help,
-            Number::HashPower => NUMBERS[5].help,
-            Number::Now => NUMBERS[6].help,
+            Number::PageSize => PAGE_SIZE_HELP,
+            Number::Pages => PAGES_HELP,
+            Number::Num => NUM_HELP,
+            Number::Den => DEN_HELP,
+            Number::Bump => BUMP_HELP,
+            Number::HashPower => HASH_POWER_HELP,
+            Number::Now => NOW_HELP,
         }
     }
 }

@@ -2,22 +2,19 @@
 ghost use Rattle.std.specs.Prelude.{◌≡◌, map, true, false, IfOk};
 ghost use Rattle.rev_options.specs.Request.{IsInRange, IsOfWords, IsPlayedInRange, OpensBy, BringsBy, ReportsBy, RunsBy, asks_report};
 
-use crate::import::{STANDARD, factor, given, needed, number, required, text};
+use crate::import::{STANDARD, factor, given, number, required};
 use crate::opening::{
-    CsvOpening, Manner, Opening, WatchOpening, csv_opening, named, names, progress, watch_opening,
-    with_imports,
+    CsvOpening, Manner, Opening, WatchOpening, csv_opening, named, watch_opening,
 };
-use crate::{
-    Request, config_of, dialect_of, fault, files_of, line_feed, start, with, with_config, with_made,
-};
+use crate::{Request, config_of, dialect_of, fault, files_of};
 use clap::error::ErrorKind;
-use clap::{Arg, ArgAction, ArgMatches, Command, Error};
+use clap::{ArgMatches, Error};
 use rev_choices::Factor;
 use std::alloc::{AllocError, Global};
 use std::convert::AsStr;
 
 /// What a report is of, played as `open` plays it.
-#[derive(Debug, Drop)]
+#[derive(Drop)]
 pub enum Played {
     Traces(Opening),
     Logs(WatchOpening),
@@ -25,7 +22,7 @@ pub enum Played {
 }
 
 /// Other values of one setting, each of which the same trace is played with.
-#[derive(Debug, Drop)]
+#[derive(Drop)]
 pub enum WhatIf {
     /// How many pages there are.
     Pages(Vec<u32>),
@@ -40,7 +37,7 @@ pub enum WhatIf {
 }
 
 /// A report to look at.
-#[derive(Debug, Drop)]
+#[derive(Drop)]
 pub struct Reporting {
     pub played: Played,
     /// The name of the page.
@@ -51,62 +48,6 @@ pub struct Reporting {
     pub keys: Vec<String>,
     /// What else the trace is played with.
     pub what_ifs: Vec<WhatIf>,
-}
-
-fn traces<'a>(alloc: Global) -> Result<Arg<'a>, AllocError> {
-    Arg::new(alloc, "traces")
-        .value_name("TRACE")
-        .num_args(1..)
-        .action(ArgAction::Append)
-        .help("Scripts without questions, whose steps are played in order")
-        .required_unless_present("watch")?
-        .required_unless_present("csv")
-}
-
-// Another setting is played from an empty store on, which is not where starts lead.
-fn what_ifs<'a>(alloc: Global) -> Result<Arg<'a>, AllocError> {
-    names(
-        alloc,
-        "what-if",
-        "NAME=V,..",
-        "Also plays the trace with each of these values of a setting: pages, factor (as 5/4), hot, warm or temp-ttl [may be given again]",
-    )
-    .conflicts_with("start")
-}
-
-fn page<'a>(alloc: Global) -> Arg<'a> {
-    needed(alloc, "out", "FILE", "Writes the page to this file")
-}
-
-fn data<'a>(alloc: Global) -> Arg<'a> {
-    text(
-        alloc,
-        "data",
-        "PREFIX",
-        "Also writes each table and curve as CSV, to PREFIX.NAME.csv",
-    )
-}
-
-fn keys<'a>(alloc: Global) -> Arg<'a> {
-    names(
-        alloc,
-        "key",
-        "KEY",
-        "Also tells the life of a key [may be given again]",
-    )
-}
-
-/// The subcommand `report`.
-pub(crate) fn report_command<'a>(alloc: Global) -> Result<Command<'a>, AllocError> {
-    let command = Command::new(alloc, "report").about(
-        "Plays the steps of traces, and writes a page that tells where the cache loses its keys",
-    );
-    let command = with(with_config(alloc, command), line_feed(alloc));
-    let command = with(with(command, progress(alloc)), start(alloc));
-    let command = with_made(command?, traces(alloc));
-    let command = with(with(command, page(alloc)), data(alloc));
-    let command = with(command, keys(alloc));
-    with_imports(alloc, with_made(command?, what_ifs(alloc))?)
 }
 
 /// Whether the first word says `report`.
@@ -235,7 +176,7 @@ fn what_ifs_of(alloc: Global, matches: &ArgMatches<'_>) -> Result<Vec<WhatIf>, E
                     alloc,
                     ErrorKind::ValueValidation,
                     "--what-if: pages=N,.. with 1 to 4096, factor=N/D,.., hot=N,.. or warm=N,.. with 1 to 79, or temp-ttl=N,.. is wanted",
-                )?);
+                ));
             }
         }
     }
@@ -250,7 +191,7 @@ fn page_of(alloc: Global, matches: &ArgMatches<'_>) -> Result<String, Error> {
             alloc,
             ErrorKind::ValueValidation,
             "--out: a page is written to a file, and - is none",
-        )?);
+        ));
     }
     Ok(page)
 }

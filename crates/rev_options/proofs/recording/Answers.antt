@@ -1,5 +1,9 @@
-use Rattle.std.proofs.Common.{rules}
+use Rattle.std.proofs.Common.{arith}
 use Rattle.rev_options.proofs.recording.Goals as goal
 
-pub returns : goal.returns
-returns c = search rules steps 500000
+pub returns-clause-range : goal.returns-clause-range
+returns-clause-range c = (
+  c.config_of-config.ensures,
+  grind (arith, c.if-is_empty.ensures, c.in_ok-files.files.ok.0),
+  rw (← c.in_ok-files.files.ok.0, ← c.len.ensures) c.if-len-gt-MOST_FILES.false,
+)

@@ -1,0 +1,441 @@
+//! The commands, and what each takes.
+//!
+//! A table is named by one function, which does nothing else: a proof's work goes with the square of what the tables
+//! hold that its function names.
+
+use crate::MOST_FILES;
+use crate::import::MOST_LOGS;
+use crate::number::NUMBERS;
+use crate::table::{
+    CommandSpec, FLAG, HIDDEN, NAMES, NUMBER, OptionSpec, TEXT, TEXTS, with_command, with_made,
+};
+use clap::Command;
+use clap::builder::ValueParser;
+use std::alloc::{AllocError, Global};
+
+const ABOUT: &str =
+    "Replays memcached's storage commands and the steps of its segmented LRU, forwards and backwards";
+
+const AFTER: &str =
+    "A script has one command a line: memcached's own (set, get, delete, ..) and questions (:item KEY, :back, ..).\n\nExit status: 0 done, 2 command line or configuration, 3 out of memory, 4 input or output, 5 a file of steps has a line that is not a step, or what is imported is at fault, 6 the log differs.";
+
+const LINE_FEED: OptionSpec = OptionSpec {
+    name: "lf",
+    help: "LF ends a data block of a file or script as CR LF does",
+    ..FLAG
+};
+
+const START: OptionSpec = OptionSpec {
+    name: "start",
+    unit: "FILE",
+    help: "Plays the steps of a file first, of any number: the tree's root is the state after them [may be given again]",
+    ..TEXTS
+};
+
+const PROGRESS: OptionSpec = OptionSpec {
+    name: "progress",
+    ..HIDDEN
+};
+
+const JSON: OptionSpec = OptionSpec {
+    name: "json",
+    help: "Tells of each line in a line of JSON, in the place of its answer",
+    ..FLAG
+};
+
+const SCRIPT: OptionSpec = OptionSpec {
+    name: "out",
+    unit: "PREFIX",
+    help: "Writes PREFIX.script and PREFIX.options; -: the script on the standard output",
+    is_needed: true,
+    ..TEXT
+};
+
+const FACTOR: OptionSpec = OptionSpec {
+    name: "factor",
+    unit: "N/D",
+    help: "The growth factor of chunk sizes [without it: the decimals of the settings]",
+    ..TEXT
+};
+
+const STEPS: OptionSpec = OptionSpec {
+    name: "steps",
+    unit: "WHICH",
+    help: "Steps of the LRU maintainer: lean, none, or every:N lines of clients",
+    default: Some(&["lean"]),
+    ..TEXT
+};
+
+const SAMPLE: OptionSpec = OptionSpec {
+    name: "sample",
+    unit: "1/N",
+    help: "Takes one key of N, and makes pages N times smaller",
+    default: Some(&["1/1"]),
+    ..TEXT
+};
+
+// What tells of the cache.
+fn config() -> &'static [OptionSpec] {
+    &NUMBERS
+}
+
+static RUN: [OptionSpec; 4] = [
+    OptionSpec {
+        name: "heap",
+        unit: "BYTES",
+        help: "All that the run keeps lies in one heap of so many bytes: 4096 to 1073741824 [without it: no such limit]",
+        values: ValueParser::Unsigned(4096, 1073741824),
+        ..TEXT
+    },
+    LINE_FEED,
+    START,
+    JSON,
+];
+
+fn run() -> CommandSpec {
+    CommandSpec {
+        name: "run",
+        about: "Runs a script from the standard input, and answers each line",
+        options: [config(), &RUN, &[]],
+    }
+}
+
+static RECORD: [OptionSpec; 3] = [
+    LINE_FEED,
+    START,
+    OptionSpec {
+        name: "files",
+        unit: "FILE",
+        help: "Scripts without questions, each played by an actor: 1 to 8 files",
+        least: 1,
+        most: MOST_FILES,
+        is_needed: true,
+        ..NAMES
+    },
+];
+
+fn record() -> CommandSpec {
+    CommandSpec {
+        name: "record",
+        about: "Plays the scripts of files at once, each by an actor on a thread, and tells in which order their steps came",
+        options: [config(), &RECORD, &[]],
+    }
+}
+
+static WATCH: [OptionSpec; 6] = [
+    OptionSpec {
+        name: "logs",
+        unit: "LOG",
+        help: "Logs of memcached's watch, in their order: 1 to 64 files; - is the standard input",
+        least: 1,
+        most: MOST_LOGS,
+        is_needed: true,
+        ..NAMES
+    },
+    PROGRESS,
+    OptionSpec {
+        name: "settings",
+        unit: "FILE",
+        help: "The server's text of `stats settings`",
+        is_needed: true,
+        ..TEXT
+    },
+    SCRIPT,
+    OptionSpec {
+        name: "stats",
+        unit: "FILE",
+        help: "The server's text of `stats`: tells which lines the logs lack",
+        ..TEXT
+    },
+    FACTOR,
+];
+
+// Which of the events a script tells, and how.
+static WATCHED: [OptionSpec; 6] = [
+    STEPS,
+    OptionSpec {
+        name: "from",
+        unit: "SECONDS",
+        help: "The first second of the events that are asked for, by the Unix clock",
+        default: Some(&["0"]),
+        ..NUMBER
+    },
+    OptionSpec {
+        name: "to",
+        unit: "SECONDS",
+        help: "The last second",
+        default: Some(&["4294967295"]),
+        ..NUMBER
+    },
+    SAMPLE,
+    OptionSpec {
+        name: "split",
+        unit: "SECONDS",
+        help: "Writes the steps in front of this second, by the Unix clock, to PREFIX.start [without it: one script]",
+        ..NUMBER
+    },
+    OptionSpec {
+        name: "check",
+        help: "Also plays the script, and tells how many gets and evictions are as logged",
+        ..FLAG
+    },
+];
+
+fn watched() -> &'static [OptionSpec] {
+    &WATCHED
+}
+
+fn watch() -> CommandSpec {
+    CommandSpec {
+        name: "watch",
+        about: "Makes a script of logs that `watch fetchers mutations evictions sysevents deletions` sent",
+        options: [&WATCH, watched(), &[]],
+    }
+}
+
+static CSV: [OptionSpec; 5] = [
+    OptionSpec {
+        name: "traces",
+        unit: "TRACE",
+        help: "Traces with the columns timestamp, key, key size, value size, client, operation and TTL, in their order: 1 to 64 files; - is the standard input",
+        least: 1,
+        most: MOST_LOGS,
+        is_needed: true,
+        ..NAMES
+    },
+    PROGRESS,
+    SCRIPT,
+    STEPS,
+    SAMPLE,
+];
+
+fn csv() -> CommandSpec {
+    CommandSpec {
+        name: "csv",
+        about: "Makes a script of the published trace of a cache",
+        options: [&CSV, config(), &[]],
+    }
+}
+
+static STATE_OF_ITEMS: [OptionSpec; 6] = [
+    OptionSpec {
+        name: "metadump",
+        unit: "FILE",
+        help: "What `lru_crawler metadump all` sent",
+        is_needed: true,
+        ..TEXT
+    },
+    OptionSpec {
+        name: "items",
+        unit: "FILE",
+        help: "The server's text of `stats items`, just before or behind it",
+        is_needed: true,
+        ..TEXT
+    },
+    OptionSpec {
+        name: "slabs",
+        unit: "FILE",
+        help: "Its text of `stats slabs`",
+        is_needed: true,
+        ..TEXT
+    },
+    OptionSpec {
+        name: "settings",
+        unit: "FILE",
+        help: "Its text of `stats settings`",
+        is_needed: true,
+        ..TEXT
+    },
+    OptionSpec {
+        name: "out",
+        unit: "PREFIX",
+        help: "Writes PREFIX.start and PREFIX.options",
+        is_needed: true,
+        ..TEXT
+    },
+    FACTOR,
+];
+
+fn state() -> CommandSpec {
+    CommandSpec {
+        name: "state",
+        about: "Makes a start of the items that a running memcached holds",
+        options: [&STATE_OF_ITEMS, &[], &[]],
+    }
+}
+
+// By these `open` and `report` play what an import makes.
+static PLAYED: [OptionSpec; 6] = [
+    OptionSpec {
+        name: "watch",
+        unit: "LOG",
+        help: "Plays what `import watch` makes of a log of memcached's watch; the settings tell of the cache [may be given again]",
+        needs: Some(&["settings"]),
+        excludes: Some(&[
+            "traces",
+            "csv",
+            "sample",
+            "temp-ttl",
+            "page-size",
+            "pages",
+            "num",
+            "den",
+            "bump",
+            "hash-power",
+            "now",
+        ]),
+        ..TEXTS
+    },
+    OptionSpec {
+        name: "settings",
+        unit: "FILE",
+        help: "With --watch: the server's text of `stats settings`",
+        needs: Some(&["watch"]),
+        ..TEXT
+    },
+    OptionSpec {
+        name: "factor",
+        unit: "N/D",
+        help: "With --watch: the growth factor of chunk sizes [without it: the decimals of the settings]",
+        needs: Some(&["watch"]),
+        ..TEXT
+    },
+    OptionSpec {
+        name: "csv",
+        unit: "TRACE",
+        help: "Plays what `import csv` makes of a published trace of a cache [may be given again]",
+        excludes: Some(&["traces", "settings", "factor"]),
+        ..TEXTS
+    },
+    OptionSpec {
+        name: "sample",
+        unit: "1/N",
+        help: "With --csv: takes one key of N, and makes pages N times smaller",
+        needs: Some(&["csv"]),
+        ..TEXT
+    },
+    OptionSpec {
+        name: "steps",
+        unit: "WHICH",
+        help: "With --watch or --csv: steps of the LRU maintainer: lean, none, or every:N lines of clients [without it: lean]",
+        excludes: Some(&["traces"]),
+        ..TEXT
+    },
+];
+
+fn played() -> &'static [OptionSpec] {
+    &PLAYED
+}
+
+static OPEN: [OptionSpec; 6] = [
+    LINE_FEED,
+    OptionSpec {
+        name: "prompt",
+        ..HIDDEN
+    },
+    PROGRESS,
+    START,
+    OptionSpec {
+        name: "traces",
+        unit: "TRACE",
+        help: "Scripts without questions, whose steps are played in order, each as a node [without one: the tree is empty]",
+        least: 0,
+        most: usize::MAX,
+        ..NAMES
+    },
+    JSON,
+];
+
+fn open() -> CommandSpec {
+    CommandSpec {
+        name: "open",
+        about: "Plays the steps of traces, and answers the lines of the standard input at any node of theirs",
+        options: [config(), &OPEN, played()],
+    }
+}
+
+static REPORT: [OptionSpec; 8] = [
+    LINE_FEED,
+    PROGRESS,
+    START,
+    OptionSpec {
+        name: "traces",
+        unit: "TRACE",
+        help: "Scripts without questions, whose steps are played in order",
+        least: 1,
+        most: usize::MAX,
+        stands_for: Some(&["watch", "csv"]),
+        ..NAMES
+    },
+    OptionSpec {
+        name: "out",
+        unit: "FILE",
+        help: "Writes the page to this file",
+        is_needed: true,
+        ..TEXT
+    },
+    OptionSpec {
+        name: "data",
+        unit: "PREFIX",
+        help: "Also writes each table and curve as CSV, to PREFIX.NAME.csv",
+        ..TEXT
+    },
+    OptionSpec {
+        name: "key",
+        unit: "KEY",
+        help: "Also tells the life of a key [may be given again]",
+        ..TEXTS
+    },
+    // Another setting is played from an empty store on, which is not where starts lead.
+    OptionSpec {
+        name: "what-if",
+        unit: "NAME=V,..",
+        help: "Also plays the trace with each of these values of a setting: pages, factor (as 5/4), hot, warm or temp-ttl [may be given again]",
+        excludes: Some(&["start"]),
+        ..TEXTS
+    },
+];
+
+fn report() -> CommandSpec {
+    CommandSpec {
+        name: "report",
+        about: "Plays the steps of traces, and writes a page that tells where the cache loses its keys",
+        options: [config(), &REPORT, played()],
+    }
+}
+
+fn import_command<'a>(alloc: Global) -> Result<Command<'a>, AllocError> {
+    let import = Command::new(alloc, "import")
+        .about("Makes a script of what a running memcached tells of itself")
+        .subcommand_required(true)
+        .arg_required_else_help(true);
+    let import = with_command(alloc, Ok(import), watch());
+    let import = with_command(alloc, import, csv());
+    with_command(alloc, import, state())
+}
+
+fn with_import<'a>(
+    alloc: Global,
+    command: Result<Command<'a>, AllocError>,
+) -> Result<Command<'a>, AllocError> {
+    with_made(command?, import_command(alloc))
+}
+
+fn named<'a>(alloc: Global) -> Result<Command<'a>, AllocError> {
+    Command::new(alloc, "lrudb")
+        .about(ABOUT)
+        .after_help(AFTER)
+        .no_binary_name(true)
+        .subcommand_required(true)
+        .arg_required_else_help(true)
+        .bin_name("lrudb")
+}
+
+/// The command line of `lrudb`.
+pub fn whole_command<'a>(alloc: Global) -> Result<Command<'a>, AllocError> {
+    let command = with_command(alloc, named(alloc), run());
+    let command = with_command(alloc, command, record());
+    let command = with_import(alloc, command);
+    let command = with_command(alloc, command, open());
+    with_command(alloc, command, report())
+}
