@@ -4,5 +4,3 @@
 pub mod fault;
 pub mod reader;
 pub mod row;
-#[cfg(test)]
-mod tests;

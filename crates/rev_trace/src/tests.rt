@@ -1,3 +1,0 @@
-//! Rows of traces by hand.
-
-mod rows;
