@@ -1,9 +1,12 @@
 -- What is told of an import that went well, from its parts.
-use Rattle.std.proofs.Common.{◌≡◌, ◌∙◌, ap, ℕ, List, ◌++◌, Option, string_bytes}
+use Rattle.std.proofs.Common.{◌≡◌, ◌∙◌, ap, ℕ, List, ◌++◌, Option, Result, Ok, Err, IsOk, OnOk, string_bytes, subst}
+use Rattle.std.proofs.lemmas.Bool.{false≢true}
 use Rattle.rev_import.specs.declared.figures.Figures.{Figures}
 use Rattle.rev_intake.specs.declared.counts.LineCounts.{LineCounts}
 use Rattle.rev_options.specs.declared.import.WatchImport.{WatchImport}
-use Rattle.rev_import_commands.specs.Importing.{TellsLogs, counted, run_notes}
+use Rattle.rev_import_commands.specs.Importing.{Reports, TellsLogs, counted, run_notes}
+use Rattle.rev_messages.specs.Telling.{Told}
+use Rattle.rev_messages.specs.declared.stop.Stop.{Stop}
 use Rattle.rev_watch.specs.declared.settings.LogStats.{LogStats}
 
 pub tells_logs : (asked : WatchImport) (stats : Option LogStats) (front now third after : List ℕ)
@@ -21,3 +24,10 @@ tells_logs asked stats front now third after p q r = record {
   script = r.1;
   are = r.2 ∙ ap (λ l. run_notes (string_bytes asked.out) asked.split l r.0 r.1) (q.1 ∙ ap (λ l. l ++ q.0) p.2);
 }
+
+-- an import that went well, of which the notes were told
+pub reports : (P : List ℕ → Type 0) (told tells : Option (List ℕ)) (before after : ℕ) (done : Result (Unit {0}) Stop) (notes shown : List ℕ)
+    → OnOk done (P notes) → shown ≡ notes → IsOk done × Told told tells before after shown → Reports told tells before after P
+reports P told tells before after (Ok t) notes shown are same ends =
+    record { notes = notes; notes_are = are; noted = subst (λ l. Told told tells before after l) same ends.1 }
+reports P told tells before after (Err stop) notes shown are same ends = absurd (false≢true ends.0)

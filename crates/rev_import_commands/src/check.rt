@@ -6,6 +6,7 @@ use crate::imported::stop_in;
 use indexmap::IndexMap;
 use rev_classes::{Config, fault_of};
 use rev_explain::departures;
+use rev_explain::events::Departure;
 use rev_intake::fault::IntakeFault;
 use rev_intake::feed::LogFeed;
 use rev_intake::intake::{Intake, PIECE};
@@ -246,6 +247,24 @@ impl Comparison {
         }
         Ok(())
     }
+
+    // The replay stored an item, if there is a key.
+    fn store_if(&mut self, key: Option<&Key<Global>>) -> Result<(), AllocError> {
+        match key {
+            Some(key) => self.store(Teller::Replay, key.bytes()),
+            None => Ok(()),
+        }
+    }
+
+    // The replay evicted those keys that left for that.
+    fn evict_all(&mut self, left: &[Departure<'_, Global>]) -> Result<(), AllocError> {
+        for departure in left {
+            if departure.cause == Cause::Evicted {
+                self.evict(Teller::Replay, departure.key.bytes())?;
+            }
+        }
+        Ok(())
+    }
 }
 
 /// What an event of a log says that a replay can be compared with.
@@ -319,25 +338,31 @@ impl Check {
         self.comparison.tally
     }
 
+    // Notes what the step that was played last evicted.
+    fn note_evictions(&mut self) -> Result<(), AllocError> {
+        let departures = departures(&*self.session, None)?;
+        self.comparison.evict_all(departures.as_slice())
+    }
+
+    // Notes what the step that was played last stored and evicted. The answer is how it ended.
+    fn note_step(&mut self) -> Result<Option<Outcome>, AllocError> {
+        let Some((_, step, outcome, _)) = self.session.trail(1) else {
+            return Ok(None);
+        };
+        self.comparison.store_if(step.stored_key(outcome))?;
+        self.note_evictions()?;
+        Ok(Some(outcome))
+    }
+
     // Plays a step, and notes what it tells. Of the tree only its node is kept.
     fn play(&mut self, step: Step<Global>, said: &Said) -> Result<(), AllocError> {
         self.steps_left = self.steps_left.saturating_sub(1);
         self.session.restart();
         play_quietly(&mut *self.session, step)?;
-        let Some((_, step, outcome, _)) = self.session.trail(1) else {
-            return Ok(());
-        };
-        if let Some(key) = step.stored_key(outcome) {
-            self.comparison.store(Teller::Replay, key.bytes())?;
-        }
-        for departure in departures(&*self.session, None)? {
-            if departure.cause == Cause::Evicted {
-                self.comparison
-                    .evict(Teller::Replay, departure.key.bytes())?;
+        if let Some(outcome) = self.note_step()? {
+            if let Said::LookUp { found } = said {
+                self.comparison.tally.answer(*found, outcome);
             }
-        }
-        if let Said::LookUp { found } = said {
-            self.comparison.tally.answer(*found, outcome);
         }
         Ok(())
     }
@@ -384,17 +409,26 @@ impl Check {
         }
     }
 
-    // Plays a piece of the script: the lines of these events, and what stands behind them.
-    fn replay(&mut self, piece: &[u8], events: &[Noted]) -> Result<(), AllocError> {
-        let mut lines = Lines::of(self.alloc, FromRead::new(piece), Dialect::CrLf);
+    // Plays the lines of these events, and what stands behind them.
+    fn play_events<S: Source>(
+        &mut self,
+        lines: &mut Lines<S, Global>,
+        events: &[Noted],
+    ) -> Result<(), AllocError> {
         for event in events {
             if self.steps_left == 0 {
                 return Ok(());
             }
             self.note(&event.said)?;
-            self.play_lines(&mut lines, event.lines, &event.said)?;
+            self.play_lines(lines, event.lines, &event.said)?;
         }
-        self.play_lines(&mut lines, u64::MAX, &Said::Nothing)
+        self.play_lines(lines, u64::MAX, &Said::Nothing)
+    }
+
+    // Plays a piece of the script, which is made of these events.
+    fn replay(&mut self, piece: &[u8], events: &[Noted]) -> Result<(), AllocError> {
+        let mut lines = Lines::of(self.alloc, FromRead::new(piece), Dialect::CrLf);
+        self.play_events(&mut lines, events)
     }
 
     /// Adds how many gets and evictions are alike, a line each.
@@ -440,6 +474,33 @@ fn first_of(alloc: Global, line: Option<&LogLine<Global>>) -> Result<First, Allo
     })
 }
 
+// Puts an event behind the others, if its lines were written.
+fn add_event(events: &mut Vec<Noted>, is_written: bool, event: Noted) -> Result<(), IntakeFault> {
+    if !is_written {
+        return Ok(());
+    }
+    match events.push(event) {
+        Ok(()) => Ok(()),
+        Err(_) => Err(IntakeFault::Memory),
+    }
+}
+
+// The same, if a little more was taken in. The answer is whether there may be more.
+fn add_fed(
+    events: &mut Vec<Noted>,
+    fed: Result<bool, IntakeFault>,
+    is_written: bool,
+    event: Noted,
+) -> Result<bool, IntakeFault> {
+    match fed {
+        Err(fault) => Err(fault),
+        Ok(more) => match add_event(events, is_written, event) {
+            Ok(()) => Ok(more),
+            Err(fault) => Err(fault),
+        },
+    }
+}
+
 // Takes in a little more. The event that became lines by it goes behind the others.
 fn feed<F: Read + Drop>(
     alloc: Global,
@@ -449,13 +510,47 @@ fn feed<F: Read + Drop>(
 ) -> Result<bool, IntakeFault> {
     let First { gid, said } = first_of(alloc, logs.first())?;
     let before = logs.intake().figures().lines;
-    let more = logs.feed(piece)?;
+    let fed = logs.feed(piece);
     let lines = logs.intake().figures().lines.saturating_sub(before);
     let is_written = gid.is_some() && gid_of(logs.first()) != gid;
-    if is_written && events.push(Noted { said, lines }).is_err() {
-        return Err(IntakeFault::Memory);
+    add_fed(events, fed, is_written, Noted { said, lines })
+}
+
+// Plays a piece of the script, which is made of these events, and sends it.
+fn send_piece<K: Sink>(
+    check: &mut Check,
+    sink: &mut K,
+    piece: &mut Vec<u8>,
+    events: &mut Vec<Noted>,
+) -> Result<(), IntakeFault> {
+    check.replay(piece.as_slice(), events.as_slice())?;
+    write_all(sink, piece.as_slice())?;
+    piece.clear();
+    events.clear();
+    Ok(())
+}
+
+// Plays the script as it is made, and sends it, piece by piece.
+fn send_pieces<F: Read + Drop, K: Sink>(
+    alloc: Global,
+    logs: &mut LogFeed<'_, F>,
+    check: &mut Check,
+    sink: &mut K,
+    piece: &mut Vec<u8>,
+    events: &mut Vec<Noted>,
+) -> Result<(), IntakeFault> {
+    for _ in 0..u64::MAX {
+        let more = feed(alloc, logs, piece, events)?;
+        // The script's first lines belong to no event.
+        let is_begun = !piece.is_empty() && events.is_empty();
+        if !more || piece.len() >= PIECE || is_begun {
+            send_piece(check, sink, piece, events)?;
+        }
+        if !more {
+            break;
+        }
     }
-    Ok(more)
+    Ok(())
 }
 
 // Plays the script as it is made, and sends it.
@@ -467,21 +562,20 @@ fn send_checked<F: Read + Drop, K: Sink>(
 ) -> Result<(), IntakeFault> {
     let mut piece = Vec::new(alloc);
     let mut events = Vec::new(alloc);
-    for _ in 0..u64::MAX {
-        let more = feed(alloc, logs, &mut piece, &mut events)?;
-        // The script's first lines belong to no event.
-        let is_begun = !piece.is_empty() && events.is_empty();
-        if !more || piece.len() >= PIECE || is_begun {
-            check.replay(piece.as_slice(), events.as_slice())?;
-            write_all(sink, piece.as_slice())?;
-            piece.clear();
-            events.clear();
-        }
-        if !more {
-            break;
-        }
+    send_pieces(alloc, logs, check, sink, &mut piece, &mut events)
+}
+
+// What is told of a script that was made so, where its making ended in the log of this place.
+fn made_or_stopped(
+    alloc: Global,
+    made: Result<(), IntakeFault>,
+    names: &[String],
+    place: usize,
+) -> Result<(), Stop> {
+    match made {
+        Ok(()) => Ok(()),
+        Err(fault) => Err(stop_in(alloc, fault, names, place)),
     }
-    Ok(())
 }
 
 impl<'a, F: Read + Drop> Making for CheckedLogs<'a, F> {
@@ -494,9 +588,7 @@ impl<'a, F: Read + Drop> Making for CheckedLogs<'a, F> {
         } = self;
         let alloc = *logs.allocator();
         let mut logs = LogFeed::new(alloc, intake, logs);
-        match send_checked(alloc, &mut logs, check, sink) {
-            Ok(()) => Ok(()),
-            Err(fault) => Err(stop_in(alloc, fault, names, logs.place())),
-        }
+        let sent = send_checked(alloc, &mut logs, check, sink);
+        made_or_stopped(alloc, sent, names, logs.place())
     }
 }

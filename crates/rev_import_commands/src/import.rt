@@ -7,6 +7,7 @@ ghost use Rattle.rev_messages.specs.declared.stop.Stop.{Stop};
 ghost use Rattle.rev_import_commands.specs.Importing.{Reports, TellsLogs, counted, run_notes, sampled};
 
 use crate::check::{Check, CheckedLogs};
+use crate::ending::end_import;
 use either::Either;
 use rev_choices::{Factor, LEAST_PAGE, Sample};
 use rev_classes::{ClassTable, Config};
@@ -22,32 +23,30 @@ use rev_intake::row_report::put_thin;
 use rev_intake::told::{put_run_behind, put_sample, put_split};
 use rev_intake::words::put_options;
 use rev_messages::Stop;
-use rev_messages::ends::ended;
 use rev_messages::progress::{Progress, ToldFile};
-use rev_messages::telling::tell_bytes;
 use rev_options::{STANDARD, WatchImport};
 use rev_output::{Sink, ToWrite};
 use rev_watch::settings::{LogStats, Settings, StatFault, read_log_stats, read_settings};
 use std::alloc::{AllocError, Global};
 use std::io::{Read, Write};
+use std::mem::ManuallyDrop;
 use std::rt::{Clock, Files};
 use std::{fs, io};
 
-// The name of a start in front of a script, also as it is called until it is whole.
+// The name of a file that is written, also as it is called until it is whole.
 #[derive(Drop)]
-struct StartNames {
-    start: String,
-    start_part: String,
+pub(crate) struct FileName {
+    pub(crate) whole: String,
+    pub(crate) part: String,
 }
 
-// The names of the files that are written, each also as it is called until it is whole.
+// The names of the files that are written.
 #[derive(Drop)]
 pub(crate) struct Names {
-    pub(crate) script: String,
-    pub(crate) script_part: String,
-    pub(crate) options: String,
-    pub(crate) options_part: String,
-    start: Option<StartNames>,
+    pub(crate) script: FileName,
+    pub(crate) options: FileName,
+    // of the start in front of the script
+    start: Option<FileName>,
 }
 
 /// A text and an end.
@@ -57,38 +56,50 @@ pub fn with_end(alloc: Global, prefix: &str, end: &str) -> Result<String, AllocE
     Ok(name)
 }
 
+impl FileName {
+    // Its name is a prefix and an end.
+    fn new(alloc: Global, prefix: &str, end: &str) -> Result<FileName, AllocError> {
+        let whole = with_end(alloc, prefix, end)?;
+        match with_end(alloc, whole.as_str(), ".part") {
+            Ok(part) => Ok(FileName { whole, part }),
+            Err(refused) => Err(refused),
+        }
+    }
+}
+
 impl Names {
+    // Those of a prefix, where the first one has this end.
+    fn with(alloc: Global, prefix: &str, end: &str) -> Result<Names, AllocError> {
+        let script = FileName::new(alloc, prefix, end)?;
+        match FileName::new(alloc, prefix, ".options") {
+            Ok(options) => Ok(Names {
+                script,
+                options,
+                start: None,
+            }),
+            Err(refused) => Err(refused),
+        }
+    }
+
     pub(crate) fn of(alloc: Global, prefix: &str) -> Result<Names, AllocError> {
-        Ok(Names {
-            script: with_end(alloc, prefix, ".script")?,
-            script_part: with_end(alloc, prefix, ".script.part")?,
-            options: with_end(alloc, prefix, ".options")?,
-            options_part: with_end(alloc, prefix, ".options.part")?,
-            start: None,
-        })
+        Names::with(alloc, prefix, ".script")
     }
 
     // The same with a start in front of the script.
     fn with_start(alloc: Global, prefix: &str) -> Result<Names, AllocError> {
-        let start = StartNames {
-            start: with_end(alloc, prefix, ".start")?,
-            start_part: with_end(alloc, prefix, ".start.part")?,
-        };
-        Ok(Names {
-            start: Some(start),
-            ..Names::of(alloc, prefix)?
-        })
+        let start = FileName::new(alloc, prefix, ".start")?;
+        match Names::of(alloc, prefix) {
+            Ok(names) => Ok(Names {
+                start: Some(start),
+                ..names
+            }),
+            Err(refused) => Err(refused),
+        }
     }
 
     /// The same for a start in the place of a script.
     pub(crate) fn of_start(alloc: Global, prefix: &str) -> Result<Names, AllocError> {
-        Ok(Names {
-            script: with_end(alloc, prefix, ".start")?,
-            script_part: with_end(alloc, prefix, ".start.part")?,
-            options: with_end(alloc, prefix, ".options")?,
-            options_part: with_end(alloc, prefix, ".options.part")?,
-            start: None,
-        })
+        Names::with(alloc, prefix, ".start")
     }
 }
 
@@ -200,6 +211,30 @@ pub(crate) fn opened<R: Files, I: Read + Drop>(
     }
 }
 
+// Adds a log behind the others.
+fn add_log<F: Drop>(logs: &mut Vec<F>, log: F) -> Result<(), Stop> {
+    match logs.push(log) {
+        Ok(()) => Ok(()),
+        Err(_) => Err(Stop::Memory),
+    }
+}
+
+// Opens all logs, in order, behind those that are there.
+fn open_logs<'p, R: Files, I: Read + Drop, C, W>(
+    rt: &R,
+    alloc: Global,
+    names: &[String],
+    reader: &mut Option<I>,
+    logs: &mut Vec<ToldFile<'p, Either<R::File, I>, C, W>>,
+    progress: &'p Progress<C, W>,
+) -> Result<(), Stop> {
+    for name in names {
+        let log = opened(rt, alloc, name.as_str(), reader)?;
+        add_log(logs, ToldFile::new(log, progress))?;
+    }
+    Ok(())
+}
+
 /// All logs, opened in order, whose progress is told as they are read. The first that cannot be opened ends it.
 pub fn all_opened<'p, R: Files, I: Read + Drop, C, W>(
     rt: &R,
@@ -210,13 +245,12 @@ pub fn all_opened<'p, R: Files, I: Read + Drop, C, W>(
 ) -> Result<Vec<ToldFile<'p, Either<R::File, I>, C, W>>, Stop> {
     let mut reader = Some(reader);
     let mut logs = Vec::new(alloc);
-    for name in names {
-        let log = opened(rt, alloc, name.as_str(), &mut reader)?;
-        if logs.push(ToldFile::new(log, progress)).is_err() {
-            return Err(Stop::Memory);
-        }
+    let done = open_logs(rt, alloc, names, &mut reader, &mut logs, progress);
+    drop(reader);
+    match done {
+        Ok(()) => Ok(logs),
+        Err(stop) => Err(stop),
     }
-    Ok(logs)
 }
 
 /// Why an import ends, at a log of this name.
@@ -275,20 +309,11 @@ impl<'a, F: Read + Drop> Making for Logs<'a, F> {
     }
 }
 
-// Makes the script in a file of this name.
-fn make_file<R: Files, M: Making + Drop>(
-    rt: &R,
-    alloc: Global,
-    target: &str,
-    making: M,
-) -> Result<(), Stop> {
-    match fs::create(rt, target) {
-        Err(_) => Err(cannot_write(alloc, target)),
-        Ok(file) => match making.make(&mut ToWrite::new(file)) {
-            Ok(()) => Ok(()),
-            Err(Stop::CannotWrite) => Err(cannot_write(alloc, target)),
-            Err(stop) => Err(stop),
-        },
+// What is told of a script that was made so, where what could not be written is this file.
+fn made_in(alloc: Global, made: Result<(), Stop>, target: &str) -> Result<(), Stop> {
+    match made {
+        Err(Stop::CannotWrite) => Err(cannot_write(alloc, target)),
+        made => made,
     }
 }
 
@@ -300,6 +325,33 @@ fn created<R: Files>(rt: &R, alloc: Global, target: &str) -> Result<R::File, Sto
     }
 }
 
+// Makes the script in a file of this name.
+fn make_file<R: Files, M: Making + Drop>(
+    rt: &R,
+    alloc: Global,
+    target: &str,
+    making: M,
+) -> Result<(), Stop> {
+    match created(rt, alloc, target) {
+        Err(stop) => Err(stop),
+        Ok(file) => made_in(alloc, making.make(&mut ToWrite::new(file)), target),
+    }
+}
+
+// The files of a start and of what stands behind it, emptied.
+fn both_created<R: Files>(
+    rt: &R,
+    alloc: Global,
+    start: &str,
+    script: &str,
+) -> Result<StartAndScript<R::File>, Stop> {
+    let first = created(rt, alloc, start)?;
+    match created(rt, alloc, script) {
+        Ok(second) => Ok(StartAndScript::new(first, second)),
+        Err(stop) => Err(stop),
+    }
+}
+
 // Makes the script in two files, of which one has its start.
 fn make_two_files<R: Files, M: Making + Drop>(
     rt: &R,
@@ -308,14 +360,14 @@ fn make_two_files<R: Files, M: Making + Drop>(
     script: &str,
     making: M,
 ) -> Result<(), Stop> {
-    let first = created(rt, alloc, start)?;
-    let mut sink = StartAndScript::new(first, created(rt, alloc, script)?);
-    match making.make(&mut sink) {
-        Err(Stop::CannotWrite) => {
+    match both_created(rt, alloc, start, script) {
+        Err(stop) => Err(stop),
+        Ok(files) => {
+            let mut sink = files;
+            let made = making.make(&mut sink);
             let target = if sink.is_behind() { script } else { start };
-            Err(cannot_write(alloc, target))
+            made_in(alloc, made, target)
         }
-        made => made,
     }
 }
 
@@ -326,10 +378,10 @@ fn make_script_files<R: Files, M: Making + Drop>(
     files: &Names,
     making: M,
 ) -> Result<(), Stop> {
-    let script = files.script_part.as_str();
+    let script = files.script.part.as_str();
     match &files.start {
         None => make_file(rt, alloc, script, making),
-        Some(names) => make_two_files(rt, alloc, names.start_part.as_str(), script, making),
+        Some(names) => make_two_files(rt, alloc, names.part.as_str(), script, making),
     }
 }
 
@@ -341,18 +393,17 @@ pub fn rename<R: Files>(rt: &R, alloc: Global, part: &str, name: &str) -> Result
     }
 }
 
+fn rename_file<R: Files>(rt: &R, alloc: Global, file: &FileName) -> Result<(), Stop> {
+    rename(rt, alloc, file.part.as_str(), file.whole.as_str())
+}
+
 // Gives both files their names, or the first one's is taken away again.
 pub(crate) fn rename_both<R: Files>(rt: &R, alloc: Global, files: &Names) -> Result<(), Stop> {
-    rename(rt, alloc, files.script_part.as_str(), files.script.as_str())?;
-    match rename(
-        rt,
-        alloc,
-        files.options_part.as_str(),
-        files.options.as_str(),
-    ) {
+    rename_file(rt, alloc, &files.script)?;
+    match rename_file(rt, alloc, &files.options) {
         Ok(()) => Ok(()),
         Err(stop) => {
-            let _ = fs::remove_file(rt, files.script.as_str());
+            let _ = fs::remove_file(rt, files.script.whole.as_str());
             Err(stop)
         }
     }
@@ -360,15 +411,15 @@ pub(crate) fn rename_both<R: Files>(rt: &R, alloc: Global, files: &Names) -> Res
 
 // Gives all files their names, or those that have theirs are taken away again.
 fn rename_all<R: Files>(rt: &R, alloc: Global, files: &Names) -> Result<(), Stop> {
-    let names = match &files.start {
+    let start = match &files.start {
         None => return rename_both(rt, alloc, files),
-        Some(names) => names,
+        Some(start) => start,
     };
-    rename(rt, alloc, names.start_part.as_str(), names.start.as_str())?;
+    rename_file(rt, alloc, start)?;
     match rename_both(rt, alloc, files) {
         Ok(()) => Ok(()),
         Err(stop) => {
-            let _ = fs::remove_file(rt, names.start.as_str());
+            let _ = fs::remove_file(rt, start.whole.as_str());
             Err(stop)
         }
     }
@@ -377,11 +428,11 @@ fn rename_all<R: Files>(rt: &R, alloc: Global, files: &Names) -> Result<(), Stop
 // Takes away what is there of files that are not whole.
 fn remove_parts<R: Files>(rt: &R, files: &Names) {
     // A file that is not there cannot be removed.
-    if let Some(names) = &files.start {
-        let _ = fs::remove_file(rt, names.start_part.as_str());
+    if let Some(start) = &files.start {
+        let _ = fs::remove_file(rt, start.part.as_str());
     }
-    let _ = fs::remove_file(rt, files.script_part.as_str());
-    let _ = fs::remove_file(rt, files.options_part.as_str());
+    let _ = fs::remove_file(rt, files.script.part.as_str());
+    let _ = fs::remove_file(rt, files.options.part.as_str());
 }
 
 // Writes script and options to files, each under another name until all are whole.
@@ -393,8 +444,8 @@ fn try_files<R: Files, M: Making + Drop>(
     making: M,
 ) -> Result<(), Stop> {
     make_script_files(rt, alloc, files, making)?;
-    match fs::write(rt, files.options_part.as_str(), words) {
-        Err(_) => Err(cannot_write(alloc, files.options_part.as_str())),
+    match fs::write(rt, files.options.part.as_str(), words) {
+        Err(_) => Err(cannot_write(alloc, files.options.part.as_str())),
         Ok(()) => rename_all(rt, alloc, files),
     }
 }
@@ -499,6 +550,35 @@ fn check_of(alloc: Global, is_asked: bool, config: &Config) -> Result<Option<Che
     }
 }
 
+// What logs are taken in by, and the replay beside it, where it is asked for.
+#[derive(Drop)]
+struct Means {
+    intake: Intake<Global>,
+    check: Option<Check>,
+}
+
+// Both together, if the intake was opened.
+fn together(check: Option<Check>, intake: Result<Intake<Global>, Stop>) -> Result<Means, Stop> {
+    match intake {
+        Ok(intake) => Ok(Means { intake, check }),
+        Err(stop) => {
+            drop(check);
+            Err(stop)
+        }
+    }
+}
+
+// What is asked for, for a store with this setup.
+fn means_of(alloc: Global, setup: Setup, asked: &WatchImport) -> Result<Means, Stop> {
+    match check_of(alloc, asked.check, &setup.config) {
+        Ok(check) => together(check, intake_of(alloc, setup, asked)),
+        Err(stop) => {
+            drop(setup);
+            Err(stop)
+        }
+    }
+}
+
 // Makes the script of these logs where it is asked for.
 fn send_logs<R: Files + AllocGlobal, F: Read + Drop, O: Write>(
     rt: &R,
@@ -539,8 +619,7 @@ fn import_logs<R: Files + AllocGlobal, I: Read + Drop, O: Write, C: Clock, W: Si
     rt: &R,
     asked: &WatchImport,
     words: &[u8],
-    intake: &mut Intake<Global>,
-    check: &mut Option<Check>,
+    means: &mut Means,
     reader: I,
     writer: &mut O,
     progress: &Progress<C, W>,
@@ -548,6 +627,7 @@ fn import_logs<R: Files + AllocGlobal, I: Read + Drop, O: Write, C: Clock, W: Si
     let names = asked.logs.as_slice();
     progress.expect(rt, names);
     let logs = all_opened(rt, rt.alloc(), names, reader, progress)?;
+    let Means { intake, check } = means;
     send_logs(rt, asked, words, intake, check, logs, writer)
 }
 
@@ -654,8 +734,36 @@ fn setup_asked<R: Files + AllocGlobal>(
     notes: &mut Vec<u8>,
 ) -> Result<Setup, Stop> {
     let setup = setup_of(rt, asked.settings.as_str(), asked.factor)?;
-    put_unfollowed(notes, &setup.unfollowed)?;
-    sampled(setup, asked.sample, notes)
+    match put_unfollowed(notes, &setup.unfollowed) {
+        Ok(()) => sampled(setup, asked.sample, notes),
+        Err(_) => {
+            drop(setup);
+            Err(Stop::Memory)
+        }
+    }
+}
+
+// Makes the script that is asked for by these means, and adds what is told of it to the notes.
+fn import_by<R: Files + AllocGlobal, I: Read + Drop, O: Write, C: Clock, W: Sink>(
+    rt: &R,
+    asked: &WatchImport,
+    words: &[u8],
+    means: &mut Means,
+    setup_lines: u64,
+    stats: Option<LogStats>,
+    reader: I,
+    writer: &mut O,
+    notes: &mut Vec<u8>,
+    progress: &Progress<C, W>,
+) -> Result<(), Stop>
+    ensures { OnOk result (TellsLogs asked.now notes.new.items) }
+{
+    import_logs(rt, asked, words, means, reader, writer, progress)?;
+    let Means { intake, check } = means;
+    match add_report(notes, asked, words, intake, check, setup_lines, stats) {
+        Ok(()) => Ok(()),
+        Err(_) => Err(Stop::Memory),
+    }
 }
 
 // Makes the script that is asked for, of a store with this setup, and adds what is told of it to the notes.
@@ -673,21 +781,62 @@ fn import_into<R: Files + AllocGlobal, I: Read + Drop, O: Write, C: Clock, W: Si
     ensures { OnOk result (TellsLogs asked.now notes.new.items) }
 {
     let setup_lines = setup_lines(&setup);
-    let mut check = check_of(rt.alloc(), asked.check, &setup.config)?;
-    let mut intake = intake_of(rt.alloc(), setup, asked)?;
-    import_logs(
-        rt,
-        asked,
-        words,
-        &mut intake,
-        &mut check,
-        reader,
-        writer,
-        progress,
-    )?;
-    match add_report(notes, asked, words, &intake, &check, setup_lines, stats) {
-        Ok(()) => Ok(()),
-        Err(_) => Err(Stop::Memory),
+    match means_of(rt.alloc(), setup, asked) {
+        Err(stop) => Err(stop),
+        Ok(means) => {
+            // The program ends behind it, and all memory goes back at once.
+            let mut means = ManuallyDrop::new(means);
+            import_by(
+                rt,
+                asked,
+                words,
+                &mut *means,
+                setup_lines,
+                stats,
+                reader,
+                writer,
+                notes,
+                progress,
+            )
+        }
+    }
+}
+
+// The words of the options for a run.
+fn words_of(alloc: Global, config: &Config) -> Result<Vec<u8>, AllocError> {
+    let mut words = Vec::new(alloc);
+    match put_options(&mut words, config) {
+        Ok(()) => Ok(words),
+        Err(refused) => Err(refused),
+    }
+}
+
+// What is read before any log is.
+#[derive(Drop)]
+struct Prepared {
+    stats: Option<LogStats>,
+    setup: Setup,
+    // the words of the options for a run
+    words: Vec<u8>,
+}
+
+fn prepare<R: Files + AllocGlobal>(
+    rt: &R,
+    asked: &WatchImport,
+    notes: &mut Vec<u8>,
+) -> Result<Prepared, Stop> {
+    let stats = stats_if(rt, &asked.stats)?;
+    let setup = setup_asked(rt, asked, notes)?;
+    match words_of(rt.alloc(), &setup.config) {
+        Ok(words) => Ok(Prepared {
+            stats,
+            setup,
+            words,
+        }),
+        Err(_) => {
+            drop(setup);
+            Err(Stop::Memory)
+        }
     }
 }
 
@@ -702,21 +851,27 @@ fn import<R: Files + AllocGlobal, I: Read + Drop, O: Write, C: Clock, W: Sink>(
 ) -> Result<(), Stop>
     ensures { OnOk result (TellsLogs asked.now notes.new.items) }
 {
-    let stats = stats_if(rt, &asked.stats)?;
-    let setup = setup_asked(rt, asked, notes)?;
-    let mut words = Vec::new(rt.alloc());
-    put_options(&mut words, &setup.config)?;
-    import_into(
-        rt,
-        asked,
-        setup,
-        words.as_slice(),
-        stats,
-        reader,
-        writer,
-        notes,
-        progress,
-    )
+    match prepare(rt, asked, notes) {
+        Err(stop) => Err(stop),
+        Ok(prepared) => {
+            let Prepared {
+                stats,
+                setup,
+                words,
+            } = prepared;
+            import_into(
+                rt,
+                asked,
+                setup,
+                words.as_slice(),
+                stats,
+                reader,
+                writer,
+                notes,
+                progress,
+            )
+        }
+    }
 }
 
 /// Makes the script that is asked for. Answers the exit status, 0, 3, 4 or 5. At status 0 what the import tells of
@@ -736,11 +891,5 @@ pub fn import_watch<R: Files + AllocGlobal, I: Read + Drop, O: Write, E: Sink, C
     let mut notes = Vec::new(rt.alloc());
     let done = import(rt, &asked, reader, writer, &mut notes, progress);
     progress.end();
-    match done {
-        Err(stop) => ended(Err(stop), errors),
-        Ok(()) => {
-            tell_bytes(errors, notes.as_slice());
-            0
-        }
-    }
+    end_import(done, notes.as_slice(), errors)
 }

@@ -3,6 +3,7 @@
 #![tactic(auto)]
 
 pub mod check;
+mod ending;
 pub mod import;
 pub mod imported;
 pub mod state;

@@ -14,9 +14,9 @@ use rev_output::{Sink, write_all};
 use rev_snapshot::counts::{Counts, Unfit};
 use rev_snapshot::dump::{Item, read_items};
 use rev_snapshot::fault::SnapshotFault;
-use rev_snapshot::order::{arrange, place};
+use rev_snapshot::order::{Placed, arrange, place};
 use rev_snapshot::report::{Figures, put_report, put_unfit};
-use rev_snapshot::rounds::queues_of;
+use rev_snapshot::rounds::{Queues, queues_of};
 use rev_snapshot::start::put_start;
 use std::alloc::{AllocError, Global};
 use std::fs;
@@ -118,6 +118,61 @@ fn setup_of<R: Files + AllocGlobal>(rt: &R, asked: &StateImport) -> Result<Setup
     }
 }
 
+// Writes the texts of a start of these items, which stand in their order.
+fn put_texts(
+    made: &mut Made,
+    alloc: Global,
+    prefix: &str,
+    setup: &Setup,
+    counts: &Counts,
+    queues: &Queues<Global>,
+    items: &[Placed<Global>],
+) -> Result<(), AllocError> {
+    put_options(&mut made.options, &setup.config)?;
+    put_start(&mut made.start, alloc, setup, counts, items)?;
+    put_unfollowed(&mut made.notes, &setup.unfollowed)?;
+    let figures = Figures::of(&setup.classes, counts, queues, items);
+    put_report(&mut made.notes, &figures, prefix.as_bytes())
+}
+
+// The items in the order of a start.
+fn ordered(
+    alloc: Global,
+    items: Vec<Item<Global>>,
+    queues: &Queues<Global>,
+) -> Result<Vec<Placed<Global>>, AllocError> {
+    let mut placed = place(alloc, items, queues.of_items.as_slice())?;
+    match arrange(&mut placed) {
+        Ok(()) => Ok(placed),
+        Err(refused) => Err(refused),
+    }
+}
+
+// Writes the texts of a start of these items, whose queues are known or were not found.
+fn put_items(
+    made: &mut Made,
+    alloc: Global,
+    prefix: &str,
+    setup: &Setup,
+    counts: &Counts,
+    queues: Result<Queues<Global>, AllocError>,
+    items: Vec<Item<Global>>,
+) -> Result<(), AllocError> {
+    let queues = queues?;
+    match ordered(alloc, items, &queues) {
+        Err(refused) => Err(refused),
+        Ok(items) => put_texts(
+            made,
+            alloc,
+            prefix,
+            setup,
+            counts,
+            &queues,
+            items.as_slice(),
+        ),
+    }
+}
+
 // Makes the texts of a start of these items.
 fn make(
     alloc: Global,
@@ -127,15 +182,11 @@ fn make(
     items: Vec<Item<Global>>,
 ) -> Result<Made, AllocError> {
     let mut made = Made::new(alloc);
-    let queues = queues_of(alloc, items.as_slice(), counts)?;
-    let mut placed = place(alloc, items, queues.of_items.as_slice())?;
-    arrange(&mut placed)?;
-    put_options(&mut made.options, &setup.config)?;
-    put_start(&mut made.start, alloc, setup, counts, placed.as_slice())?;
-    put_unfollowed(&mut made.notes, &setup.unfollowed)?;
-    let figures = Figures::of(&setup.classes, counts, &queues, placed.as_slice());
-    put_report(&mut made.notes, &figures, prefix.as_bytes())?;
-    Ok(made)
+    let queues = queues_of(alloc, items.as_slice(), counts);
+    match put_items(&mut made, alloc, prefix, setup, counts, queues, items) {
+        Ok(()) => Ok(made),
+        Err(refused) => Err(refused),
+    }
 }
 
 // Writes a text to a file.
@@ -148,11 +199,11 @@ fn write_file<R: Files>(rt: &R, alloc: Global, name: &str, text: &[u8]) -> Resul
 
 // Writes both files, each under another name until both are whole.
 fn try_files<R: Files>(rt: &R, alloc: Global, files: &Names, made: &Made) -> Result<(), Stop> {
-    write_file(rt, alloc, files.script_part.as_str(), made.start.as_slice())?;
+    write_file(rt, alloc, files.script.part.as_str(), made.start.as_slice())?;
     write_file(
         rt,
         alloc,
-        files.options_part.as_str(),
+        files.options.part.as_str(),
         made.options.as_slice(),
     )?;
     rename_both(rt, alloc, files)
@@ -164,8 +215,8 @@ fn to_files<R: Files>(rt: &R, alloc: Global, files: &Names, made: &Made) -> Resu
         Ok(()) => Ok(()),
         Err(stop) => {
             // A file that is not there cannot be removed.
-            let _ = fs::remove_file(rt, files.script_part.as_str());
-            let _ = fs::remove_file(rt, files.options_part.as_str());
+            let _ = fs::remove_file(rt, files.script.part.as_str());
+            let _ = fs::remove_file(rt, files.options.part.as_str());
             Err(stop)
         }
     }

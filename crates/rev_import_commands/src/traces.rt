@@ -4,6 +4,7 @@ ghost use Rattle.rev_messages.specs.Ends.{IsStatus, StopsBy};
 ghost use Rattle.rev_messages.specs.declared.stop.Stop.{Stop};
 ghost use Rattle.rev_import_commands.specs.Importing.{Reports, TellsRows};
 
+use crate::ending::end_import;
 use crate::import::{Making, all_opened, copied, name_in, send};
 use rev_choices::{LEAST_PAGE, Rhythm, Sample};
 use rev_classes::{ClassTable, Config, fault_of};
@@ -15,9 +16,7 @@ use rev_intake::rows::RowIntake;
 use rev_intake::traces::make_row_script;
 use rev_intake::words::put_all_options;
 use rev_messages::Stop;
-use rev_messages::ends::ended;
 use rev_messages::progress::Progress;
-use rev_messages::telling::tell_bytes;
 use rev_options::{CsvImport, STANDARD};
 use rev_output::Sink;
 use std::alloc::{AllocError, Global};
@@ -184,11 +183,5 @@ pub fn import_csv<R: Files + AllocGlobal, I: Read + Drop, O: Write, E: Sink, C: 
     let mut notes = Vec::new(rt.alloc());
     let done = import(rt, &asked, reader, writer, &mut notes, progress);
     progress.end();
-    match done {
-        Err(stop) => ended(Err(stop), errors),
-        Ok(()) => {
-            tell_bytes(errors, notes.as_slice());
-            0
-        }
-    }
+    end_import(done, notes.as_slice(), errors)
 }
