@@ -1,5 +1,5 @@
 -- Lines that are held in a run and in a tree: what they are together.
-use Rattle.std.proofs.Common.{◌≡◌, ℕ, zero, suc, ◌+◌, ◌-◌, ◌<◌, ◌≤◌, nat_lt, Bool, true, false, inl, inr, ◌⊎◌, Option, Some, None, option_to_list, IfSome, IfNone, Result, Ok, Err, IfOk, OnOk, OnErr, MatchResult, List, [], ◌∷◌, ◌++◌, length, get_or, set, refl, sym, ◌∙◌, ap, subst, arith}
+use Rattle.std.proofs.Common.{◌≡◌, ℕ, zero, suc, ◌+◌, ◌-◌, ◌<◌, ◌≤◌, nat_le, nat_lt, Bool, true, false, inl, inr, ◌⊎◌, Option, Some, None, option_to_list, IfSome, IfNone, Result, Ok, Err, IfOk, OnOk, OnErr, MatchResult, List, [], ◌∷◌, ◌++◌, length, get_or, set, refl, sym, ◌∙◌, ap, subst, arith}
 use Rattle.std.proofs.lemmas.Bool.Decides.{eqb_tells, leb_tells, nat_tests}
 use Rattle.std.proofs.lemmas.Cmp.{ranked}
 use Rattle.std.specs.BTreeMap.{insert_entry}
@@ -8,7 +8,8 @@ use Rattle.std.specs.List.Sorted.{IsNonDecreasingBy, IsBinarySearchResult, IsSea
 use Rattle.std.specs.Map.{keys_of}
 use Rattle.std.specs.Ordering.{nat_cmp, ordering_index, is_lt}
 use Rattle.rev_watch.specs.Held.{together, AreAbove, IsRun, IsNear, is_first}
-use Rattle.rev_watch.specs.Window.{is_held}
+use Rattle.rev_watch.specs.Window.{is_held, is_late, put_of}
+use Rattle.rev_watch.specs.declared.window.Put.TheVariants.{Given}
 
 rank : (x y : ℕ) → (x < y) ⊎ ((x ≡ y) ⊎ (y < x))
 rank x y = elim (leb_tells (suc x) y) [
@@ -328,6 +329,17 @@ module _ {T : Type 0} where
         ]
       ])
       ∙ strays-below strays last k (λ j d s. h (suc j) d (omega (arith, s))) l
+
+  -- ---- more lines than may be are held
+
+  -- then the first one is given out
+  pub first-given : (held : List (ℕ × T)) (last : Option ℕ) (number : ℕ) (line : T) (all : List (ℕ × T)) (size lowest : ℕ) (given : T) (rest : List (ℕ × T)) →
+      is_late number last ≡ false → is_held number held ≡ false → all ≡ insert held number line → size ≡ length all → 65536 < size → all ≡ (lowest, given) ∷ rest →
+      (record { held = rest; last = Some lowest }, Given lowest given) ≡ put_of record { held = held; last = last } number line
+  unfolding put_of
+  first-given held last number line all size lowest given rest late had goes is more first =
+      let many : nat_le (length all) 65536 ≡ false = grind (arith, nat_tests) in
+      rw (late, had, ← goes, many, first) refl
 
   -- ---- a number is looked for in the run
 

@@ -11,3 +11,4 @@ mod KeyLemmas
 pub mod NumberLemmas
 pub mod UsualLemmas
 pub mod EventLemmas
+mod LineLemmas

@@ -1,20 +1,22 @@
 -- What is at hand of a log, as bytes are read, moved and handed out.
-use Rattle.std.proofs.Common.{◌≡◌, ℕ, ◌+◌, ◌-◌, ◌<◌, ◌≤◌, false, Option, None, Some, List, [], ◌∷◌, ◌++◌, length, take, drop, slice_range, refl, sym, ◌∙◌, ap, subst, arith, append_assoc, append-nil, length-take}
+use Rattle.std.proofs.Common.{◌≡◌, ℕ, ◌+◌, ◌-◌, ◌^◌, ◌<◌, ◌≤◌, min, false, Option, None, Some, List, [], ◌∷◌, ◌++◌, length, take, drop, slice_range, refl, sym, ◌∙◌, ap, subst, arith, append_assoc, append-nil, length-take}
 use Rattle.std.specs.Io.KnownBytes.{Consumes, Keeps, prepend_known}
 use Rattle.std.proofs.lemmas.List.{take-take}
 use Rattle.rev_script.proofs.Known.{range-parted, range-length, parted-known}
 use Rattle.rev_script.proofs.Pieces.{feed_some, feed_none}
 use Rattle.memchr.specs.Find.{IsFirstByte, is_byte}
-use Rattle.std.proofs.Common.{Err, inr}
+use Rattle.std.proofs.Common.{Ok, Err, inr}
 use Rattle.std.proofs.lemmas.List.{take-append-drop}
 use Rattle.rev_script.specs.Script.{has_lf}
 use Rattle.rev_script.specs.Source.{Told}
-use Rattle.rev_watch.specs.Reader.{in_piece, next_number, source_in, Grew, IsAhead, IsTooLong, IsText, IsEnd, IsFault, log_fault}
+use Rattle.rev_watch.specs.Reader.{in_piece, next_number, source_in, Took, Grew, Kept, IsAhead, IsTooLong, IsText, IsEnd, IsNext, IsFault, log_fault}
 use Rattle.rev_watch.specs.Line.{line_of}
 use Rattle.rev_watch.specs.declared.fault.LineFault.{LineFault}
 use Rattle.rev_watch.specs.declared.fault.LineFault.TheVariants as line_faults
 use Rattle.rev_watch.specs.declared.fault.LogFault.TheVariants as faults
+use Rattle.rev_watch.specs.declared.event.Line.{Line}
 use Rattle.rev_watch.specs.declared.reader.LogReader.{LogReader}
+use Rattle.rev_watch.specs.declared.reader.NextLine.TheVariants.{Whole}
 
 pub Keeps-prepend : (a b : Option (List ℕ)) (p : List ℕ) → Keeps a b → Keeps (prepend_known p a) (prepend_known p b)
 Keeps-prepend None b p k = tt
@@ -98,3 +100,30 @@ pub told-fault : {S A : Type 0} (told : S → Told) (r : LogReader S) (end : ℕ
     ((fault ≡ line_faults.Memory → ⊥) → line_of {A = A} text ≡ Err fault) → IsFault A told r (log_fault (next_number r) fault)
 told-fault told r end text line_faults.Memory found is bad = tt
 told-fault {S} {A} told r end text fault found is bad = bad-line {S = S} {A = A} told r end text fault found is (bad (λ e. cc))
+
+-- ---- the next line
+
+Keeps-Consumes : (a b c : Option (List ℕ)) (t : List ℕ) → Keeps a b → Consumes b c t → Consumes a c t
+Keeps-Consumes None b c t k d = tt
+Keeps-Consumes (Some xs) None c t k d = absurd k
+Keeps-Consumes (Some xs) (Some ys) None t k d = absurd d
+Keeps-Consumes (Some xs) (Some ys) (Some zs) t k d = sym k ∙ d
+
+kept-took : {S : Type 0} (told : S → Told) (old mid new : LogReader S) (t : List ℕ) → Kept told old mid → Took told mid new t (next_number mid) → Took told old new t (next_number old)
+kept-took told old mid new t k h = record {
+  bytes = Keeps-Consumes _ _ _ t k.bytes h.bytes;
+  lines = h.lines ∙ ap (λ n. min (n + 1) (2 ^ 64 - 1)) k.lines;
+  same = h.same ∙ k.same;
+}
+
+-- a line and its LF are handed out
+pub whole-next : {S A : Type 0} (told : S → Told) (old mid new : LogReader S) (end : ℕ) (text : List ℕ) (line : Line A) → Kept told old mid → IsEnd told mid (Some end) →
+    text ≡ take end (in_piece mid) → line_of {A = A} text ≡ Ok line → Took told mid new (take (end + 1) (in_piece mid)) (next_number mid) → IsNext told old new (Some (Whole line))
+whole-next told old mid new end text line kept found is says took =
+    let size : length (take end (in_piece mid)) ≤ 4096 = omega (arith, length-take end (in_piece mid), found.1) in
+    let ends : take (end + 1) (in_piece mid) ≡ text ++ 10 ∷ [] = found.3 ∙ ap (λ t. t ++ 10 ∷ []) (sym is) in (
+      text,
+      subst IsText (sym is) (found.2, size),
+      says,
+      kept-took told old mid new (text ++ 10 ∷ []) kept (subst (λ t. Took told mid new t (next_number mid)) ends took),
+    )

@@ -6,4 +6,4 @@ use Rattle.rev_watch.proofs.fields.optional_in.Given as goal
 
 abbrev pub invariant-loop-word : goal.invariant-loop-word
 invariant-loop-word l =
-    values (name_of l.field) (map (λ w. w.now) (take l.word-index l.fields)) ≡ option_to_list (option_copied l.found)
+    values (name_of l.fn.field) (map (λ w. w.now) (take l.word-index l.fields)) ≡ option_to_list (option_copied l.found)

@@ -1,4 +1,5 @@
-use Rattle.std.proofs.Common.{arith, ◌∙◌, ap, inl, inr, Some}
+use Rattle.std.proofs.Common.{arith, ◌∙◌, ap, sym, refl, inl, inr, Some}
+use Rattle.std.proofs.lemmas.Bool.{eqb-false}
 use Rattle.rev_script.proofs.Numbers.{number-bad, number-over, number-ok, digits-more, is_digit-no, is_digit-yes, value-more}
 use Rattle.rev_watch.proofs.NumberLemmas.{one_more, fits}
 use Rattle.rev_watch.proofs.number.number.Goals as goal
@@ -11,6 +12,15 @@ returns-then-b-lt48-clause-value c =
       | then-b-lt48-via-then-b-lt48 w ↦ is_digit-no _ (inl w.if-b-lt48.true)
       | then-b-lt48-via-else-b-lt48+then-b-gt57 w ↦ is_digit-no _ (inr w.if-b-gt57.true)
     ])
+
+pub loop-b-init : goal.loop-b-init
+loop-b-init c = (
+  refl,
+  refl,
+  omega arith,
+  omega (arith, eqb-false _ _ (sym c.is_empty.ensures ∙ c.if-is_empty.false)),
+  c.if-word-gt-SAFE_DIGITS.false,
+)
 
 pub loop-b-preserved : goal.loop-b-preserved
 loop-b-preserved c =
