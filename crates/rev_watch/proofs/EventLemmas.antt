@@ -1,5 +1,5 @@
 -- A line whose fields stand in the order in which the server writes them: its time, its number and its event.
-use Rattle.std.proofs.Common.{◌≡◌, ℕ, ℤ, ◌==◌, true, false, Some, List, [], ◌∷◌, ◌++◌, refl, sym, ◌∙◌, ap, inl, inr, arith, Ok, Err, codes}
+use Rattle.std.proofs.Common.{◌≡◌, ℕ, ℤ, ◌-◌, ◌==◌, true, false, Some, List, [], ◌∷◌, ◌++◌, refl, sym, ◌∙◌, ap, inl, inr, arith, Ok, Err, codes}
 use Rattle.std.proofs.lemmas.Bool.{ne_eqb}
 use Rattle.std.proofs.lemmas.Bool.Decides.{eqb_tells}
 use Rattle.rev_script.specs.Number.{number, has, until, past}
@@ -16,8 +16,8 @@ use Rattle.rev_watch.proofs.UsualLemmas.{behind_is}
 
 -- ---- the event
 
-pub looked_up : {A : Type 0} (text key outcome : List ℕ) (class : ℕ) (connection : ℤ) (size : ℕ) (k : List ℕ) → IsLookUp text key outcome class connection size → key_of key ≡ Ok k →
-    event_by_names {A = A} kinds.LookUp text ≡ Ok (events.LookUp k (look_up_outcome outcome) class connection size)
+pub looked_up : {A : Type 0} (text key outcome : List ℕ) (class : ℕ) (connection : ℤ) (size : ℕ) (k : List ℕ × ℕ) → IsLookUp text key outcome class connection size → key_of key ≡ Ok k →
+    event_by_names {A = A} kinds.LookUp text ≡ Ok (events.LookUp k.0 (look_up_outcome outcome) class connection (size - k.1))
 unfolding look_up key_in
 looked_up text key outcome class connection size k u e = rw (u.all, u.outcome_is, u.class_is, u.connection_is, u.size_is, u.key_is, e) refl
 
@@ -26,8 +26,8 @@ pub not_looked_up : {A : Type 0} (text key outcome : List ℕ) (class : ℕ) (co
 unfolding look_up key_in
 not_looked_up text key outcome class connection size f u e = rw (u.all, u.outcome_is, u.class_is, u.connection_is, u.size_is, u.key_is, e) refl
 
-pub stored : {A : Type 0} (text key outcome command : List ℕ) (ttl class : ℕ) (connection : ℤ) (size : ℕ) (k : List ℕ) → IsStore text key outcome command ttl class connection size → key_of key ≡ Ok k →
-    event_by_names {A = A} kinds.Store text ≡ Ok (events.Store k (store_command command) (store_outcome outcome) ttl class connection size)
+pub stored : {A : Type 0} (text key outcome command : List ℕ) (ttl class : ℕ) (connection : ℤ) (size : ℕ) (k : List ℕ × ℕ) → IsStore text key outcome command ttl class connection size → key_of key ≡ Ok k →
+    event_by_names {A = A} kinds.Store text ≡ Ok (events.Store k.0 (store_command command) (store_outcome outcome) ttl class connection (size - k.1))
 unfolding store key_in
 stored text key outcome command ttl class connection size k u e = rw (u.all, u.outcome_is, u.command_is, u.ttl_is, u.class_is, u.connection_is, u.size_is, u.key_is, e) refl
 

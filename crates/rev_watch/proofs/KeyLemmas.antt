@@ -1,11 +1,13 @@
 -- What is decoded of a key, step by step.
-use Rattle.std.proofs.Common.{◌≡◌, ℕ, ◌+◌, ◌*◌, ◌<◌, ◌≤◌, ◌&&◌, nat_lt, true, false, List, [], ◌∷◌, ◌++◌, length, drop, get_or, refl, sym, ◌∙◌, ap, subst, arith, append-nil, append_assoc, length-append}
+use Rattle.std.proofs.Common.{◌≡◌, ℕ, ◌+◌, ◌*◌, ◌<◌, ◌≤◌, ◌&&◌, nat_lt, true, false, List, [], ◌∷◌, ◌++◌, length, drop, get_or, refl, sym, ◌∙◌, ap, subst, arith, Err, append-nil, append_assoc, length-append}
 use Rattle.std.proofs.lemmas.Bool.{and_from, lt-ltb, ne_eqb}
 use Rattle.std.proofs.lemmas.Bool.Decides.{nat_tests}
 use Rattle.std.specs.Char.{digit_value}
 use Rattle.percent_encoding.specs.Percent.{percent_decode}
 use Rattle.percent_encoding.proofs.PercentLemmas.{percent_decode-nil, percent_decode_escape, percent_decode_not_percent, length-percent_decode}
-use Rattle.rev_watch.specs.Keys.{IsEscape, are_digits, is_encoded}
+use Rattle.rev_items.specs.Keys.{is_key}
+use Rattle.rev_watch.specs.Keys.{IsEscape, are_digits, is_encoded, key_of}
+use Rattle.rev_watch.specs.declared.fault.LineFault.TheVariants.{BadEscape, BadKey}
 
 -- no two digits stand in front
 pub no_digits : (text : List ℕ) → (2 ≤ length text → digit_value (get_or text 0 0) < 16 → digit_value (get_or text 1 0) < 16 → ⊥) → are_digits text ≡ false
@@ -79,3 +81,23 @@ more_decoded text bytes rest behind b d r n =
 pub not_encoded : (text bytes rest behind : List ℕ) (b : ℕ) → IsDecoded text bytes rest → rest ≡ b ∷ behind → b ≡ 37 → are_digits behind ≡ false → is_encoded text ≡ false
 not_encoded text bytes rest behind b d r s n =
     d.encoded ∙ ap is_encoded (r ∙ ap (λ x. x ∷ behind) s) ∙ escape behind ∙ ap (λ x. x && is_encoded behind) n
+
+-- ---- the key
+
+not_key : (bytes : List ℕ) → 250 < length bytes → is_key bytes ≡ false
+not_key bytes long = grind (arith, nat_tests)
+
+-- what stands for more bytes than a key has is none
+pub key_too_long : (text : List ℕ) → is_encoded text ≡ true → 250 < length (percent_decode text) → key_of text ≡ Err BadKey
+unfolding key_of
+key_too_long text e long =
+    let fewer = (length-percent_decode text).0 in
+    rw (e, not_key (percent_decode text) long, not_key text (omega (arith, fewer, long))) refl
+
+pub no_escape : (text : List ℕ) → is_encoded text ≡ false → key_of text ≡ Err BadEscape
+unfolding key_of
+no_escape text e = rw e refl
+
+-- what a text stands for is no longer
+pub decoded_is_shorter : (text bytes : List ℕ) → bytes ≡ percent_decode text → length bytes ≤ length text
+decoded_is_shorter text bytes e = omega (arith, (length-percent_decode text).0, ap length e)

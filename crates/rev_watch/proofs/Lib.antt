@@ -12,3 +12,4 @@ pub mod NumberLemmas
 pub mod UsualLemmas
 pub mod EventLemmas
 mod LineLemmas
+pub mod Spelling

@@ -8,7 +8,7 @@ use Rattle.rev_watch.specs.Fields.{optional_in, value_in, number_in, signed_in, 
 use Rattle.rev_watch.specs.Keys.{key_of}
 use Rattle.rev_watch.specs.Kinds.{known_kind}
 use Rattle.rev_watch.specs.Line.{look_up, store, deletion, eviction, page_move, crawl_end, connection_closed, unknown, event_of, timestamp, timestamp_of, gid_of, log_line, line_in, line_of}
-use Rattle.rev_watch.specs.Settings.{stat_value, stat_in, number_stat, thousandths_stat, switch_stat, settings}
+use Rattle.rev_watch.specs.Settings.{stat_value, stat_in, number_stat, thousandths_stat, switch_stat, replacement, settings}
 use Rattle.rev_watch.specs.Words.{value_behind}
 use Rattle.rev_watch.specs.declared.event.Event.TheVariants as events
 use Rattle.rev_watch.specs.declared.event.Line.TheVariants as lines
@@ -30,6 +30,19 @@ pub eviction_line : {A : Type 0} → line_of {A = A} (codes "ts=1795744551.94633
     ≡ Ok (lines.Log record { time = record { seconds = 1795744551; microseconds = 94633 }; gid = 10972; event = events.Eviction (codes "page:2135") true (Some 293) (pos 7) 23 12501 })
 unfolding look_up store deletion eviction page_move crawl_end connection_closed unknown key_in key_of percent_decode value_in optional_in number_in number signed_in signed optional_signed_in look_up_outcome store_command store_outcome fetched time_left queue known_kind event_of fields_of value_behind timestamp timestamp_of gid_of log_line line_in
 eviction_line = refl
+
+-- keys that no text command can name, as the binary protocol stores them, stand as they are spelled: `user 42`, of two
+-- bytes more
+pub spelled_line : {A : Type 0} → line_of {A = A} (codes "ts=1795986744.621619 gid=3 type=item_store key=user%2042 status=stored cmd=set ttl=3600 clsid=1 cfd=12 size=10")
+    ≡ Ok (lines.Log record { time = record { seconds = 1795986744; microseconds = 621619 }; gid = 3; event = events.Store (codes "user%2042") commands.Set stores.Stored 3600 1 (pos 12) 8 })
+unfolding look_up store deletion eviction page_move crawl_end connection_closed unknown key_in key_of percent_decode value_in optional_in number_in number signed_in signed optional_signed_in look_up_outcome store_command store_outcome fetched time_left queue known_kind event_of fields_of value_behind timestamp timestamp_of gid_of log_line line_in
+spelled_line = refl
+
+-- a counter whose data are fewer than that has none
+pub spelled_counter_line : {A : Type 0} → line_of {A = A} (codes "ts=1.2 gid=3 type=eviction key=cnt%201 fetch=no ttl=-1 la=7 clsid=1 size=1")
+    ≡ Ok (lines.Log record { time = record { seconds = 1; microseconds = 2 }; gid = 3; event = events.Eviction (codes "cnt%201") false None (pos 7) 1 0 })
+unfolding look_up store deletion eviction page_move crawl_end connection_closed unknown key_in key_of percent_decode value_in optional_in number_in number signed_in signed optional_signed_in look_up_outcome store_command store_outcome fetched time_left queue known_kind event_of fields_of value_behind timestamp timestamp_of gid_of log_line line_in
+spelled_counter_line = refl
 
 -- an item without a time to live; the line ends with CR LF
 pub lasting_line : {A : Type 0} → line_of {A = A} (codes "ts=1.2 gid=3 type=eviction key=a fetch=no ttl=-1 la=7 clsid=23 size=1" ++ 13 ∷ [])
@@ -81,6 +94,19 @@ pub settings_text : settings (
     before (codes "STAT temporary_ttl 61") (
     before (codes "END") (
     []))))))))))))))
-    ≡ Ok record { max_bytes = 8388608; growth_factor = 1250; chunk_size = 48; item_size_max = 1048576; slab_chunk_max = 524288; hot_share = 20; warm_share = 40; hot_factor = 200; warm_factor = 2000; temp_lru = false; temporary_ttl = 61 }
-unfolding settings stat_value stat_in number_stat thousandths_stat switch_stat number factor value_behind
+    ≡ Ok record { max_bytes = 8388608; growth_factor = 1250; chunk_size = 48; item_size_max = 1048576; slab_chunk_max = 524288; hot_share = 20; warm_share = 40; hot_factor = 200; warm_factor = 2000; temp_lru = false; temporary_ttl = 61; replacement = record { evictions = true; lru_maintainer = true; lru_segmented = true; ext_compact_under = 0; ext_drop_under = 0 } }
+unfolding settings replacement stat_value stat_in number_stat thousandths_stat switch_stat number factor value_behind
 settings_text = refl
+
+-- the same lines of a server with `-M -o no_lru_maintainer,ext_path=file:512m`, of which none is usual
+pub replacement_text : replacement (
+    before (codes "STAT evictions off") (
+    before (codes "STAT lru_maintainer_thread no") (
+    before (codes "STAT lru_segmented no") (
+    before (codes "STAT ext_compact_under 2") (
+    before (codes "STAT ext_drop_under 2") (
+    before (codes "END") (
+    [])))))))
+    ≡ Ok record { evictions = false; lru_maintainer = false; lru_segmented = false; ext_compact_under = 2; ext_drop_under = 2 }
+unfolding replacement stat_value stat_in number_stat switch_stat number value_behind
+replacement_text = refl

@@ -119,8 +119,8 @@ queue w =
 abbrev pub word_in : {T : Type 0} → (List ℕ → Result T LineFault) → Field → List (List ℕ) → Result T LineFault
 word_in f field ws = and_then (value_in field ws) f
 
--- the key, decoded
-unfoldable pub key_in : List (List ℕ) → Result (List ℕ) LineFault
+-- the key, and by how many bytes it is longer than the server's
+unfoldable pub key_in : List (List ℕ) → Result (List ℕ × ℕ) LineFault
 key_in ws = word_in key_of fields.Key ws
 
 -- the words of the text behind an event's kind: at most 32

@@ -9,4 +9,5 @@ pub mod Reader
 pub mod Window
 pub mod Held
 pub mod Settings
+pub mod Obstacles
 pub mod Usual

@@ -2,7 +2,7 @@
 -- their names.
 -- Rule of memcached: the lines of `watch` (protocol.txt).
 -- Rule of this project: which fault is told of a line that is none.
-use Rattle.std.specs.Prelude.{ℕ, if◌then◌else◌, List, Option, None, Some, Result, Ok, Err}
+use Rattle.std.specs.Prelude.{ℕ, ◌-◌, if◌then◌else◌, List, Option, None, Some, Result, Ok, Err}
 use Rattle.std.specs.Option.{ok_or}
 use Rattle.std.specs.Io.BufRead.{strip_last}
 use Rattle.rev_items.specs.Keys.{is_key}
@@ -23,7 +23,8 @@ use Rattle.rev_watch.specs.declared.fault.Field.TheVariants as fields
 use Rattle.rev_watch.specs.declared.fault.LineFault.{LineFault}
 use Rattle.rev_watch.specs.declared.fault.LineFault.TheVariants.{Missing, BadValue}
 
--- ---- the event of each kind, by its fields
+-- ---- the event of each kind, by its fields. Where a key stands as the log spells it, it has more bytes than on the
+-- ---- server. Then the data are as many bytes fewer, but not below 0: so key and data take what they took there
 
 -- a key was looked up
 unfoldable pub look_up : {A : Type 0} → List (List ℕ) → Result (Event A) LineFault
@@ -32,8 +33,8 @@ look_up ws =
     and_then (number_in 4294967295 fields.Clsid ws) (λ class.
     and_then (signed_in fields.Cfd ws) (λ connection.
     and_then (number_in 4294967295 fields.Size ws) (λ size.
-    and_then (key_in ws) (λ key.
-    Ok (events.LookUp key (look_up_outcome outcome) class connection size))))))
+    and_then (key_in ws) (λ named.
+    Ok (events.LookUp named.0 (look_up_outcome outcome) class connection (size - named.1)))))))
 
 -- a storage command, whatever became of it
 unfoldable pub store : {A : Type 0} → List (List ℕ) → Result (Event A) LineFault
@@ -44,15 +45,15 @@ store ws =
     and_then (number_in 4294967295 fields.Clsid ws) (λ class.
     and_then (signed_in fields.Cfd ws) (λ connection.
     and_then (number_in 4294967295 fields.Size ws) (λ size.
-    and_then (key_in ws) (λ key.
-    Ok (events.Store key (store_command command) (store_outcome outcome) ttl class connection size))))))))
+    and_then (key_in ws) (λ named.
+    Ok (events.Store named.0 (store_command command) (store_outcome outcome) ttl class connection (size - named.1)))))))))
 
 -- an item was deleted
 unfoldable pub deletion : {A : Type 0} → List (List ℕ) → Result (Event A) LineFault
 deletion ws =
     and_then (optional_signed_in fields.Cfd ws) (λ connection.
-    and_then (key_in ws) (λ key.
-    Ok (events.Deletion key connection)))
+    and_then (key_in ws) (λ named.
+    Ok (events.Deletion named.0 connection)))
 
 -- an item was evicted
 unfoldable pub eviction : {A : Type 0} → List (List ℕ) → Result (Event A) LineFault
@@ -62,8 +63,8 @@ eviction ws =
     and_then (signed_in fields.La ws) (λ last_access.
     and_then (number_in 4294967295 fields.Clsid ws) (λ class.
     and_then (number_in 4294967295 fields.Size ws) (λ size.
-    and_then (key_in ws) (λ key.
-    Ok (events.Eviction key was_fetched ttl last_access class size)))))))
+    and_then (key_in ws) (λ named.
+    Ok (events.Eviction named.0 was_fetched ttl last_access class (size - named.1))))))))
 
 -- a page goes to another class
 unfoldable pub page_move : {A : Type 0} → List (List ℕ) → Result (Event A) LineFault

@@ -10,9 +10,10 @@ use Rattle.rev_script.specs.Number.{number, factor}
 use Rattle.rev_watch.specs.Fields.{and_then}
 use Rattle.rev_watch.specs.Words.{value_behind}
 use Rattle.rev_watch.specs.declared.settings.LogStats.{LogStats}
+use Rattle.rev_watch.specs.declared.settings.Replacement.{Replacement}
 use Rattle.rev_watch.specs.declared.settings.Settings.{Settings}
 use Rattle.rev_watch.specs.declared.settings.Stat.{Stat}
-use Rattle.rev_watch.specs.declared.settings.Stat.TheVariants.{MaxBytes, GrowthFactor, ChunkSize, ItemSizeMax, SlabChunkMax, HotLruPct, WarmLruPct, HotMaxFactor, WarmMaxFactor, TempLru, TemporaryTtl, LogWorkerDropped, LogWatcherSkipped}
+use Rattle.rev_watch.specs.declared.settings.Stat.TheVariants.{MaxBytes, GrowthFactor, ChunkSize, ItemSizeMax, SlabChunkMax, HotLruPct, WarmLruPct, HotMaxFactor, WarmMaxFactor, TempLru, TemporaryTtl, Evictions, LruMaintainerThread, LruSegmented, ExtCompactUnder, ExtDropUnder, LogWorkerDropped, LogWatcherSkipped}
 use Rattle.rev_watch.specs.declared.settings.StatFault.{StatFault}
 use Rattle.rev_watch.specs.declared.settings.StatFault.TheVariants.{Missing, Twice, BadValue}
 
@@ -29,6 +30,11 @@ stat_name HotMaxFactor = codes "hot_max_factor"
 stat_name WarmMaxFactor = codes "warm_max_factor"
 stat_name TempLru = codes "temp_lru"
 stat_name TemporaryTtl = codes "temporary_ttl"
+stat_name Evictions = codes "evictions"
+stat_name LruMaintainerThread = codes "lru_maintainer_thread"
+stat_name LruSegmented = codes "lru_segmented"
+stat_name ExtCompactUnder = codes "ext_compact_under"
+stat_name ExtDropUnder = codes "ext_drop_under"
 stat_name LogWorkerDropped = codes "log_worker_dropped"
 stat_name LogWatcherSkipped = codes "log_watcher_skipped"
 
@@ -64,16 +70,42 @@ number_stat limit stat text = and_then (stat_in stat text) (λ v. ok_or (number 
 unfoldable pub thousandths_stat : Stat → List ℕ → Result ℕ StatFault
 thousandths_stat stat text = and_then (stat_in stat text) (λ v. ok_or (factor v) (BadValue stat))
 
--- a switch: yes or no
-abbrev pub switch : Stat → List ℕ → Result Bool StatFault
-switch stat v =
-    if bytes_eq v (codes "yes") then Ok true
-    else (if bytes_eq v (codes "no") then Ok false
+-- a switch: one of two words
+abbrev pub switch : List ℕ → List ℕ → Stat → List ℕ → Result Bool StatFault
+switch on off stat v =
+    if bytes_eq v on then Ok true
+    else (if bytes_eq v off then Ok false
     else Err (BadValue stat))
 
--- the switch of this name
-unfoldable pub switch_stat : Stat → List ℕ → Result Bool StatFault
-switch_stat stat text = and_then (stat_in stat text) (switch stat)
+-- the switch of this name, with these two words
+unfoldable pub switch_stat : List ℕ → List ℕ → Stat → List ℕ → Result Bool StatFault
+switch_stat on off stat text = and_then (stat_in stat text) (switch on off stat)
+
+-- a switch that is yes or no
+abbrev pub yes_stat : Stat → List ℕ → Result Bool StatFault
+yes_stat stat text = switch_stat (codes "yes") (codes "no") stat text
+
+-- a value that is as usual where its line is missing
+abbrev pub or_usual : {T : Type 0} → T → Result T StatFault → Result T StatFault
+or_usual usual (Ok value) = Ok value
+or_usual usual (Err (Missing stat)) = Ok usual
+or_usual usual (Err fault) = Err fault
+
+-- how a server makes room: by what not all servers tell
+unfoldable pub replacement : List ℕ → Result Replacement StatFault
+replacement text =
+    and_then (or_usual true (switch_stat (codes "on") (codes "off") Evictions text)) (λ evictions.
+    and_then (or_usual true (yes_stat LruMaintainerThread text)) (λ lru_maintainer.
+    and_then (or_usual true (yes_stat LruSegmented text)) (λ lru_segmented.
+    and_then (or_usual 0 (number_stat 4294967295 ExtCompactUnder text)) (λ ext_compact_under.
+    and_then (or_usual 0 (number_stat 4294967295 ExtDropUnder text)) (λ ext_drop_under.
+    Ok record {
+      evictions = evictions;
+      lru_maintainer = lru_maintainer;
+      lru_segmented = lru_segmented;
+      ext_compact_under = ext_compact_under;
+      ext_drop_under = ext_drop_under;
+    })))))
 
 -- what `stats settings` says
 unfoldable pub settings : List ℕ → Result Settings StatFault
@@ -87,8 +119,9 @@ settings text =
     and_then (number_stat 4294967295 WarmLruPct text) (λ warm_share.
     and_then (thousandths_stat HotMaxFactor text) (λ hot_factor.
     and_then (thousandths_stat WarmMaxFactor text) (λ warm_factor.
-    and_then (switch_stat TempLru text) (λ temp_lru.
+    and_then (yes_stat TempLru text) (λ temp_lru.
     and_then (number_stat 4294967295 TemporaryTtl text) (λ temporary_ttl.
+    and_then (replacement text) (λ makes_room.
     Ok record {
       max_bytes = max_bytes;
       growth_factor = growth_factor;
@@ -101,7 +134,8 @@ settings text =
       warm_factor = warm_factor;
       temp_lru = temp_lru;
       temporary_ttl = temporary_ttl;
-    })))))))))))
+      replacement = makes_room;
+    }))))))))))))
 
 -- what `stats` says of the log
 unfoldable pub log_stats : List ℕ → Result LogStats StatFault

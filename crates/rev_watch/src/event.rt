@@ -53,6 +53,10 @@ pub enum StoreOutcome {
 
 /// What happened. A class is a slab class's number, a connection the server's file descriptor, a size the bytes of
 /// an item's data, and a time to live is in seconds.
+///
+/// Keys are decoded. One that no text command can name, since it has a byte of 0 to 32 or 127, as the binary protocol
+/// allows, stands as the log spells it: `user%2042`. The size is less then by as many bytes as the spelling is longer,
+/// or 0, so that key and data take what they took on the server.
 #[derive(Drop)]
 pub enum Event<A: Allocator> {
     /// A look-up. Commands that store, delete, touch or count log one, too.

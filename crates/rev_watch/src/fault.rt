@@ -88,8 +88,8 @@ pub enum LineFault {
     BadValue(Field),
     #[error("a `%` without two hexadecimal digits in the key")]
     BadEscape,
-    /// Decoded, it is not 1 to 250 bytes, or has one of 0 to 32 or 127.
-    #[error("the key, decoded, is no key")]
+    /// Neither decoded nor as it is spelled it is 1 to 250 bytes, none of them 0 to 32 or 127.
+    #[error("the key is no key, neither decoded nor as it is spelled")]
     BadKey,
     /// More than 32 words behind the kind of an event that is known.
     #[error("more than 32 fields")]

@@ -228,10 +228,10 @@ pub fn queue_in(fields: &[&[u8]]) -> Result<Queue, LineFault>
     }
 }
 
-/// The key.
+/// The key, and by how many bytes it is longer than the server's.
 #[tactic(auto, unfolding(crate::specs::Fields::key_in))]
-pub fn key_in<A: Allocator>(alloc: A, fields: &[&[u8]]) -> Result<Key<A>, LineFault>
-    ensures { MatchResult result (λ key. key_in (map (λ w. w.now) fields.now) ≡ Ok key) (λ e. e ≢ LineFault.Memory → key_in (map (λ w. w.now) fields.now) ≡ Err e) }
+pub fn key_in<A: Allocator>(alloc: A, fields: &[&[u8]]) -> Result<(Key<A>, u32), LineFault>
+    ensures { MatchResult result (λ named. key_in (map (λ w. w.now) fields.now) ≡ Ok named) (λ e. e ≢ LineFault.Memory → key_in (map (λ w. w.now) fields.now) ≡ Err e) }
 {
     let value = value_in(fields, Field::Key)?;
     key_of(alloc, value)

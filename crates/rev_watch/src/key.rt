@@ -1,12 +1,13 @@
 //! Keys, which stand in a line percent-encoded.
 ghost use Rattle.std.specs.Prelude.{◌≡◌, ◌≢◌, ◌<◌, [], true, false, MatchOption, MatchResult, Ok, Err, length};
 ghost use Rattle.percent_encoding.specs.Percent.{percent_decode};
+ghost use Rattle.rev_items.specs.Keys.{is_key};
 ghost use Rattle.rev_watch.specs.Keys.{IsEscape, are_digits, is_encoded, key_of};
 ghost use Rattle.rev_watch.specs.declared.fault.LineFault.{LineFault};
 
 use crate::fault::LineFault;
 use arrayvec::ArrayVec;
-use rev_items::{Key, KeyFault, MAX_KEY_LENGTH};
+use rev_items::{Key, MAX_KEY_LENGTH, is_key};
 use std::alloc::Allocator;
 
 // Whether two hexadecimal digits stand in front.
@@ -84,18 +85,36 @@ fn fault_of(text: &[u8]) -> LineFault
     }
 }
 
-/// The key that a field's value stands for. It is decoded in place, and only the key itself takes memory.
+// The key of these bytes, beside by how many bytes it is longer than what a line stands for.
+fn made<A: Allocator>(alloc: A, bytes: &[u8], longer: u32) -> Result<(Key<A>, u32), LineFault>
+    requires { is_key bytes.now ≡ true }
+    ensures { MatchResult result (λ made. (made.0 ≡ bytes.now) × (made.1 ≡ longer)) (λ e. e ≡ LineFault.Memory) }
+{
+    match Key::of(alloc, bytes) {
+        Ok(key) => Ok((key, longer)),
+        Err(_) => Err(LineFault::Memory),
+    }
+}
+
+/// The key that a field's value stands for, and by how many bytes it is longer than that. It is decoded, where that is
+/// a key of the text protocol. Else it stays as it is spelled, where this is one. It is decoded in place, and only the
+/// key itself takes memory.
+///
+/// Err: behind a `%` no two hexadecimal digits stand (`BadEscape`); neither what the text stands for nor the text is
+/// 1 to 250 bytes, none of them 0 to 32 or 127 (`BadKey`); or memory was refused (`Memory`).
 #[tactic(auto, unfolding(crate::specs::Keys::key_of))]
-pub fn key_of<A: Allocator>(alloc: A, text: &[u8]) -> Result<Key<A>, LineFault>
-    ensures { MatchResult result (λ key. key_of text.now ≡ Ok key) (λ e. e ≢ LineFault.Memory → key_of text.now ≡ Err e) }
+pub fn key_of<A: Allocator>(alloc: A, text: &[u8]) -> Result<(Key<A>, u32), LineFault>
+    ensures { MatchResult result (λ named. key_of text.now ≡ Ok named) (λ e. e ≢ LineFault.Memory → key_of text.now ≡ Err e) }
 {
     let mut bytes: ArrayVec<u8, MAX_KEY_LENGTH> = ArrayVec::new();
     if !decode(&mut bytes, text) {
         return Err(fault_of(text));
     }
-    match Key::new(alloc, bytes.as_slice()) {
-        Ok(key) => Ok(key),
-        Err(KeyFault::BadKey) => Err(LineFault::BadKey),
-        Err(KeyFault::Memory) => Err(LineFault::Memory),
+    if is_key(bytes.as_slice()) {
+        return made(alloc, bytes.as_slice(), 0);
     }
+    if is_key(text) {
+        return made(alloc, text, (text.len() - bytes.len()) as u32);
+    }
+    Err(LineFault::BadKey)
 }

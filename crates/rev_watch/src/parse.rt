@@ -1,5 +1,5 @@
 //! What one line of a log says.
-ghost use Rattle.std.specs.Prelude.{◌≡◌, ◌≢◌, map, MatchResult, IfSome, Ok, Err};
+ghost use Rattle.std.specs.Prelude.{◌≡◌, ◌≢◌, ◌-◌, map, MatchResult, IfSome, Ok, Err};
 ghost use Rattle.rev_script.specs.Number.{until, past};
 ghost use Rattle.rev_watch.specs.Line.{look_up, store, deletion, eviction, page_move, crawl_end, connection_opened, connection_closed, unknown, event_of_kind, event_by_names, event_of, first, behind, line_behind, timestamp, timestamp_of, gid_of, value_of, log_line, skipped_line, line_in, line_of};
 ghost use Rattle.rev_watch.specs.declared.fault.LineFault.{LineFault};
@@ -21,6 +21,13 @@ use arrayvec::ArrayVec;
 use rev_items::{Key, KeyFault};
 use std::alloc::Allocator;
 
+// The bytes of data beside a key that is so many bytes longer than the server's.
+fn data_beside(size: u32, longer: u32) -> u32
+    ensures { result ≡ size - longer }
+{
+    size.saturating_sub(longer)
+}
+
 #[inline(never)]
 #[tactic(auto, unfolding(crate::specs::Line::look_up))]
 fn look_up<A: Allocator>(alloc: A, fields: &[&[u8]]) -> Result<Event<A>, LineFault>
@@ -30,13 +37,13 @@ fn look_up<A: Allocator>(alloc: A, fields: &[&[u8]]) -> Result<Event<A>, LineFau
     let class = number_u32_in(fields, Field::Clsid)?;
     let connection = signed_in(fields, Field::Cfd)?;
     let size = number_u32_in(fields, Field::Size)?;
-    let key = key_in(alloc, fields)?;
+    let (key, longer) = key_in(alloc, fields)?;
     Ok(Event::LookUp {
         key,
         outcome: look_up_outcome(outcome),
         class,
         connection,
-        size,
+        size: data_beside(size, longer),
     })
 }
 
@@ -51,7 +58,7 @@ fn store<A: Allocator>(alloc: A, fields: &[&[u8]]) -> Result<Event<A>, LineFault
     let class = number_u32_in(fields, Field::Clsid)?;
     let connection = signed_in(fields, Field::Cfd)?;
     let size = number_u32_in(fields, Field::Size)?;
-    let key = key_in(alloc, fields)?;
+    let (key, longer) = key_in(alloc, fields)?;
     Ok(Event::Store {
         key,
         command: store_command(command),
@@ -59,7 +66,7 @@ fn store<A: Allocator>(alloc: A, fields: &[&[u8]]) -> Result<Event<A>, LineFault
         ttl,
         class,
         connection,
-        size,
+        size: data_beside(size, longer),
     })
 }
 
@@ -68,7 +75,7 @@ fn deletion<A: Allocator>(alloc: A, fields: &[&[u8]]) -> Result<Event<A>, LineFa
     ensures { MatchResult result (λ event. deletion (map (λ w. w.now) fields.now) ≡ Ok event) (λ e. e ≢ LineFault.Memory → deletion {A = A} (map (λ w. w.now) fields.now) ≡ Err e) }
 {
     let connection = optional_signed_in(fields, Field::Cfd)?;
-    let key = key_in(alloc, fields)?;
+    let (key, _) = key_in(alloc, fields)?;
     Ok(Event::Deletion { key, connection })
 }
 
@@ -82,14 +89,14 @@ fn eviction<A: Allocator>(alloc: A, fields: &[&[u8]]) -> Result<Event<A>, LineFa
     let last_access = signed_in(fields, Field::La)?;
     let class = number_u32_in(fields, Field::Clsid)?;
     let size = number_u32_in(fields, Field::Size)?;
-    let key = key_in(alloc, fields)?;
+    let (key, longer) = key_in(alloc, fields)?;
     Ok(Event::Eviction {
         key,
         fetched,
         ttl,
         last_access,
         class,
-        size,
+        size: data_beside(size, longer),
     })
 }
 
@@ -186,12 +193,12 @@ fn look_up_in<A: Allocator>(alloc: A, text: &[u8]) -> Result<Event<A>, LineFault
     };
     match key_of(alloc, usual.key) {
         Err(fault) => Err(fault),
-        Ok(key) => Ok(Event::LookUp {
+        Ok((key, longer)) => Ok(Event::LookUp {
             key,
             outcome: look_up_outcome(usual.outcome),
             class: usual.class,
             connection: usual.connection,
-            size: usual.size,
+            size: data_beside(usual.size, longer),
         }),
     }
 }
@@ -205,14 +212,14 @@ fn store_in<A: Allocator>(alloc: A, text: &[u8]) -> Result<Event<A>, LineFault>
     };
     match key_of(alloc, usual.key) {
         Err(fault) => Err(fault),
-        Ok(key) => Ok(Event::Store {
+        Ok((key, longer)) => Ok(Event::Store {
             key,
             command: store_command(usual.command),
             outcome: store_outcome(usual.outcome),
             ttl: usual.ttl,
             class: usual.class,
             connection: usual.connection,
-            size: usual.size,
+            size: data_beside(usual.size, longer),
         }),
     }
 }

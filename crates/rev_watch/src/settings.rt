@@ -1,7 +1,7 @@
 //! What a server was configured with, and what its log left out.
-ghost use Rattle.std.specs.Prelude.{◌≡◌, ◌≤◌, IfOk, MatchResult, Ok, Err};
+ghost use Rattle.std.specs.Prelude.{◌≡◌, ◌≤◌, IfOk, MatchResult, Ok, Err, codes};
 ghost use Rattle.std.specs.Option.{option_copied};
-ghost use Rattle.rev_watch.specs.Settings.{stat_name, stat_in, stat_value, number_stat, thousandths_stat, switch_stat, settings, log_stats};
+ghost use Rattle.rev_watch.specs.Settings.{stat_name, stat_in, stat_value, number_stat, thousandths_stat, switch_stat, or_usual, replacement, settings, log_stats};
 ghost use Rattle.rev_watch.specs.declared.settings.Stat.{Stat};
 
 use crate::text::{cut, is_word, value_behind, without_cr};
@@ -23,6 +23,11 @@ pub enum Stat {
     WarmMaxFactor,
     TempLru,
     TemporaryTtl,
+    Evictions,
+    LruMaintainerThread,
+    LruSegmented,
+    ExtCompactUnder,
+    ExtDropUnder,
     LogWorkerDropped,
     LogWatcherSkipped,
 }
@@ -44,6 +49,11 @@ impl Stat {
             Stat::WarmMaxFactor => "warm_max_factor",
             Stat::TempLru => "temp_lru",
             Stat::TemporaryTtl => "temporary_ttl",
+            Stat::Evictions => "evictions",
+            Stat::LruMaintainerThread => "lru_maintainer_thread",
+            Stat::LruSegmented => "lru_segmented",
+            Stat::ExtCompactUnder => "ext_compact_under",
+            Stat::ExtDropUnder => "ext_drop_under",
             Stat::LogWorkerDropped => "log_worker_dropped",
             Stat::LogWatcherSkipped => "log_watcher_skipped",
         }
@@ -73,6 +83,22 @@ pub enum StatFault {
     BadValue(Stat),
 }
 
+/// How a server makes room, where it may have other ways than usual. What a text does not tell is as usual: servers of
+/// other versions, or built without extstore, do not tell all.
+#[derive(Clone, Copy, Debug, PartialEq, Eq)]
+pub struct Replacement {
+    /// Whether items are evicted, as is usual. Else a command that finds no memory is answered so.
+    pub evictions: bool,
+    /// Whether the LRU maintainer runs, as is usual.
+    pub lru_maintainer: bool,
+    /// Whether the items of a class stand in HOT, WARM and COLD, as is usual. Else they stand in one queue.
+    pub lru_segmented: bool,
+    /// Below how many free pages of its files extstore compacts, and below how many it drops items. Where nothing else
+    /// is asked for, each is a quarter of all pages, rounded down. Without extstore they are 0, as is usual.
+    pub ext_compact_under: u32,
+    pub ext_drop_under: u32,
+}
+
 /// What a server was configured with, as far as it decides what is evicted.
 #[derive(Clone, Copy, Debug, PartialEq, Eq)]
 pub struct Settings {
@@ -96,6 +122,8 @@ pub struct Settings {
     pub temp_lru: bool,
     /// The seconds below which a time to live is short.
     pub temporary_ttl: u32,
+    /// How it makes room.
+    pub replacement: Replacement,
 }
 
 /// How many lines of its log a server did not send.
@@ -171,25 +199,58 @@ fn thousandths_stat(text: &[u8], stat: Stat) -> Result<u32, StatFault>
     factor(value).ok_or(StatFault::BadValue(stat))
 }
 
-// `yes` or `no`.
+// One of two words.
 #[tactic(auto, unfolding(crate::specs::Settings::switch_stat))]
-fn switch_stat(text: &[u8], stat: Stat) -> Result<bool, StatFault>
-    ensures { result ≡ switch_stat stat text.now }
+fn switch_stat(text: &[u8], stat: Stat, on: &[u8], off: &[u8]) -> Result<bool, StatFault>
+    ensures { result ≡ switch_stat on.now off.now stat text.now }
 {
     let value = stat_in(text, stat)?;
-    if is_word(value, b"yes") {
+    if is_word(value, on) {
         Ok(true)
-    } else if is_word(value, b"no") {
+    } else if is_word(value, off) {
         Ok(false)
     } else {
         Err(StatFault::BadValue(stat))
     }
 }
 
+// `yes` or `no`.
+fn yes_stat(text: &[u8], stat: Stat) -> Result<bool, StatFault>
+    ensures { result ≡ switch_stat (codes "yes") (codes "no") stat text.now }
+{
+    switch_stat(text, stat, b"yes", b"no")
+}
+
+// What was read, or the usual value where the line is missing.
+fn or_usual<T: Copy>(read: Result<T, StatFault>, usual: T) -> Result<T, StatFault>
+    ensures { result ≡ or_usual usual read }
+{
+    match read {
+        Ok(value) => Ok(value),
+        Err(StatFault::Missing(_)) => Ok(usual),
+        Err(fault) => Err(fault),
+    }
+}
+
+// How a server makes room.
+#[tactic(auto, unfolding(crate::specs::Settings::replacement))]
+fn read_replacement(text: &[u8]) -> Result<Replacement, StatFault>
+    ensures { result ≡ replacement text.now }
+{
+    Ok(Replacement {
+        evictions: or_usual(switch_stat(text, Stat::Evictions, b"on", b"off"), true)?,
+        lru_maintainer: or_usual(yes_stat(text, Stat::LruMaintainerThread), true)?,
+        lru_segmented: or_usual(yes_stat(text, Stat::LruSegmented), true)?,
+        ext_compact_under: or_usual(number_u32_stat(text, Stat::ExtCompactUnder), 0)?,
+        ext_drop_under: or_usual(number_u32_stat(text, Stat::ExtDropUnder), 0)?,
+    })
+}
+
 /// What the text of `stats settings` says: lines `STAT name value`, each ended by LF or CR LF. Other lines are passed
 /// by, and so is what stands behind the last LF.
 ///
-/// Err: the first of these settings that is missing, stands twice or has a value that it cannot have.
+/// Err: the first of these settings that is missing, stands twice or has a value that it cannot have. None of those of
+/// [`Replacement`] is missing.
 #[tactic(auto, unfolding(crate::specs::Settings::settings))]
 pub fn read_settings(text: &[u8]) -> Result<Settings, StatFault>
     ensures { result ≡ settings text.now }
@@ -204,8 +265,9 @@ pub fn read_settings(text: &[u8]) -> Result<Settings, StatFault>
         warm_share: number_u32_stat(text, Stat::WarmLruPct)?,
         hot_factor: thousandths_stat(text, Stat::HotMaxFactor)?,
         warm_factor: thousandths_stat(text, Stat::WarmMaxFactor)?,
-        temp_lru: switch_stat(text, Stat::TempLru)?,
+        temp_lru: yes_stat(text, Stat::TempLru)?,
         temporary_ttl: number_u32_stat(text, Stat::TemporaryTtl)?,
+        replacement: read_replacement(text)?,
     })
 }
 

@@ -11,5 +11,5 @@ returns-in-Err g c other =
 pub returns-in-Ok : goal.returns-in-Ok
 returns-in-Ok g c =
     let u = c.in-Some.usual in
-    rw (to_z-of_z w32 u.connection search, c.store_command.ensures, c.store_outcome.ensures)
-    (stored c.args.text.now u.key.now u.outcome.now u.command.now u.ttl u.class u.connection u.size c.in-Ok.key c.in-Some.ensures c.in-Ok.ensures)
+    rw (to_z-of_z w32 u.connection search, c.store_command.ensures, c.store_outcome.ensures, c.data_beside.ensures)
+    (stored c.args.text.now u.key.now u.outcome.now u.command.now u.ttl u.class u.connection u.size (c.in-Ok.key, c.in-Ok.longer) c.in-Some.ensures c.in-Ok.ensures)
