@@ -4,10 +4,10 @@ ghost use Rattle.std.specs.Prelude.{◌≡◌};
 ghost use Rattle.rev_import.specs.Becoming.{is_too_large};
 
 use crate::figures::{Figures, one_more};
-use crate::held_key::{HeldKey, SoughtKey};
 use crate::writing::MOST_DATA;
 use indexmap::IndexMap;
 use rev_items::Key;
+use rev_log::held_key::{HeldKey, SoughtKey};
 use rev_watch::event::{Event, LogLine, LookUpOutcome, StoreCommand, StoreOutcome};
 use std::alloc::{AllocError, Allocator};
 use std::collections::VecDeque;

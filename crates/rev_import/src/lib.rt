@@ -3,7 +3,6 @@
 
 pub mod figures;
 mod guess;
-mod held_key;
 pub mod import;
 pub mod requests;
 pub mod sample;

@@ -1,0 +1,9 @@
+pub mod Naming
+pub mod Links
+pub mod Spanning
+pub mod LookUps
+pub mod Moving
+pub mod Finding
+pub mod Sound
+pub mod Votes
+pub mod Steps
