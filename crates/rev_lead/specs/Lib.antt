@@ -1,0 +1,4 @@
+pub mod Acts
+pub mod Agreed
+pub mod Agrees
+pub mod Counts

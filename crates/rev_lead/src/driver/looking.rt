@@ -1,0 +1,312 @@
+//! Look-ups.
+ghost use Rattle.std.specs.Prelude.{◌≡◌, IfOk};
+ghost use Rattle.rev_lead.specs.Agreed.{AgreedLookUp, Found, Missed};
+ghost use Rattle.rev_lead.specs.declared.agreeing.Agreement.{Agreement as AgreementOf};
+ghost use Rattle.rev_lead.specs.Acts.{Led};
+
+use super::Driver;
+use crate::agreeing::{Agreement, Disagreement, agrees_if, is_found, is_held_alive};
+use crate::holding::{Holding, holding_of};
+use crate::role::Role;
+use crate::stage::{LeadFault, Stage};
+use crate::steps::{delete, exptime_at, failed_set, touch};
+use crate::tally::Adjustment;
+use crate::wanting::{Next, next_of};
+use rev_items::Key;
+use rev_log::foresight::{Coming, Foresight};
+use rev_model::Outcome;
+use rev_watch::event::{Event, LookUpOutcome};
+use std::alloc::Allocator;
+
+/// How many misses of a key are looked through for a flush.
+const MOST_MISSES: u32 = 64;
+
+impl<A: Allocator + Copy> Driver<A> {
+    // A look-up.
+    #[tactic(auto, using(crate::proofs::Leading::led_more, crate::proofs::Leading::led_same))]
+    pub(super) fn look_up(
+        &mut self,
+        coming: &Coming<A>,
+        key: &Key<A>,
+        outcome: LookUpOutcome,
+        class: usize,
+        size: u32,
+        ahead: &Foresight<A>,
+        stage: &mut Stage<A>,
+    ) -> Result<Agreement, LeadFault>
+        ensures led { Led stage.old stage.new }
+        ensures agrees { IfOk result (λ agreement. agreement ≡ AgreementOf.Agrees → AgreedLookUp stage.old stage.new key.now class outcome) }
+    {
+        match outcome {
+            LookUpOutcome::Found => self.found(coming, key, class, size, ahead, stage),
+            LookUpOutcome::NotFound
+            | LookUpOutcome::Expired
+            | LookUpOutcome::Flushed
+            | LookUpOutcome::Other => self.missed(coming, key, outcome, ahead, stage),
+        }
+    }
+
+    // A look-up found the key.
+    #[tactic(auto, using(crate::proofs::Leading::led_more, crate::proofs::Leading::led_same))]
+    fn found(
+        &mut self,
+        coming: &Coming<A>,
+        key: &Key<A>,
+        class: usize,
+        size: u32,
+        ahead: &Foresight<A>,
+        stage: &mut Stage<A>,
+    ) -> Result<Agreement, LeadFault>
+        ensures led { Led stage.old stage.new }
+        ensures agrees { IfOk result (λ agreement. agreement ≡ AgreementOf.Agrees → Found stage.old stage.new key.now class) }
+    {
+        self.restore_unless(is_found(stage, key, class), key, class, size, ahead, stage)?;
+        let is_there = is_found(stage, key, class);
+        self.play_found(coming, key, ahead, stage)?;
+        Ok(agrees_if(is_there, Disagreement::OtherAnswer))
+    }
+
+    // What a look-up does that finds its key: it is a client's hit, or that of a command.
+    #[tactic(auto, using(crate::proofs::Leading::led_more, crate::proofs::Leading::led_same))]
+    fn play_found(
+        &mut self,
+        coming: &Coming<A>,
+        key: &Key<A>,
+        ahead: &Foresight<A>,
+        stage: &mut Stage<A>,
+    ) -> Result<(), LeadFault>
+        ensures led { Led stage.old stage.new }
+    {
+        if self.failing.take(key) {
+            stage.play(failed_set(self.alloc, key)?, Role::Event)?;
+            return Ok(());
+        }
+        if coming.own {
+            return Ok(());
+        }
+        self.hit(key, ahead, stage)?;
+        self.bump(stage)
+    }
+
+    // A client's hit, by what comes next of the key.
+    #[tactic(auto, using(crate::proofs::Leading::led_more, crate::proofs::Leading::led_same))]
+    fn hit(
+        &mut self,
+        key: &Key<A>,
+        ahead: &Foresight<A>,
+        stage: &mut Stage<A>,
+    ) -> Result<Outcome, LeadFault>
+        ensures led { Led stage.old stage.new }
+    {
+        match (holding_of(stage.store(), key), ahead.first_of(key)) {
+            (Some(held), None) => {
+                self.candidates.note(held.class, key)?;
+                self.get(key, stage)
+            }
+            (Some(held), Some(next)) => self.hit_before(key, held, next, ahead, stage),
+            (None, _) => self.get(key, stage),
+        }
+    }
+
+    // The same, where the next line that names the key waits.
+    #[tactic(auto, using(crate::proofs::Leading::led_more, crate::proofs::Leading::led_same))]
+    fn hit_before(
+        &mut self,
+        key: &Key<A>,
+        held: Holding,
+        next: &Coming<A>,
+        ahead: &Foresight<A>,
+        stage: &mut Stage<A>,
+    ) -> Result<Outcome, LeadFault>
+        ensures led { Led stage.old stage.new }
+    {
+        let end = held.header.moment;
+        let second = ahead.seconds().second_of(next.line.time);
+        let lives_on = end == 0 || end > u64::from(second);
+        match next_of(Some(next)) {
+            Next::NotFound if lives_on && !ends_flushed(Some(next), ahead) => self.delete_or_get(
+                key, held, next, ahead, stage,
+            ),
+            Next::Expired if lives_on => self.touch(key, exptime_at(u64::from(second)), stage),
+            Next::Found if !lives_on => {
+                let exptime = lengthened(held, second, stage.store().globals().clock);
+                self.touch(key, exptime, stage)
+            }
+            Next::Evicted => match other_end(next, end, second) {
+                Some(end) => self.touch(key, exptime_at(end), stage),
+                None => self.get(key, stage),
+            },
+            _ => self.get(key, stage),
+        }
+    }
+
+    // A hit behind which the key is missed: it was a delete, unless a page of its class moves in between.
+    #[tactic(auto, using(crate::proofs::Leading::led_more, crate::proofs::Leading::led_same))]
+    fn delete_or_get(
+        &mut self,
+        key: &Key<A>,
+        held: Holding,
+        next: &Coming<A>,
+        ahead: &Foresight<A>,
+        stage: &mut Stage<A>,
+    ) -> Result<Outcome, LeadFault>
+        ensures led { Led stage.old stage.new }
+    {
+        if moves_before(held.class, next, ahead) {
+            self.candidates.note(held.class, key)?;
+            self.suspects.push(held.class, key)?;
+            return self.get(key, stage);
+        }
+        self.tally.adjust(Adjustment::DeletedAtHit);
+        let role = Role::Inferred {
+            shown: next.line.time,
+            moved: false,
+        };
+        stage.play(delete(self.alloc, key)?, role)
+    }
+
+    // A look-up did not find the key.
+    #[tactic(auto, using(crate::proofs::Leading::led_more, crate::proofs::Leading::led_same))]
+    fn missed(
+        &mut self,
+        coming: &Coming<A>,
+        key: &Key<A>,
+        outcome: LookUpOutcome,
+        ahead: &Foresight<A>,
+        stage: &mut Stage<A>,
+    ) -> Result<Agreement, LeadFault>
+        ensures led { Led stage.old stage.new }
+        ensures agrees { IfOk result (λ agreement. agreement ≡ AgreementOf.Agrees → Missed stage.old stage.new key.now) }
+    {
+        self.lose_held(coming, key, outcome, ahead, stage)?;
+        let is_missed = !is_held_alive(stage, key);
+        self.play_missed(coming, key, stage)?;
+        Ok(agrees_if(is_missed, Disagreement::OtherAnswer))
+    }
+
+    // What a look-up does that does not find its key: it is a client's miss, or that of a command.
+    #[tactic(auto, using(crate::proofs::Leading::led_more, crate::proofs::Leading::led_same))]
+    fn play_missed(
+        &mut self,
+        coming: &Coming<A>,
+        key: &Key<A>,
+        stage: &mut Stage<A>,
+    ) -> Result<(), LeadFault>
+        ensures led { Led stage.old stage.new }
+    {
+        if self.failing.take(key) || coming.own {
+            return Ok(());
+        }
+        self.get(key, stage)?;
+        self.bump(stage)
+    }
+
+    // If the key is held alive, it went before.
+    #[tactic(auto, using(crate::proofs::Leading::led_more, crate::proofs::Leading::led_same))]
+    fn lose_held(
+        &mut self,
+        coming: &Coming<A>,
+        key: &Key<A>,
+        outcome: LookUpOutcome,
+        ahead: &Foresight<A>,
+        stage: &mut Stage<A>,
+    ) -> Result<(), LeadFault>
+        ensures led { Led stage.old stage.new }
+    {
+        match holding_of(stage.store(), key) {
+            Some(held) if held.alive => self.lose(coming, key, outcome, held, ahead, stage),
+            _ => Ok(()),
+        }
+    }
+
+    // The key is held alive, and a look-up misses it: it went before.
+    #[tactic(auto, using(crate::proofs::Leading::led_more, crate::proofs::Leading::led_same))]
+    fn lose(
+        &mut self,
+        coming: &Coming<A>,
+        key: &Key<A>,
+        outcome: LookUpOutcome,
+        held: Holding,
+        ahead: &Foresight<A>,
+        stage: &mut Stage<A>,
+    ) -> Result<(), LeadFault>
+        ensures led { Led stage.old stage.new }
+    {
+        if next_of(ahead.first_of(key)) == Next::Evicted {
+            self.early.push(held.class, key)?;
+            return self.evict(key, stage);
+        }
+        let clock = u64::from(stage.store().globals().clock);
+        let ends = held.header.moment != 0 && held.header.moment <= clock + 1;
+        if outcome == LookUpOutcome::Expired || ends {
+            self.touch(key, -1, stage)?;
+            return Ok(());
+        }
+        if outcome == LookUpOutcome::Flushed || ends_flushed(ahead.first_of(key), ahead) {
+            self.flushed = self.flushed.max(held.header.cas);
+        }
+        if held.header.cas <= self.flushed {
+            self.tally.adjust(Adjustment::Flushed);
+            stage.play(touch(self.alloc, key, -1)?, Role::Flush)?;
+            return Ok(());
+        }
+        let shown = coming.line.time;
+        self.let_go(key, held.class, Adjustment::DeletedAtMiss, shown, stage)
+    }
+}
+
+// Whether a page move from the class waits in front of the event.
+fn moves_before<A: Allocator + Copy>(class: usize, next: &Coming<A>, ahead: &Foresight<A>) -> bool {
+    match u32::try_from(class) {
+        Ok(class) => ahead.moves_before(class, next.number),
+        Err(_) => false,
+    }
+}
+
+// Whether the misses of a key, from this event on, end in one that says that it was flushed.
+fn ends_flushed<A: Allocator + Copy>(first: Option<&Coming<A>>, ahead: &Foresight<A>) -> bool {
+    let mut next = first;
+    for _ in 0..MOST_MISSES {
+        let Some(coming) = next else {
+            return false;
+        };
+        match next_of(next) {
+            Next::Flushed => return true,
+            Next::NotFound => next = ahead.behind(coming),
+            _ => return false,
+        }
+    }
+    false
+}
+
+// The expiry time of an item that is found when its lifetime is over: the lifetime once more, if that is enough, or
+// none.
+fn lengthened(held: Holding, second: u32, clock: u32) -> i32 {
+    let lifetime = held
+        .header
+        .moment
+        .saturating_sub(u64::from(held.header.time));
+    let end = u64::from(clock).saturating_add(lifetime);
+    if end > u64::from(second) {
+        exptime_at(end)
+    } else {
+        0
+    }
+}
+
+// The moment at which the item expires by the line that evicts it, where that is another one than this by more than a
+// second.
+fn other_end<A: Allocator>(evicted: &Coming<A>, end: u64, second: u32) -> Option<u64> {
+    let Event::Eviction { ttl, .. } = &evicted.line.event else {
+        return None;
+    };
+    let told = match ttl {
+        Some(left) => u64::from(second) + u64::from(*left),
+        None => 0,
+    };
+    if told.max(end) - told.min(end) > 1 {
+        Some(told)
+    } else {
+        None
+    }
+}

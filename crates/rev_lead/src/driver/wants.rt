@@ -1,0 +1,229 @@
+//! Chunks that a server had, and the replay has not: an item that the log does not show goes.
+ghost use Rattle.rev_model.specs.Sound.{Sound};
+ghost use Rattle.rev_lead.specs.Acts.{Led};
+
+use super::Driver;
+use super::storing::{MOST_DATA, Storing};
+use crate::holding::{has_free, has_page_to_come, holding_of, is_alive, is_class};
+use crate::role::Role;
+use crate::stage::{LeadFault, Stage};
+use crate::steps::delete;
+use crate::tally::Adjustment;
+use crate::wanting::{Next, Pick, Wanted, next_of};
+use rev_items::Key;
+use rev_log::foresight::Foresight;
+use rev_watch::event::{StoreOutcome, Timestamp};
+use std::alloc::Allocator;
+
+impl<A: Allocator + Copy> Driver<A> {
+    // A chunk of the class is wanted, and none may be free: what the server let go goes. `own` is the key that wants it.
+    #[tactic(auto, using(crate::proofs::Leading::led_more, crate::proofs::Leading::led_same))]
+    pub(super) fn want(
+        &mut self,
+        class: usize,
+        own: &Key<A>,
+        ahead: &Foresight<A>,
+        stage: &mut Stage<A>,
+    ) -> Result<(), LeadFault>
+        ensures led { Led stage.old stage.new }
+    {
+        if has_free(stage.store(), class) {
+            return Ok(());
+        }
+        if let Some((key, shown)) = self.deleted(class, own, ahead, stage)? {
+            return self.let_go(&key, class, Adjustment::Wanted, shown, stage);
+        }
+        self.want_any(class, own, ahead, stage)
+    }
+
+    pub(super) fn wanted<'a>(
+        &'a self,
+        class: usize,
+        own: &'a Key<A>,
+        ahead: &'a Foresight<A>,
+        stage: &'a Stage<A>,
+    ) -> Wanted<'a, A>
+        ensures { Sound result.store.now }
+    {
+        Wanted {
+            store: stage.store(),
+            class,
+            own,
+            waiting: &self.waiting,
+            candidates: &self.candidates,
+            ahead,
+        }
+    }
+
+    // A key that was hit and is missed later, and when that is shown.
+    fn deleted(
+        &self,
+        class: usize,
+        own: &Key<A>,
+        ahead: &Foresight<A>,
+        stage: &Stage<A>,
+    ) -> Result<Option<(Key<A>, Timestamp)>, LeadFault> {
+        match self.wanted(class, own, ahead, stage).deleted() {
+            Some((key, shown)) => Ok(Some((key.copy(self.alloc)?, shown.line.time))),
+            None => Ok(None),
+        }
+    }
+
+    // An item of the class goes, unless a page comes.
+    #[tactic(auto, using(crate::proofs::Leading::led_more, crate::proofs::Leading::led_same))]
+    fn want_any(
+        &mut self,
+        class: usize,
+        own: &Key<A>,
+        ahead: &Foresight<A>,
+        stage: &mut Stage<A>,
+    ) -> Result<(), LeadFault>
+        ensures led { Led stage.old stage.new }
+    {
+        if has_page_to_come(stage.store(), class) {
+            return Ok(());
+        }
+        let shown = self.last_time(ahead);
+        match self.wanted(class, own, ahead, stage).pick(self.alloc)? {
+            Pick::Expired(key) => {
+                self.tally.adjust(Adjustment::WantedExpired);
+                stage.play(delete(self.alloc, &key)?, Role::Expiry)?;
+                Ok(())
+            }
+            Pick::Likely(key, others) => {
+                self.others.keep(&key, others)?;
+                self.let_go(&key, class, Adjustment::Wanted, shown, stage)
+            }
+            Pick::Unseen(key) => self.let_go(&key, class, Adjustment::WantedUnseen, shown, stage),
+            Pick::Nothing => Ok(()),
+        }
+    }
+
+    // The key's item goes, as a later line of this time shows.
+    #[tactic(auto, using(crate::proofs::Leading::led_more, crate::proofs::Leading::led_same))]
+    pub(super) fn let_go(
+        &mut self,
+        key: &Key<A>,
+        class: usize,
+        adjustment: Adjustment,
+        shown: Timestamp,
+        stage: &mut Stage<A>,
+    ) -> Result<(), LeadFault>
+        ensures led { Led stage.old stage.new }
+    {
+        self.tally.adjust(adjustment);
+        self.candidates.forget(class, key);
+        let moved = self.has_moved(key, stage);
+        stage.play(delete(self.alloc, key)?, Role::Inferred { shown, moved })?;
+        Ok(())
+    }
+
+    // Whether the key's class lost a page since its item was linked or last bumped.
+    pub(super) fn has_moved(&self, key: &Key<A>, stage: &Stage<A>) -> bool {
+        let Some(held) = holding_of(stage.store(), key) else {
+            return false;
+        };
+        match self.moved.get(held.class) {
+            Some(second) => *second != 0 && held.header.time <= *second,
+            None => false,
+        }
+    }
+
+    // The log shows a key that the replay does not hold, or holds dead or in another class: it is stored.
+    #[tactic(auto, using(crate::proofs::Leading::led_more, crate::proofs::Leading::led_same))]
+    pub(super) fn restore(
+        &mut self,
+        key: &Key<A>,
+        class: usize,
+        size: u32,
+        ahead: &Foresight<A>,
+        stage: &mut Stage<A>,
+    ) -> Result<(), LeadFault>
+        ensures led { Led stage.old stage.new }
+    {
+        if !is_class(stage.store(), class) || size > MOST_DATA {
+            return Ok(());
+        }
+        self.tally.adjust(Adjustment::Restored);
+        if holding_of(stage.store(), key).is_some() {
+            stage.play(delete(self.alloc, key)?, Role::Restore)?;
+        }
+        self.make_room(key, class, ahead, stage)?;
+        let storing = Storing {
+            class,
+            size,
+            exptime: 0,
+            outcome: StoreOutcome::Stored,
+        };
+        self.put(key, storing, Role::Restore, stage)?;
+        Ok(())
+    }
+
+    // The same, unless it is held.
+    #[tactic(auto, using(crate::proofs::Leading::led_more, crate::proofs::Leading::led_same))]
+    pub(super) fn restore_unless(
+        &mut self,
+        is_held: bool,
+        key: &Key<A>,
+        class: usize,
+        size: u32,
+        ahead: &Foresight<A>,
+        stage: &mut Stage<A>,
+    ) -> Result<(), LeadFault>
+        ensures led { Led stage.old stage.new }
+    {
+        if is_held {
+            Ok(())
+        } else {
+            self.restore(key, class, size, ahead, stage)
+        }
+    }
+
+    // Room for a key that the replay lacks.
+    #[tactic(auto, using(crate::proofs::Leading::led_more, crate::proofs::Leading::led_same))]
+    fn make_room(
+        &mut self,
+        key: &Key<A>,
+        class: usize,
+        ahead: &Foresight<A>,
+        stage: &mut Stage<A>,
+    ) -> Result<(), LeadFault>
+        ensures led { Led stage.old stage.new }
+    {
+        if has_free(stage.store(), class) {
+            return Ok(());
+        }
+        match self.other(key, class, ahead, stage) {
+            Some(other) => {
+                let shown = self.last_time(ahead);
+                self.let_go(&other, class, Adjustment::Wanted, shown, stage)
+            }
+            None => self.want_any(class, key, ahead, stage),
+        }
+    }
+
+    // One that may have been let go in the place of this key, which was not.
+    fn other(
+        &mut self,
+        key: &Key<A>,
+        class: usize,
+        ahead: &Foresight<A>,
+        stage: &Stage<A>,
+    ) -> Option<Key<A>> {
+        for other in self.others.take(key)? {
+            if self.may_go(&other, class, ahead, stage) {
+                return Some(other);
+            }
+        }
+        None
+    }
+
+    // Whether the key is held in the class, and no later line shows it.
+    fn may_go(&self, key: &Key<A>, class: usize, ahead: &Foresight<A>, stage: &Stage<A>) -> bool {
+        let is_there = match holding_of(stage.store(), key) {
+            Some(held) => held.class == class,
+            None => false,
+        };
+        is_there && is_alive(stage.store(), key) && next_of(ahead.first_of(key)) == Next::Nothing
+    }
+}
