@@ -1,0 +1,5 @@
+pub mod Seconds
+pub mod Keyed
+pub mod Classes
+pub mod Lasts
+pub mod Stores

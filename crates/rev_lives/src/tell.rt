@@ -1,0 +1,183 @@
+//! What is told of logs: the lives of some keys, or all keys that left.
+ghost use Rattle.rev_classes.specs.Limits.{IsWithinLimits};
+
+use crate::fault::LivesFault;
+use crate::filter::Filter;
+use crate::gone::Gone;
+use crate::life::KeyLives;
+use crate::lines::lives_lines;
+use crate::lives::Lives;
+use crate::notes::put_notes;
+use crate::run::{Replay, replay_logs};
+use crate::text::put_lives;
+use rev_import::setup::Setup;
+use rev_items::Key;
+use rev_output::{Sink, write_all};
+use std::alloc::{AllocError, Allocator};
+use std::io::Read;
+use std::mem;
+
+/// As soon as so many bytes are at hand, they are sent (this project's own figure).
+const PIECE: usize = 65536;
+
+/// What is asked for: some keys, and how they are told.
+#[derive(Drop)]
+pub struct LivesAsked<A: Allocator> {
+    pub keys: Vec<Key<A>, A>,
+    /// Whether only the last life of each is told.
+    pub last: bool,
+    /// Which life of the server is asked for, from 1; none for all.
+    pub life: Option<u64>,
+    /// Whether they are told as JSON.
+    pub json: bool,
+}
+
+/// How much was told.
+#[derive(Clone, Copy, Debug, PartialEq, Eq)]
+pub struct Found {
+    /// How many lives, or keys that left.
+    pub told: u64,
+    /// Whether a line of the logs names each of the keys that were asked for.
+    pub all_seen: bool,
+}
+
+// The keys that are asked for, of which nothing is known yet.
+fn asked_for<A: Allocator + Copy>(alloc: A, asked: &LivesAsked<A>) -> Result<Lives<A>, AllocError> {
+    let mut lives = Lives::new(alloc, asked.last, asked.life);
+    for key in &asked.keys {
+        lives.ask(key)?;
+    }
+    Ok(lives)
+}
+
+// How many lives of a key are told.
+fn lives_of<A: Allocator>(key: &KeyLives<A>) -> u64 {
+    let ended = key.ended.len() as u64;
+    if key.held.is_some() { ended + 1 } else { ended }
+}
+
+// Writes the lives of all keys, and counts them.
+fn send_lives<A: Allocator + Copy, K: Sink>(
+    alloc: A,
+    lives: &Lives<A>,
+    as_json: bool,
+    sink: &mut K,
+) -> Result<Found, LivesFault> {
+    let mut found = Found {
+        told: 0,
+        all_seen: true,
+    };
+    let mut out = Vec::new(alloc);
+    for key in lives.keys() {
+        if as_json {
+            out = lives_lines(
+                alloc,
+                mem::replace(&mut out, Vec::new(alloc)),
+                key,
+                lives.now(),
+            )?;
+        } else {
+            put_lives(alloc, &mut out, key, lives.now())?;
+        }
+        found.told = found.told.saturating_add(lives_of(key));
+        if key.named.is_none() {
+            found.all_seen = false;
+        }
+        if out.len() >= PIECE {
+            write_all(sink, out.as_slice())?;
+            out.clear();
+        }
+    }
+    write_all(sink, out.as_slice())?;
+    Ok(found)
+}
+
+// A replay of which no log was read.
+fn opened<'a, A: Allocator + Copy>(
+    alloc: A,
+    setup: &'a Setup,
+) -> Result<Replay<'a, A>, (usize, LivesFault)>
+    requires { IsWithinLimits setup.now.config }
+{
+    match Replay::open(alloc, setup) {
+        Ok(replay) => Ok(replay),
+        Err(fault) => Err((0, fault)),
+    }
+}
+
+// Notes what became of the lines, and hands on how it ended.
+fn noted<A: Allocator + Copy>(
+    done: Result<Found, LivesFault>,
+    replay: &Replay<'_, A>,
+    notes: &mut Vec<u8, A>,
+) -> Result<Found, (usize, LivesFault)> {
+    match done {
+        Err(fault) => Err((0, fault)),
+        Ok(found) => match put_notes(
+            notes,
+            &replay.counts(),
+            replay.late(),
+            replay.repeated(),
+            &replay.tally(),
+        ) {
+            Err(_) => Err((0, LivesFault::Memory)),
+            Ok(()) => Ok(found),
+        },
+    }
+}
+
+/// Tells the lives of the keys that are asked for, from the logs that the files hold, in their order, of a server with
+/// this setup. They are written behind the last log. What is told of the logs themselves goes behind `notes`.
+///
+/// Err: the place of a log, from 0 on, and why nothing is told: memory was refused, a read or a write failed, a line
+/// that begins like one of the log is none, or there are more lines than can be counted. Or no log has an event, and
+/// then the place is 0, as it is where it was the end that failed.
+pub fn tell_lives<A: Allocator + Copy, F: Read + Drop, K: Sink>(
+    alloc: A,
+    setup: &Setup,
+    logs: Vec<F, A>,
+    asked: &LivesAsked<A>,
+    sink: &mut K,
+    notes: &mut Vec<u8, A>,
+) -> Result<Found, (usize, LivesFault)>
+    requires { IsWithinLimits setup.now.config }
+{
+    let mut replay = opened(alloc, setup)?;
+    let mut lives = match asked_for(alloc, asked) {
+        Ok(lives) => lives,
+        Err(_) => return Err((0, LivesFault::Memory)),
+    };
+    replay_logs(&mut replay, logs, &mut lives)?;
+    noted(send_lives(alloc, &lives, asked.json, sink), &replay, notes)
+}
+
+// Sends what is at hand, and counts what was told.
+fn sent<A: Allocator + Copy, K: Sink>(gone: &mut Gone<'_, K, A>) -> Result<Found, LivesFault> {
+    gone.send()?;
+    Ok(Found {
+        told: gone.told(),
+        all_seen: true,
+    })
+}
+
+/// Tells the keys that left and pass the filter, in the order in which they did, from the logs that the files hold, in
+/// their order, of a server with this setup. They are written as the logs are read. What is told of the logs themselves
+/// goes behind `notes`.
+///
+/// Err: as of `tell_lives`; what was told before is written, or a part of it.
+pub fn tell_gone<A: Allocator + Copy, F: Read + Drop, K: Sink>(
+    alloc: A,
+    setup: &Setup,
+    logs: Vec<F, A>,
+    filter: &Filter<'_>,
+    as_json: bool,
+    sink: &mut K,
+    notes: &mut Vec<u8, A>,
+) -> Result<Found, (usize, LivesFault)>
+    requires { IsWithinLimits setup.now.config }
+{
+    let mut replay = opened(alloc, setup)?;
+    let mut gone = Gone::new(alloc, filter, as_json, sink);
+    replay_logs(&mut replay, logs, &mut gone)?;
+    noted(sent(&mut gone), &replay, notes)
+}
