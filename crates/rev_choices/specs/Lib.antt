@@ -1,1 +1,2 @@
 pub mod Sample
+pub mod Loss

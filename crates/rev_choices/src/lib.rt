@@ -1,10 +1,13 @@
 //! What a user may choose of an import: how often the LRU maintainer comes, which keys are taken, and the growth factor
-//! that a server had.
+//! that a server had. And for which loss of keys logs are asked.
 #![tactic(auto)]
+
+mod loss;
 
 ghost use Rattle.std.specs.Prelude.{◌≡◌};
 ghost use Rattle.rev_choices.specs.Sample.{takes, page_size};
 
+pub use loss::Loss;
 use rev_items::Key;
 use std::alloc::Allocator;
 

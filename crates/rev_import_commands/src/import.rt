@@ -1,5 +1,6 @@
 //! `lrudb import watch`: logs that become a script, from files to files.
-ghost use Rattle.std.specs.Prelude.{◌≡◌, ◌≢◌, ◌++◌, ℕ, List, OnOk, string_bytes};
+ghost use Rattle.std.specs.Prelude.{◌≡◌, ◌≢◌, ◌++◌, ℕ, List, IfOk, OnOk, string_bytes};
+ghost use Rattle.rev_classes.specs.Limits.{IsWithinLimits};
 ghost use Rattle.rev_import.specs.declared.figures.Figures.{Figures};
 ghost use Rattle.rev_intake.specs.declared.counts.LineCounts.{LineCounts};
 ghost use Rattle.rev_messages.specs.Ends.{IsStatus, StopsBy};
@@ -135,8 +136,8 @@ fn unread(alloc: Global, error: io::Error, name: &str) -> Stop {
     }
 }
 
-// The whole text of a file.
-pub(crate) fn text_of<R: Files + AllocGlobal>(rt: &R, name: &str) -> Result<Vec<u8>, Stop> {
+/// The whole text of a file.
+pub fn text_of<R: Files + AllocGlobal>(rt: &R, name: &str) -> Result<Vec<u8>, Stop> {
     match fs::read(rt, name) {
         Ok(text) => Ok(text),
         Err(error) => Err(unread(rt.alloc(), error, name)),
@@ -150,7 +151,8 @@ fn bad_stats(alloc: Global, name: &str, fault: StatFault) -> Stop {
     }
 }
 
-pub(crate) fn settings_of<R: Files + AllocGlobal>(rt: &R, name: &str) -> Result<Settings, Stop> {
+/// The server's settings that this file has.
+pub fn settings_of<R: Files + AllocGlobal>(rt: &R, name: &str) -> Result<Settings, Stop> {
     let text = text_of(rt, name)?;
     match read_settings(text.as_slice()) {
         Ok(settings) => Ok(settings),
@@ -180,6 +182,16 @@ fn stats_if<R: Files + AllocGlobal>(
     }
 }
 
+/// What lrudb is opened with in the place of a server with these settings.
+pub fn setup_by(settings: &Settings, factor: Option<Factor>) -> Result<Setup, Stop>
+    ensures { IfOk result (λ setup. IsWithinLimits setup.config) }
+{
+    match follow(settings, factor) {
+        Ok(setup) => Ok(setup),
+        Err(fault) => Err(Stop::from(fault)),
+    }
+}
+
 /// What lrudb is opened with in the place of the server whose settings this file has.
 pub fn setup_of<R: Files + AllocGlobal>(
     rt: &R,
@@ -187,10 +199,7 @@ pub fn setup_of<R: Files + AllocGlobal>(
     factor: Option<Factor>,
 ) -> Result<Setup, Stop> {
     let settings = settings_of(rt, settings)?;
-    match follow(&settings, factor) {
-        Ok(setup) => Ok(setup),
-        Err(fault) => Err(Stop::from(fault)),
-    }
+    setup_by(&settings, factor)
 }
 
 // The log of a name, opened. The reader is the standard input.
@@ -269,8 +278,8 @@ pub(crate) fn stop_of(alloc: Global, fault: IntakeFault, log: &str) -> Result<St
     })
 }
 
-// The name in a place.
-pub(crate) fn name_in(names: &[String], place: usize) -> &str {
+/// The name in a place, or none where there is no such place.
+pub fn name_in(names: &[String], place: usize) -> &str {
     match names.get(place) {
         Some(name) => name.as_str(),
         None => "",

@@ -3,8 +3,8 @@ ghost use Rattle.std.specs.Prelude.{◌≡◌, ◌≢◌};
 ghost use Rattle.rev_messages.specs.Ends.{IsStatus, StopsBy};
 ghost use Rattle.rev_messages.specs.declared.stop.Stop.{Stop};
 
-use crate::import::{Names, cannot_write, rename_both, settings_of, text_of};
-use rev_import::setup::{Setup, follow};
+use crate::import::{Names, cannot_write, rename_both, setup_of, text_of};
+use rev_import::setup::Setup;
 use rev_intake::report::put_unfollowed;
 use rev_intake::words::put_options;
 use rev_messages::Stop;
@@ -40,8 +40,8 @@ impl Made {
     }
 }
 
-// Why what a file of this name tells is at fault.
-fn bad_file(alloc: Global, name: &str, what: &str) -> Stop {
+/// What is told of a file of this name that is at fault.
+pub fn bad_file(alloc: Global, name: &str, what: &str) -> Stop {
     match format!(in alloc; "lrudb: {name}: {what}\n") {
         Ok(text) => Stop::BadImport(text),
         Err(_) => Stop::Memory,
@@ -107,14 +107,6 @@ fn items_of<R: Files + AllocGlobal>(
             None => Ok(items),
             Some(unfit) => Err(misfit(rt.alloc(), name, &unfit)),
         },
-    }
-}
-
-fn setup_of<R: Files + AllocGlobal>(rt: &R, asked: &StateImport) -> Result<Setup, Stop> {
-    let settings = settings_of(rt, asked.settings.as_str())?;
-    match follow(&settings, asked.factor) {
-        Ok(setup) => Ok(setup),
-        Err(fault) => Err(Stop::from(fault)),
     }
 }
 
@@ -224,7 +216,7 @@ fn to_files<R: Files>(rt: &R, alloc: Global, files: &Names, made: &Made) -> Resu
 
 // Makes the start that is asked for, and answers what is told of it.
 fn import<R: Files + AllocGlobal>(rt: &R, asked: &StateImport) -> Result<Vec<u8>, Stop> {
-    let setup = setup_of(rt, asked)?;
+    let setup = setup_of(rt, asked.settings.as_str(), asked.factor)?;
     let counts = counts_of(rt, asked)?;
     let items = items_of(rt, asked.metadump.as_str(), &counts)?;
     let files = match Names::of_start(rt.alloc(), asked.out.as_str()) {

@@ -49,7 +49,7 @@ line_parts (line.Missing of) = codes "no field `" ∷ field.name_of of ∷ codes
 line_parts (line.Twice of) = codes "field `" ∷ field.name_of of ∷ codes "` stands twice" ∷ []
 line_parts (line.BadValue of) = codes "field `" ∷ field.name_of of ∷ codes "` has a value that it cannot have" ∷ []
 line_parts line.BadEscape = codes "a `%` without two hexadecimal digits in the key" ∷ [] ∷ [] ∷ []
-line_parts line.BadKey = codes "the key, decoded, is no key" ∷ [] ∷ [] ∷ []
+line_parts line.BadKey = codes "the key is no key, neither decoded nor as it is spelled" ∷ [] ∷ [] ∷ []
 line_parts line.TooManyFields = codes "more than 32 fields" ∷ [] ∷ [] ∷ []
 line_parts line.TooLong = codes "more than 4096 bytes" ∷ [] ∷ [] ∷ []
 

@@ -10,7 +10,7 @@ use rev_options::STANDARD;
 use rev_output::{Sink, WriteFailed};
 use std::cell::RefCell;
 use std::convert::AsStr;
-use std::io::Read;
+use std::io::{Read, Write};
 use std::marker::Model;
 use std::rt::{Clock, Files};
 use std::time::Duration;
@@ -235,7 +235,7 @@ impl<C: Clock, W: Sink> Progress<C, W> {
         }
     }
 
-    /// The work is done: what was told is taken off the terminal.
+    /// What was told is taken off the terminal: the work is done, or something else is to be written there.
     pub fn end(&self) {
         let Some(shown) = &self.shown else {
             return;
@@ -293,5 +293,40 @@ impl<F: Read, C: Clock, W: Sink> Read for ToldFile<'_, F, C, W> {
                 Ok(n)
             }
         }
+    }
+}
+
+/// A writer of what is told beside a work: its progress is taken off the terminal before anything is written there.
+#[derive(Drop)]
+pub struct BesideProgress<'p, O: Write, C, W> {
+    writer: O,
+    progress: &'p Progress<C, W>,
+}
+
+impl<'p, O: Write, C, W> Model for BesideProgress<'p, O, C, W> {
+    // the bytes of the writer, where they are known
+    ghost Value = { Option (List ℕ) };
+
+    ghost view = { λ s. O.contents s.writer };
+}
+
+impl<'p, O: Write, C, W> BesideProgress<'p, O, C, W> {
+    pub fn new(writer: O, progress: &'p Progress<C, W>) -> BesideProgress<'p, O, C, W>
+        ensures { result ≡ O.contents writer }
+    {
+        BesideProgress { writer, progress }
+    }
+}
+
+impl<O: Write, C: Clock, W: Sink> Write for BesideProgress<'_, O, C, W> {
+    ghost contents = { λ s. s };
+
+    fn write(&mut self, buf: &[u8]) -> io::Result<usize> {
+        self.progress.end();
+        self.writer.write(buf)
+    }
+
+    fn flush(&mut self) -> io::Result<()> {
+        self.writer.flush()
     }
 }

@@ -59,7 +59,7 @@ pub enum Stop {
     },
     /// Traces, of which this is the first, have no row that is asked for.
     NoRow(String),
-    /// What a server told of its items is at fault: the text that says so.
+    /// What a server told of itself is at fault, or what it is asked: the text that says so.
     BadImport(String),
 }
 
@@ -75,7 +75,11 @@ fn line_fault(fault: LineFault) -> (&'static str, &'static str, &'static str)
             ("field `", field.name(), "` has a value that it cannot have")
         }
         LineFault::BadEscape => ("a `%` without two hexadecimal digits in the key", "", ""),
-        LineFault::BadKey => ("the key, decoded, is no key", "", ""),
+        LineFault::BadKey => (
+            "the key is no key, neither decoded nor as it is spelled",
+            "",
+            "",
+        ),
         LineFault::TooManyFields => ("more than 32 fields", "", ""),
         LineFault::TooLong => ("more than 4096 bytes", "", ""),
     }

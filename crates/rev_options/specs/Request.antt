@@ -1,10 +1,12 @@
 -- What holds of a request that was read. Rule of this project: the bounds of `--temp-ttl`, `--heap` and the number of
--- files; and which words ask for an import, for traces to be opened, for what `open` imports, for a run, and for a
--- report.
-use Rattle.std.specs.Prelude.{ℕ, ℤ, pos, negsuc, Bool, true, false, nat_eq, ◌||◌, ◌≡◌, ◌≤◌, List, [], ◌∷◌, take, length, IfSome, Option, None, codes}
+-- files; and which words ask for an import, for traces to be opened, for what `open` imports, for a run, for a report, and
+-- for what logs tell of keys.
+use Rattle.std.specs.Prelude.{ℕ, ℤ, pos, negsuc, Bool, true, false, nat_eq, ◌||◌, ◌≡◌, ◌≤◌, ◌⊎◌, List, [], ◌∷◌, take, length, IfSome, Option, None, is_some, Vec, String, codes}
 use Rattle.std.specs.Str.{bytes_eq}
+use Rattle.std.specs.declared.alloc.Global.{Global}
 use Rattle.rev_options.specs.declared.Request.{Request}
-use Rattle.rev_options.specs.declared.Request.TheVariants.{Run, Record, ImportWatch, ImportCsv, ImportState, Open, OpenWatch, OpenCsv, Report}
+use Rattle.rev_options.specs.declared.Request.TheVariants.{Run, Record, ImportWatch, ImportCsv, ImportState, Open, OpenWatch, OpenCsv, Report, Why, Gone}
+use Rattle.rev_options.specs.declared.asking.AskedLogs.{AskedLogs}
 use Rattle.rev_options.specs.declared.reporting.Played.{Played}
 use Rattle.rev_options.specs.declared.reporting.Played.TheVariants.{Traces, Logs, Rows}
 
@@ -23,8 +25,16 @@ IsPlayedInRange (Traces asked) = is_temp_ttl asked.config.temp_ttl ≡ true
 IsPlayedInRange (Logs asked) = Unit {0}
 IsPlayedInRange (Rows asked) = is_temp_ttl asked.config.temp_ttl ≡ true
 
+-- 1 to 64 logs, and where a life of their server is asked for, lives are counted from 1
+abbrev pub AreAsked : AskedLogs → Type 0
+AreAsked asked = (1 ≤ length asked.logs.items) × (length asked.logs.items ≤ 64) × IfSome asked.life (λ n. 1 ≤ n)
+
+-- there is a key, or a file of keys
+abbrev pub HasKeys : Vec (String Global) Global → Option (String Global) → Type 0
+HasKeys keys key_file = (1 ≤ length keys.items) ⊎ (is_some key_file ≡ true)
+
 -- a time to live that there is; for a run a heap that may be asked for, where one is, and none where JSON is; for a
--- recording one to eight files; for an import a log, or a trace
+-- recording one to eight files; for an import a log, or a trace; logs that may be asked, of a key where keys are told of
 abbrev pub IsInRange : Request → Type 0
 IsInRange (Run config heap dialect starts json) = (is_temp_ttl config.temp_ttl ≡ true) × IfSome heap IsHeap × (json ≡ true → heap ≡ None)
 IsInRange (Record config dialect starts files) = (is_temp_ttl config.temp_ttl ≡ true) × (1 ≤ length files.items) × (length files.items ≤ 8)
@@ -35,6 +45,8 @@ IsInRange (Open asked) = is_temp_ttl asked.config.temp_ttl ≡ true
 IsInRange (OpenWatch asked) = Unit {0}
 IsInRange (OpenCsv asked) = is_temp_ttl asked.config.temp_ttl ≡ true
 IsInRange (Report asked) = IsPlayedInRange asked.played
+IsInRange (Why asked) = AreAsked asked.logs × HasKeys asked.keys asked.key_file
+IsInRange (Gone asked) = AreAsked asked.logs
 
 -- the first word says `import`
 abbrev pub asks_import : List (List ℕ) → Bool
@@ -94,3 +106,23 @@ asks_report (word ∷ words) = bytes_eq word (codes "report")
 abbrev pub ReportsBy : Bool → Request → Type 0
 ReportsBy asks (Report asked) = asks ≡ true
 ReportsBy asks other = asks ≡ false
+
+-- the first word says `why`
+abbrev pub asks_why : List (List ℕ) → Bool
+asks_why [] = false
+asks_why (word ∷ words) = bytes_eq word (codes "why")
+
+-- the first word says `gone`
+abbrev pub asks_gone : List (List ℕ) → Bool
+asks_gone [] = false
+asks_gone (word ∷ words) = bytes_eq word (codes "gone")
+
+-- the first word says either
+abbrev pub asks_lives : List (List ℕ) → Bool
+asks_lives words = asks_why words || asks_gone words
+
+-- logs are asked of keys by either of these words, and nothing else is; the lives of keys by `why` alone
+abbrev pub LivesBy : (lives why : Bool) → Request → Type 0
+LivesBy lives why (Why asked) = (lives ≡ true) × (why ≡ true)
+LivesBy lives why (Gone asked) = lives ≡ true
+LivesBy lives why other = lives ≡ false

@@ -17,7 +17,7 @@ const ABOUT: &str =
     "Replays memcached's storage commands and the steps of its segmented LRU, forwards and backwards";
 
 const AFTER: &str =
-    "A script has one command a line: memcached's own (set, get, delete, ..) and questions (:item KEY, :back, ..).\n\nExit status: 0 done, 2 command line or configuration, 3 out of memory, 4 input or output, 5 a file of steps has a line that is not a step, or what is imported is at fault, 6 the log differs.";
+    "A script has one command a line: memcached's own (set, get, delete, ..) and questions (:item KEY, :back, ..).\n\nExit status: 0 done, 1 a key that `why` asks for was never seen, 2 command line or configuration, 3 out of memory, 4 input or output, 5 a file of steps has a line that is not a step, or what is imported is at fault, 6 the log differs.";
 
 const LINE_FEED: OptionSpec = OptionSpec {
     name: "lf",
@@ -404,6 +404,138 @@ fn report() -> CommandSpec {
     }
 }
 
+// The logs that `why` and `gone` read, and how they are read.
+static ASKED: [OptionSpec; 6] = [
+    OptionSpec {
+        name: "watch",
+        unit: "LOG",
+        help: "Logs of memcached's watch, in their order: 1 to 64 files; - is the standard input",
+        least: 1,
+        most: MOST_LOGS,
+        is_needed: true,
+        ..TEXTS
+    },
+    OptionSpec {
+        name: "settings",
+        unit: "FILE",
+        help: "The server's text of `stats settings`",
+        is_needed: true,
+        ..TEXT
+    },
+    FACTOR,
+    OptionSpec {
+        name: "life",
+        unit: "N",
+        help: "Tells only of the server's life of this number: 1 to 4294967295, the first is 1, and each start of the server begins one [without it: of all]",
+        values: ValueParser::Signed(1, 4294967295),
+        ..TEXT
+    },
+    OptionSpec {
+        name: "anyway",
+        help: "Goes on where the server has a setting that the rules do not cover",
+        ..FLAG
+    },
+    PROGRESS,
+];
+
+fn asked() -> &'static [OptionSpec] {
+    &ASKED
+}
+
+static WHY: [OptionSpec; 4] = [
+    OptionSpec {
+        name: "key",
+        unit: "KEY",
+        help: "Keys, as clients write them or as the log does",
+        least: 1,
+        most: usize::MAX,
+        stands_for: Some(&["keys"]),
+        ..NAMES
+    },
+    OptionSpec {
+        name: "keys",
+        unit: "FILE",
+        help: "Also tells of the keys of a file, a key a line",
+        ..TEXT
+    },
+    OptionSpec {
+        name: "last",
+        help: "Tells only the last life of each key",
+        ..FLAG
+    },
+    OptionSpec {
+        name: "json",
+        help: "Tells each life of a key in a line of JSON",
+        ..FLAG
+    },
+];
+
+fn why() -> CommandSpec {
+    CommandSpec {
+        name: "why",
+        about: "Tells from logs what became of keys: each of their lives, and why it ended",
+        options: [&WHY, asked(), &[]],
+    }
+}
+
+static GONE: [OptionSpec; 6] = [
+    OptionSpec {
+        name: "class",
+        unit: "N",
+        help: "Only those of a slab class: 1 to 63",
+        values: ValueParser::Signed(1, 63),
+        ..TEXT
+    },
+    OptionSpec {
+        name: "cause",
+        unit: "WORD",
+        help: "Only those that left so",
+        values: ValueParser::Names(&[
+            "evicted",
+            "expired",
+            "flushed",
+            "deleted",
+            "evicted_by_mover",
+            "dropped_by_failed_set",
+            "restarted",
+        ]),
+        ..TEXT
+    },
+    OptionSpec {
+        name: "prefix",
+        unit: "TEXT",
+        help: "Only those whose keys begin so",
+        ..TEXT
+    },
+    OptionSpec {
+        name: "from",
+        unit: "SECONDS",
+        help: "Only those that left in this second or behind it, by the Unix clock",
+        default: Some(&["0"]),
+        ..NUMBER
+    },
+    OptionSpec {
+        name: "to",
+        unit: "SECONDS",
+        help: "Only those that left in this second or before it",
+        default: Some(&["4294967295"]),
+        ..NUMBER
+    },
+    OptionSpec {
+        name: "json",
+        help: "Tells each key that left in a line of JSON",
+        ..FLAG
+    },
+];
+
+fn gone() -> CommandSpec {
+    CommandSpec {
+        name: "gone",
+        about: "Tells from logs which keys left, when and why",
+        options: [&GONE, asked(), &[]],
+    }
+}
+
 fn import_command<'a>(alloc: Global) -> Result<Command<'a>, AllocError> {
     let import = Command::new(alloc, "import")
         .about("Makes a script of what a running memcached tells of itself")
@@ -437,5 +569,7 @@ pub fn whole_command<'a>(alloc: Global) -> Result<Command<'a>, AllocError> {
     let command = with_command(alloc, command, record());
     let command = with_import(alloc, command);
     let command = with_command(alloc, command, open());
-    with_command(alloc, command, report())
+    let command = with_command(alloc, command, report());
+    let command = with_command(alloc, command, why());
+    with_command(alloc, command, gone())
 }

@@ -1,6 +1,6 @@
 //! The words of `lrudb import`.
 ghost use Rattle.std.specs.Prelude.{◌≡◌, ◌≤◌, length, map, true, false, IfOk};
-ghost use Rattle.rev_options.specs.Request.{IsInRange, IsOfWords, OpensBy, BringsBy, ReportsBy, RunsBy, asks_import};
+ghost use Rattle.rev_options.specs.Request.{IsInRange, IsOfWords, OpensBy, BringsBy, ReportsBy, RunsBy, LivesBy, asks_import};
 
 use crate::csv::{csv_import, sample_of};
 use crate::state::state_import;
@@ -212,6 +212,7 @@ pub fn import(alloc: Global, matches: &ArgMatches<'_>) -> Result<Request, Error>
     ensures brings { IfOk result (BringsBy false) }
     ensures runs { IfOk result (RunsBy false) }
     ensures reports { IfOk result (ReportsBy false) }
+    ensures lives { IfOk result (LivesBy false false) }
 {
     if let Some(inner) = matches.subcommand_matches("watch") {
         return Ok(Request::ImportWatch(watch_import(alloc, inner)?));

@@ -1,6 +1,7 @@
 //! The command line of `lrudb`: which words ask for what.
 #![tactic(auto)]
 
+mod asking;
 mod commands;
 mod csv;
 mod import;
@@ -11,12 +12,14 @@ mod state;
 mod table;
 
 ghost use Rattle.std.specs.Prelude.{◌≡◌, ◌≤◌, length, map, IfOk, IfSome, true, false};
-ghost use Rattle.rev_options.specs.Request.{IsInRange, IsHeap, IsOfWords, OpensBy, BringsBy, ReportsBy, RunsBy, asks_import, asks_open, asks_report, asks_run, brings, is_temp_ttl};
+ghost use Rattle.rev_options.specs.Request.{IsInRange, IsHeap, IsOfWords, OpensBy, BringsBy, ReportsBy, RunsBy, LivesBy, asks_import, asks_lives, asks_open, asks_report, asks_run, asks_why, brings, is_temp_ttl};
 
+use crate::asking::{asking_of, asks_lives, asks_why};
 use crate::commands::whole_command;
 use crate::import::{asks_import, import};
 use crate::opening::{asks_open, brings, opening_of};
 use crate::reporting::{asks_report, reporting_of};
+pub use asking::{AskedLogs, GoneAsked, WhyAsked};
 use clap::error::ErrorKind;
 use clap::{ArgMatches, Error};
 pub use csv::CsvImport;
@@ -77,6 +80,10 @@ pub enum Request {
     OpenCsv(CsvOpening),
     /// Play traces, and write a page that tells where the cache loses its keys.
     Report(Reporting),
+    /// Tell from logs what became of keys.
+    Why(WhyAsked),
+    /// Tell from logs which keys left.
+    Gone(GoneAsked),
 }
 
 /// Why there is no request.
@@ -145,6 +152,7 @@ fn run(alloc: Global, matches: &ArgMatches<'_>) -> Result<Request, Error>
     ensures brings { IfOk result (BringsBy false) }
     ensures runs { IfOk result (RunsBy true) }
     ensures reports { IfOk result (ReportsBy false) }
+    ensures lives { IfOk result (LivesBy false false) }
 {
     let config = config_of(matches);
     let heap = heap_of(alloc, matches)?;
@@ -201,6 +209,7 @@ fn recording(alloc: Global, matches: &ArgMatches<'_>) -> Result<Request, Error>
     ensures brings { IfOk result (BringsBy false) }
     ensures runs { IfOk result (RunsBy false) }
     ensures reports { IfOk result (ReportsBy false) }
+    ensures lives { IfOk result (LivesBy false false) }
 {
     let config = config_of(matches);
     let dialect = dialect_of(matches);
@@ -237,6 +246,7 @@ fn other_request(
     ensures brings { IfOk result (BringsBy brings) }
     ensures runs { IfOk result (RunsBy false) }
     ensures reports { IfOk result (ReportsBy false) }
+    ensures lives { IfOk result (LivesBy false false) }
 {
     if let Some(inner) = matches.subcommand_matches("record") {
         return recording(alloc, inner);
@@ -262,6 +272,7 @@ fn run_request(alloc: Global, matches: &ArgMatches<'_>) -> Result<Request, Error
     ensures brings { IfOk result (BringsBy false) }
     ensures runs { IfOk result (RunsBy true) }
     ensures reports { IfOk result (ReportsBy false) }
+    ensures lives { IfOk result (LivesBy false false) }
 {
     match matches.subcommand_matches("run") {
         Some(inner) => run(alloc, inner),
@@ -277,6 +288,7 @@ fn report_request(alloc: Global, matches: &ArgMatches<'_>) -> Result<Request, Er
     ensures brings { IfOk result (BringsBy false) }
     ensures runs { IfOk result (RunsBy false) }
     ensures reports { IfOk result (ReportsBy true) }
+    ensures lives { IfOk result (LivesBy false false) }
 {
     match matches.subcommand_matches("report") {
         Some(inner) => reporting_of(alloc, inner),
@@ -284,8 +296,8 @@ fn report_request(alloc: Global, matches: &ArgMatches<'_>) -> Result<Request, Er
     }
 }
 
-// What the words ask for by the parser's reading of them, or the parser's error. What the first word says is told
-// apart.
+// What the words ask for other than of logs by the parser's reading of them, or the parser's error. What the first word
+// says is told apart.
 fn request_of(
     alloc: Global,
     matches: &ArgMatches<'_>,
@@ -302,6 +314,7 @@ fn request_of(
     ensures brings { IfOk result (BringsBy brings) }
     ensures runs { IfOk result (RunsBy asks_run) }
     ensures reports { IfOk result (ReportsBy asks_report) }
+    ensures lives { IfOk result (LivesBy false false) }
 {
     if asks_run {
         run_request(alloc, matches)
@@ -330,17 +343,22 @@ fn parsed<S: AsStr>(alloc: Global, words: &[S]) -> Result<Request, Error>
     ensures brings { IfOk result (BringsBy (brings (map S.text words.now))) }
     ensures runs { IfOk result (RunsBy (asks_run (map S.text words.now))) }
     ensures reports { IfOk result (ReportsBy (asks_report (map S.text words.now))) }
+    ensures lives { IfOk result (LivesBy (asks_lives (map S.text words.now)) (asks_why (map S.text words.now))) }
 {
     let matches = whole_command(alloc)?.try_get_matches_from(words)?;
-    request_of(
-        alloc,
-        &matches,
-        asks_import(words),
-        asks_open(words),
-        brings(words),
-        asks_run(words),
-        asks_report(words),
-    )
+    if asks_lives(words) {
+        asking_of(alloc, &matches, asks_why(words))
+    } else {
+        request_of(
+            alloc,
+            &matches,
+            asks_import(words),
+            asks_open(words),
+            brings(words),
+            asks_run(words),
+            asks_report(words),
+        )
+    }
 }
 
 fn told(alloc: Global, error: Error) -> Refused {
@@ -357,8 +375,9 @@ fn told(alloc: Global, error: Error) -> Refused {
 ///
 /// Words that ask for nothing that there is are refused with the parser's text, and so is a wish for help; a want of
 /// memory is told apart. An import is asked for by the first word `import` alone, an opening by `open`, a run by `run`,
-/// and a report by `report`. An opening imports only where a word begins with `--watch` or `--csv`. Whether a store can
-/// be opened with the numbers is `rev_classes::fault_of`'s to say.
+/// a report by `report`, the lives of keys by `why`, and the keys that left by `gone`. An opening imports only where a
+/// word begins with `--watch` or `--csv`. Whether a store can be opened with the numbers is `rev_classes::fault_of`'s to
+/// say.
 pub fn parse_words<S: AsStr>(alloc: Global, words: &[S]) -> Result<Request, Refused>
     ensures range { IfOk result IsInRange }
     ensures words { IfOk result (IsOfWords (asks_import (map S.text words.now))) }
@@ -366,6 +385,7 @@ pub fn parse_words<S: AsStr>(alloc: Global, words: &[S]) -> Result<Request, Refu
     ensures brings { IfOk result (BringsBy (brings (map S.text words.now))) }
     ensures runs { IfOk result (RunsBy (asks_run (map S.text words.now))) }
     ensures reports { IfOk result (ReportsBy (asks_report (map S.text words.now))) }
+    ensures lives { IfOk result (LivesBy (asks_lives (map S.text words.now)) (asks_why (map S.text words.now))) }
 {
     match parsed(alloc, words) {
         Ok(asked) => Ok(asked),

@@ -1,6 +1,6 @@
 //! The words of `lrudb open`.
 ghost use Rattle.std.specs.Prelude.{◌≡◌, map, true, false, IfOk, IfSome};
-ghost use Rattle.rev_options.specs.Request.{IsInRange, IsOfWords, asks_open, OpensBy, BringsBy, ReportsBy, RunsBy, begins_with, brings, is_temp_ttl};
+ghost use Rattle.rev_options.specs.Request.{IsInRange, IsOfWords, asks_open, OpensBy, BringsBy, ReportsBy, RunsBy, LivesBy, begins_with, brings, is_temp_ttl};
 
 use crate::csv::sample_of;
 use crate::import::{STANDARD, factor_of, required, rhythm_of};
@@ -165,6 +165,7 @@ fn brought(alloc: Global, matches: &ArgMatches<'_>) -> Result<Option<Request>, E
     ensures brings { IfOk result (λ asked. IfSome asked (BringsBy true)) }
     ensures runs { IfOk result (λ asked. IfSome asked (RunsBy false)) }
     ensures reports { IfOk result (λ asked. IfSome asked (ReportsBy false)) }
+    ensures lives { IfOk result (λ asked. IfSome asked (LivesBy false false)) }
 {
     let manner = manner_of(matches);
     let logs = named(alloc, matches, "watch", NO_STANDARD)?;
@@ -189,6 +190,7 @@ pub fn opening_of(alloc: Global, matches: &ArgMatches<'_>, brings: bool) -> Resu
     ensures brings { IfOk result (BringsBy brings) }
     ensures runs { IfOk result (RunsBy false) }
     ensures reports { IfOk result (ReportsBy false) }
+    ensures lives { IfOk result (LivesBy false false) }
 {
     if brings {
         if let Some(asked) = brought(alloc, matches)? {

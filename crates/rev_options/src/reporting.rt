@@ -1,6 +1,6 @@
 //! The words of `lrudb report`.
 ghost use Rattle.std.specs.Prelude.{◌≡◌, map, true, false, IfOk};
-ghost use Rattle.rev_options.specs.Request.{IsInRange, IsOfWords, IsPlayedInRange, OpensBy, BringsBy, ReportsBy, RunsBy, asks_report};
+ghost use Rattle.rev_options.specs.Request.{IsInRange, IsOfWords, IsPlayedInRange, OpensBy, BringsBy, ReportsBy, RunsBy, LivesBy, asks_report};
 
 use crate::import::{STANDARD, factor, given, number, required};
 use crate::opening::{
@@ -204,6 +204,7 @@ pub(crate) fn reporting_of(alloc: Global, matches: &ArgMatches<'_>) -> Result<Re
     ensures brings { IfOk result (BringsBy false) }
     ensures runs { IfOk result (RunsBy false) }
     ensures reports { IfOk result (ReportsBy true) }
+    ensures lives { IfOk result (LivesBy false false) }
 {
     Ok(Request::Report(Reporting {
         played: played_of(alloc, matches)?,

@@ -1,10 +1,10 @@
 -- What the status tells of how the program ended.
-use Rattle.std.proofs.Common.{◌≡◌, ◌≢◌, inl, inr, ℕ, List, [], Option, None, Some, String, Result, Ok, Err, IfErr, MatchResult, refl, sym, ◌∙◌, append-nil}
+use Rattle.std.proofs.Common.{◌≡◌, ◌≢◌, ◌≤◌, inl, inr, ℕ, List, [], Option, None, Some, String, Result, Ok, Err, IfErr, MatchResult, refl, sym, ◌∙◌, append-nil, arith}
 use Rattle.std.specs.declared.alloc.Global.{Global}
 use Rattle.std.specs.Io.KnownBytes.{Keeps, Appends}
 use Rattle.rev_program.specs.Opening.{IsNoted, full_text}
 use Rattle.rev_messages.specs.Ends.{StopsBy, EndsPlainly, IsStatus}
-use Rattle.rev_program.specs.Program.{EndsEarly, EndsBehind, EndsNoted, EndsUnwritten}
+use Rattle.rev_program.specs.Program.{EndsAsked, EndsEarly, EndsBehind, EndsNoted, EndsUnwritten}
 use Rattle.rev_script.specs.declared.dialect.Dialect.{Dialect}
 use Rattle.rev_recordings.specs.Recordings.{HasNoRows}
 use Rattle.rev_messages.specs.Stop as stop
@@ -12,6 +12,7 @@ use Rattle.rev_messages.specs.Telling.{Told}
 use Rattle.rev_recordings.specs.declared.fault.RecordingFault.{RecordingFault}
 use Rattle.rev_program.specs.declared.opening.Full.{Full}
 use Rattle.rev_messages.specs.declared.stop.Stop.{Stop}
+use Rattle.rev_messages.specs.declared.stop.Stop.TheVariants.{Usage, BadPage, BadFactor, TooManyClasses, BadLimit, Memory, CannotRead, CannotOpen, NotAStep, CannotWrite, TooLong, CannotWriteFile, BadLine, BadStats, NoEvent, BadRow, NoRow, BadImport}
 
 module _ (told tells : Option (List ℕ)) (before after : ℕ) where
   pub stopped_of : (r : Result (Unit {0}) Stop) (n : ℕ) →
@@ -79,3 +80,47 @@ behind_of told tells before after n h = plainly told tells before after n h.quie
 
 pub noted_plainly : (told tells : Option (List ℕ)) (before after n : ℕ) → EndsPlainly told tells before after n → EndsNoted told tells before after n
 noted_plainly told tells before after n h = noted_of told tells before after n (behind_of told tells before after n h)
+
+-- a program that is stopped ends with neither 0 nor 1
+pub stop_status : (s : Stop) → 2 ≤ stop.status s
+stop_status (Usage told) = omega arith
+stop_status BadPage = omega arith
+stop_status BadFactor = omega arith
+stop_status TooManyClasses = omega arith
+stop_status BadLimit = omega arith
+stop_status Memory = omega arith
+stop_status CannotRead = omega arith
+stop_status (CannotOpen name) = omega arith
+stop_status (NotAStep file line) = omega arith
+stop_status CannotWrite = omega arith
+stop_status TooLong = omega arith
+stop_status (CannotWriteFile name) = omega arith
+stop_status (BadLine log n fault) = omega arith
+stop_status (BadStats file fault) = omega arith
+stop_status (NoEvent log) = omega arith
+stop_status (BadRow trace n fault) = omega arith
+stop_status (NoRow trace) = omega arith
+stop_status (BadImport told) = omega arith
+
+-- logs were asked of keys, and the program was stopped
+pub asked_stopped : (told tells : Option (List ℕ)) (before after : ℕ) (s : Stop) (n : ℕ) → IsStatus n → n ≡ stop.status s → Told told tells before after (stop.text s) → EndsAsked told tells before after n
+asked_stopped told tells before after s n range is text = record {
+  status_is = inl range;
+  done = λ few. absurd (let least = stop_status s in omega (arith, least, few, is));
+  stopped = λ some more. (s, record { status_is = is; text_is = text });
+}
+
+-- the same, and all went well: a key may be missing
+pub asked_well : (told tells : Option (List ℕ)) (before after : ℕ) (notes : List ℕ) → Told told tells before after notes → EndsAsked told tells before after 0
+asked_well told tells before after notes noted = record {
+  status_is = inl (omega arith, λ e. omega (arith, e));
+  done = λ few. (notes, noted);
+  stopped = λ some more. absurd (some refl);
+}
+
+pub asked_missing : (told tells : Option (List ℕ)) (before after : ℕ) (notes : List ℕ) → Told told tells before after notes → EndsAsked told tells before after 1
+asked_missing told tells before after notes noted = record {
+  status_is = inr refl;
+  done = λ few. (notes, noted);
+  stopped = λ some more. absurd (more refl);
+}

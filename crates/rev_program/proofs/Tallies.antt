@@ -8,7 +8,7 @@ use Rattle.rev_program.specs.Program.{EndsRun, IsCounted, tally_text}
 use Rattle.rev_messages.specs.Stop.{status, text}
 use Rattle.rev_messages.specs.Telling.{Told, joined}
 use Rattle.rev_messages.specs.declared.stop.Stop.{Stop}
-use Rattle.rev_messages.specs.declared.stop.Stop.TheVariants.{Usage, BadPage, BadFactor, TooManyClasses, BadLimit, Memory, CannotRead, CannotOpen, NotAStep, CannotWrite, TooLong, CannotWriteFile, BadLine, BadStats, NoEvent, BadRow, NoRow, BadImport}
+use Rattle.rev_program.proofs.Ends.{stop_status}
 
 other : (n m : ℕ) → (n ≡ m → ⊥) → nat_eq n m ≡ false
 other n m differs = elim (cases_Bool (nat_eq n m)) [
@@ -31,24 +31,7 @@ more_told P t so count first some many number digits told =
 
 -- a program that is stopped does not end with 0
 some_status : (s : Stop) → status s ≡ 0 → ⊥
-some_status (Usage told) e = omega (arith, e)
-some_status BadPage e = omega (arith, e)
-some_status BadFactor e = omega (arith, e)
-some_status TooManyClasses e = omega (arith, e)
-some_status BadLimit e = omega (arith, e)
-some_status Memory e = omega (arith, e)
-some_status CannotRead e = omega (arith, e)
-some_status (CannotOpen name) e = omega (arith, e)
-some_status (NotAStep file line) e = omega (arith, e)
-some_status CannotWrite e = omega (arith, e)
-some_status TooLong e = omega (arith, e)
-some_status (CannotWriteFile name) e = omega (arith, e)
-some_status (BadLine log n fault) e = omega (arith, e)
-some_status (BadStats file fault) e = omega (arith, e)
-some_status (NoEvent log) e = omega (arith, e)
-some_status (BadRow trace n fault) e = omega (arith, e)
-some_status (NoRow trace) e = omega (arith, e)
-some_status (BadImport told) e = omega (arith, e)
+some_status s e = let least = stop_status s in omega (arith, least, e)
 
 -- a run that was stopped
 pub run_stopped : (told tells : Option (List ℕ)) (before after : ℕ) (s : Stop) (n : ℕ) → IsStatus n → n ≡ status s → Told told tells before after (text s) → EndsRun told tells before after n

@@ -1,6 +1,6 @@
 -- How the program may end.
 -- Rule of this project: what its user is told, and when nothing.
-use Rattle.std.specs.Prelude.{◌≡◌, ◌≢◌, ◌⊎◌, ℕ, List, [], ◌∷◌, Option, cond, nat_eq, codes, decimal}
+use Rattle.std.specs.Prelude.{◌≡◌, ◌≢◌, ◌≤◌, ◌⊎◌, ℕ, List, [], ◌∷◌, Option, cond, nat_eq, codes, decimal}
 use Rattle.std.specs.Io.KnownBytes.{Keeps}
 use Rattle.rev_recordings.specs.Fault as fault
 use Rattle.rev_messages.specs.Ends.{IsStatus, StopsBy}
@@ -67,3 +67,9 @@ pub record EndsRun (told tells : Option (List ℕ)) (before after : ℕ) (result
   pub status_is : IsStatus result
   pub done : result ≡ 0 → (sum : Summary) × IsCounted told tells before after sum
   pub early : result ≢ 0 → EndsEarly told tells before after result
+
+-- logs were asked of keys: at status 0, and at 1, notes were told and nothing else, else why the program was stopped
+pub record EndsAsked (told tells : Option (List ℕ)) (before after : ℕ) (result : ℕ) : Type 0 where
+  pub status_is : IsStatus result ⊎ (result ≡ 1)
+  pub done : result ≤ 1 → (notes : List ℕ) × Told told tells before after notes
+  pub stopped : result ≢ 0 → result ≢ 1 → (s : Stop) × StopsBy told tells before after result s

@@ -4,6 +4,7 @@
 mod agreement;
 pub mod direct;
 mod json;
+pub mod lives;
 pub mod opening;
 pub mod program;
 pub mod report;

@@ -2,15 +2,16 @@
 ghost use Rattle.std.specs.Prelude.{◌≡◌, ◌≢◌, ◌≤◌, length, map, true, false, Err, IfOk, IfSome};
 ghost use Rattle.std.specs.Io.KnownBytes.{Keeps};
 ghost use Rattle.rev_classes.specs.Limits.{IsWithinLimits, fault_of};
-ghost use Rattle.rev_options.specs.Request.{asks_import, asks_open, asks_report, asks_run, brings};
+ghost use Rattle.rev_options.specs.Request.{asks_import, asks_lives, asks_open, asks_report, asks_run, asks_why, brings};
 ghost use Rattle.rev_messages.specs.Progress.{asks_progress};
 ghost use Rattle.rev_messages.specs.Ends.{IsStatus, StopsBy, EndsPlainly};
 ghost use Rattle.rev_messages.specs.Stop.{stop_of_config};
 ghost use Rattle.rev_messages.specs.Telling.{Told};
-ghost use Rattle.rev_program.specs.Program.{EndsEarly, EndsBehind, EndsNoted, EndsUnwritten, EndsRun, IsCounted, tally_text};
+ghost use Rattle.rev_program.specs.Program.{EndsAsked, EndsEarly, EndsBehind, EndsNoted, EndsUnwritten, EndsRun, IsCounted, tally_text};
 
 use crate::direct::{open_csv, open_watch};
 use crate::json::run_script_as_json;
+use crate::lives::{gone, why};
 use crate::opening::open_traces;
 use crate::report::report;
 use crate::starts::started;
@@ -329,13 +330,14 @@ fn program_with<
     C: Clock,
     W: Sink,
 >(rt: &R, words: &[S], reader: I, mut writer: O, errors: &mut E, progress: &Progress<C, W>) -> u8
-    ensures status { IsStatus result }
-    ensures early { result ≢ 0 → asks_open (map S.text words.now) ≡ false → EndsEarly (E.contents errors.old) (E.contents errors.new) (E.failures errors.old) (E.failures errors.new) result }
-    ensures quiet { result ≡ 0 → asks_import (map S.text words.now) ≡ false → asks_open (map S.text words.now) ≡ false → asks_run (map S.text words.now) ≡ false → Keeps (E.contents errors.old) (E.contents errors.new) }
+    ensures status { asks_why (map S.text words.now) ≡ false → IsStatus result }
+    ensures early { result ≢ 0 → asks_open (map S.text words.now) ≡ false → asks_lives (map S.text words.now) ≡ false → EndsEarly (E.contents errors.old) (E.contents errors.new) (E.failures errors.old) (E.failures errors.new) result }
+    ensures quiet { result ≡ 0 → asks_import (map S.text words.now) ≡ false → asks_open (map S.text words.now) ≡ false → asks_run (map S.text words.now) ≡ false → asks_lives (map S.text words.now) ≡ false → Keeps (E.contents errors.old) (E.contents errors.new) }
     ensures run { asks_run (map S.text words.now) ≡ true → EndsRun (E.contents errors.old) (E.contents errors.new) (E.failures errors.old) (E.failures errors.new) result }
-    ensures noted { asks_import (map S.text words.now) ≡ false → asks_run (map S.text words.now) ≡ false → EndsNoted (E.contents errors.old) (E.contents errors.new) (E.failures errors.old) (E.failures errors.new) result }
-    ensures behind { asks_import (map S.text words.now) ≡ false → asks_run (map S.text words.now) ≡ false → brings (map S.text words.now) ≡ false → EndsBehind (E.contents errors.old) (E.contents errors.new) (E.failures errors.old) (E.failures errors.new) result }
+    ensures noted { asks_import (map S.text words.now) ≡ false → asks_run (map S.text words.now) ≡ false → asks_lives (map S.text words.now) ≡ false → EndsNoted (E.contents errors.old) (E.contents errors.new) (E.failures errors.old) (E.failures errors.new) result }
+    ensures behind { asks_import (map S.text words.now) ≡ false → asks_run (map S.text words.now) ≡ false → asks_lives (map S.text words.now) ≡ false → brings (map S.text words.now) ≡ false → EndsBehind (E.contents errors.old) (E.contents errors.new) (E.failures errors.old) (E.failures errors.new) result }
     ensures report { asks_report (map S.text words.now) ≡ true → EndsPlainly (E.contents errors.old) (E.contents errors.new) (E.failures errors.old) (E.failures errors.new) result }
+    ensures lives { asks_lives (map S.text words.now) ≡ true → EndsAsked (E.contents errors.old) (E.contents errors.new) (E.failures errors.old) (E.failures errors.new) result }
 {
     match parse_words(rt.alloc(), words) {
         Err(refused) => ended(Err(Stop::from(refused)), errors),
@@ -370,16 +372,20 @@ fn program_with<
         Ok(Request::OpenWatch(asked)) => open_watch(rt, asked, reader, writer, errors, progress),
         Ok(Request::OpenCsv(asked)) => open_csv(rt, asked, reader, writer, errors, progress),
         Ok(Request::Report(asked)) => report(rt, asked, errors, progress),
+        Ok(Request::Why(asked)) => why(rt, asked, reader, writer, errors, progress),
+        Ok(Request::Gone(asked)) => gone(rt, asked, reader, writer, errors, progress),
     }
 }
 
-/// The whole program: does what the words behind its name ask for, and answers its exit status, 0 or 2 to 6.
+/// The whole program: does what the words behind its name ask for, and answers its exit status: 0, 2 to 6, or 1 where
+/// `why` is asked for a key that was never seen.
 ///
 /// Answers go to `writer`. At status 0 nothing goes to `errors`, but what an import tells of itself, that of `open`
-/// too, what is told of traces that fill the tree, and which commands of a run were malformed or refused; at any other
-/// the text of the reason does, whole where no write to `errors` has failed. A report goes to its files, and only how
-/// the program was stopped is told of it. How far traces and imports have come goes to `progress`, and nothing does
-/// where no word asks for it. The players of a recording wait for one another.
+/// too, what is told of traces that fill the tree, which commands of a run were malformed or refused, and what is to be
+/// known of logs that were asked of keys. At status 1 that goes there, too. At any other the text of the reason does,
+/// whole where no write to `errors` has failed. A report goes to its files, and only how the program was stopped is told
+/// of it. How far traces, imports and logs have come goes to `progress`, and nothing does where no word asks for it. The
+/// players of a recording wait for one another.
 pub fn program<
     R: Files + Threads + Wait + Clock + Sync + AllocGlobal,
     S: AsStr,
@@ -388,13 +394,14 @@ pub fn program<
     E: Sink,
     P: Write,
 >(rt: &R, words: &[S], reader: I, writer: O, errors: &mut E, progress: &mut P) -> u8
-    ensures status { IsStatus result }
-    ensures early { result ≢ 0 → asks_open (map S.text words.now) ≡ false → EndsEarly (E.contents errors.old) (E.contents errors.new) (E.failures errors.old) (E.failures errors.new) result }
-    ensures quiet { result ≡ 0 → asks_import (map S.text words.now) ≡ false → asks_open (map S.text words.now) ≡ false → asks_run (map S.text words.now) ≡ false → Keeps (E.contents errors.old) (E.contents errors.new) }
+    ensures status { asks_why (map S.text words.now) ≡ false → IsStatus result }
+    ensures early { result ≢ 0 → asks_open (map S.text words.now) ≡ false → asks_lives (map S.text words.now) ≡ false → EndsEarly (E.contents errors.old) (E.contents errors.new) (E.failures errors.old) (E.failures errors.new) result }
+    ensures quiet { result ≡ 0 → asks_import (map S.text words.now) ≡ false → asks_open (map S.text words.now) ≡ false → asks_run (map S.text words.now) ≡ false → asks_lives (map S.text words.now) ≡ false → Keeps (E.contents errors.old) (E.contents errors.new) }
     ensures run { asks_run (map S.text words.now) ≡ true → EndsRun (E.contents errors.old) (E.contents errors.new) (E.failures errors.old) (E.failures errors.new) result }
-    ensures noted { asks_import (map S.text words.now) ≡ false → asks_run (map S.text words.now) ≡ false → EndsNoted (E.contents errors.old) (E.contents errors.new) (E.failures errors.old) (E.failures errors.new) result }
-    ensures behind { asks_import (map S.text words.now) ≡ false → asks_run (map S.text words.now) ≡ false → brings (map S.text words.now) ≡ false → EndsBehind (E.contents errors.old) (E.contents errors.new) (E.failures errors.old) (E.failures errors.new) result }
+    ensures noted { asks_import (map S.text words.now) ≡ false → asks_run (map S.text words.now) ≡ false → asks_lives (map S.text words.now) ≡ false → EndsNoted (E.contents errors.old) (E.contents errors.new) (E.failures errors.old) (E.failures errors.new) result }
+    ensures behind { asks_import (map S.text words.now) ≡ false → asks_run (map S.text words.now) ≡ false → asks_lives (map S.text words.now) ≡ false → brings (map S.text words.now) ≡ false → EndsBehind (E.contents errors.old) (E.contents errors.new) (E.failures errors.old) (E.failures errors.new) result }
     ensures report { asks_report (map S.text words.now) ≡ true → EndsPlainly (E.contents errors.old) (E.contents errors.new) (E.failures errors.old) (E.failures errors.new) result }
+    ensures lives { asks_lives (map S.text words.now) ≡ true → EndsAsked (E.contents errors.old) (E.contents errors.new) (E.failures errors.old) (E.failures errors.new) result }
     ensures progress { asks_progress (map S.text words.now) ≡ false → Keeps (P.contents progress.old) (P.contents progress.new) }
 {
     if asks_progress(words) {

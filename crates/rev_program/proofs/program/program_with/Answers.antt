@@ -1,5 +1,5 @@
 use Rattle.std.proofs.Common.{inl, rules, Err}
-use Rattle.rev_program.proofs.Ends.{stopped_of, plainly, plain_of, unnoted, noted_of, noted_plainly, behind_of, early_of}
+use Rattle.rev_program.proofs.Ends.{asked_stopped, stopped_of, plainly, plain_of, unnoted, noted_of, noted_plainly, behind_of, early_of}
 use Rattle.rev_program.proofs.Tallies.{run_stopped}
 use Rattle.rev_program.proofs.program.program_with.Goals as goal
 
@@ -7,7 +7,7 @@ pub returns-in-Err-clause-status : goal.returns-in-Err-clause-status
 returns-in-Err-clause-status c = search rules steps 4000000
 
 pub returns-in-Ok-Run-clause-early : goal.returns-in-Ok-Run-clause-early
-returns-in-Ok-Run-clause-early g c = λ some other. c.ended_run.ensures.early some
+returns-in-Ok-Run-clause-early g c = λ some other lives. c.ended_run.ensures.early some
 
 pub returns-in-Ok-Run-clause-run : goal.returns-in-Ok-Run-clause-run
 returns-in-Ok-Run-clause-run g c = λ asks. c.ended_run.ensures
@@ -17,46 +17,58 @@ returns-in-Err-clause-run g c = λ asks. run_stopped _ _ _ _ c.from.result _ c.e
 
 pub returns-in-Err-clause-behind : goal.returns-in-Err-clause-behind
 returns-in-Err-clause-behind g c =
-    λ i r b. plainly _ _ _ _ _ c.ended.ensures.quiet (λ n. inl (stopped_of _ _ _ _ (Err c.from.result) _ c.ended.ensures.status c.ended.ensures.told n))
+    λ i r l b. plainly _ _ _ _ _ c.ended.ensures.quiet (λ n. inl (stopped_of _ _ _ _ (Err c.from.result) _ c.ended.ensures.status c.ended.ensures.told n))
 
 pub returns-in-Ok-Record-clause-behind : goal.returns-in-Ok-Record-clause-behind
 returns-in-Ok-Record-clause-behind g c =
-    λ i r b. plainly _ _ _ _ _ c.record_files.ensures.quiet (λ n. early_of _ _ _ _ _ _ _ (c.record_files.ensures.early n))
+    λ i r l b. plainly _ _ _ _ _ c.record_files.ensures.quiet (λ n. early_of _ _ _ _ _ _ _ (c.record_files.ensures.early n))
 
 pub returns-in-Err-clause-noted : goal.returns-in-Err-clause-noted
 returns-in-Err-clause-noted g c =
-    λ i r. unnoted _ _ _ _ _ c.ended.ensures.quiet (λ n. inl (stopped_of _ _ _ _ (Err c.from.result) _ c.ended.ensures.status c.ended.ensures.told n))
+    λ i r l. unnoted _ _ _ _ _ c.ended.ensures.quiet (λ n. inl (stopped_of _ _ _ _ (Err c.from.result) _ c.ended.ensures.status c.ended.ensures.told n))
 
 pub returns-in-Ok-Record-clause-noted : goal.returns-in-Ok-Record-clause-noted
 returns-in-Ok-Record-clause-noted g c =
-    λ i r. unnoted _ _ _ _ _ c.record_files.ensures.quiet (λ n. early_of _ _ _ _ _ _ _ (c.record_files.ensures.early n))
+    λ i r l. unnoted _ _ _ _ _ c.record_files.ensures.quiet (λ n. early_of _ _ _ _ _ _ _ (c.record_files.ensures.early n))
 
 pub returns-in-Ok-Open-clause-noted : goal.returns-in-Ok-Open-clause-noted
-returns-in-Ok-Open-clause-noted g c = λ i r. noted_of _ _ _ _ _ c.open_traces.ensures.ends
+returns-in-Ok-Open-clause-noted g c = λ i r l. noted_of _ _ _ _ _ c.open_traces.ensures.ends
 
 pub returns-in-Ok-OpenWatch-clause-noted : goal.returns-in-Ok-OpenWatch-clause-noted
-returns-in-Ok-OpenWatch-clause-noted g c = λ i r. c.open_watch.ensures.ends
+returns-in-Ok-OpenWatch-clause-noted g c = λ i r l. c.open_watch.ensures.ends
 
 pub returns-in-Ok-OpenCsv-clause-noted : goal.returns-in-Ok-OpenCsv-clause-noted
-returns-in-Ok-OpenCsv-clause-noted g c = λ i r. c.open_csv.ensures.ends
+returns-in-Ok-OpenCsv-clause-noted g c = λ i r l. c.open_csv.ensures.ends
 
 pub returns-in-Err-clause-report : goal.returns-in-Err-clause-report
 returns-in-Err-clause-report g c = λ asks. plain_of _ _ _ _ (Err c.from.result) _ c.ended.ensures.range c.ended.ensures.status c.ended.ensures.quiet c.ended.ensures.told
 
 pub returns-in-Ok-Report-clause-status : goal.returns-in-Ok-Report-clause-status
-returns-in-Ok-Report-clause-status g c = c.report.ensures.ends.status_is
+returns-in-Ok-Report-clause-status g c = λ w. c.report.ensures.ends.status_is
 
 pub returns-in-Ok-Report-clause-early : goal.returns-in-Ok-Report-clause-early
-returns-in-Ok-Report-clause-early g c = λ some other. inl (c.report.ensures.ends.stopped some)
+returns-in-Ok-Report-clause-early g c = λ some other lives. inl (c.report.ensures.ends.stopped some)
 
 pub returns-in-Ok-Report-clause-quiet : goal.returns-in-Ok-Report-clause-quiet
-returns-in-Ok-Report-clause-quiet g c = λ none i o r. c.report.ensures.ends.quiet none
+returns-in-Ok-Report-clause-quiet g c = λ none i o r l. c.report.ensures.ends.quiet none
 
 pub returns-in-Ok-Report-clause-noted : goal.returns-in-Ok-Report-clause-noted
-returns-in-Ok-Report-clause-noted g c = λ i r. noted_plainly _ _ _ _ _ c.report.ensures.ends
+returns-in-Ok-Report-clause-noted g c = λ i r l. noted_plainly _ _ _ _ _ c.report.ensures.ends
 
 pub returns-in-Ok-Report-clause-behind : goal.returns-in-Ok-Report-clause-behind
-returns-in-Ok-Report-clause-behind g c = λ i r b. behind_of _ _ _ _ _ c.report.ensures.ends
+returns-in-Ok-Report-clause-behind g c = λ i r l b. behind_of _ _ _ _ _ c.report.ensures.ends
 
 pub returns-in-Ok-Report-clause-report : goal.returns-in-Ok-Report-clause-report
 returns-in-Ok-Report-clause-report g c = λ asks. c.report.ensures.ends
+
+pub returns-in-Err-clause-lives : goal.returns-in-Err-clause-lives
+returns-in-Err-clause-lives g c = λ asks. asked_stopped _ _ _ _ c.from.result _ c.ended.ensures.range c.ended.ensures.status c.ended.ensures.told
+
+pub returns-in-Ok-Why-clause-lives : goal.returns-in-Ok-Why-clause-lives
+returns-in-Ok-Why-clause-lives g c = λ asks. c.why.ensures
+
+pub returns-in-Ok-Gone-clause-lives : goal.returns-in-Ok-Gone-clause-lives
+returns-in-Ok-Gone-clause-lives g c = λ asks. c.gone.ensures.ends
+
+pub returns-in-Ok-Gone-clause-status : goal.returns-in-Ok-Gone-clause-status
+returns-in-Ok-Gone-clause-status g c = λ w. c.gone.ensures.status

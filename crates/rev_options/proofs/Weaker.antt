@@ -1,0 +1,28 @@
+-- What is asked for by words of no kind is asked for by any.
+use Rattle.std.proofs.Common.{◌≡◌, Bool, true, false, Result, Ok, Err, IfOk}
+use Rattle.rev_options.specs.Request.{IsOfWords, OpensBy, BringsBy}
+use Rattle.rev_options.specs.declared.Request.{Request}
+use Rattle.rev_options.specs.declared.Request.TheVariants.{ImportWatch, ImportCsv, ImportState, Open, OpenWatch, OpenCsv}
+
+-- what is no import is asked for by any words
+pub no_import : {E : Type 0} (asks : Bool) (r : Result Request E) → IfOk r (IsOfWords false) → IfOk r (IsOfWords asks)
+no_import asks (Ok (ImportWatch asked)) h = absurd (let e : false ≡ true = h in cc)
+no_import asks (Ok (ImportCsv asked)) h = absurd (let e : false ≡ true = h in cc)
+no_import asks (Ok (ImportState asked)) h = absurd (let e : false ≡ true = h in cc)
+no_import asks (Ok other) h = tt
+no_import asks (Err e) h = tt
+
+-- and what is no opening
+pub no_opening : {E : Type 0} (asks : Bool) (r : Result Request E) → IfOk r (OpensBy false) → IfOk r (OpensBy asks)
+no_opening asks (Ok (Open asked)) h = absurd (let e : false ≡ true = h in cc)
+no_opening asks (Ok (OpenWatch asked)) h = absurd (let e : false ≡ true = h in cc)
+no_opening asks (Ok (OpenCsv asked)) h = absurd (let e : false ≡ true = h in cc)
+no_opening asks (Ok other) h = tt
+no_opening asks (Err e) h = tt
+
+-- and what is no import of an opening
+pub brings_none : {E : Type 0} (brings : Bool) (r : Result Request E) → IfOk r (BringsBy false) → IfOk r (BringsBy brings)
+brings_none brings (Ok (OpenWatch asked)) h = absurd (let e : false ≡ true = h in cc)
+brings_none brings (Ok (OpenCsv asked)) h = absurd (let e : false ≡ true = h in cc)
+brings_none brings (Ok other) h = tt
+brings_none brings (Err e) h = tt
