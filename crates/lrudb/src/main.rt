@@ -30,7 +30,7 @@ fn main(rt: HostRuntime) -> ExitCode {
         &rt,
         words.as_slice(),
         rt.stdin(),
-        rt.stdout(),
+        &mut rt.stdout(),
         &mut ToWrite::new(rt.stderr()),
         &mut rt.stderr(),
     );

@@ -54,7 +54,7 @@ fn run<R: Files + AllocGlobal>(
         None,
         Vec::new(rt.alloc()),
         script,
-        Sink::new(tally),
+        &mut Sink::new(tally),
     )
 }
 

@@ -1,4 +1,4 @@
--- How many moves a lookup takes.
+-- How many moves a lookup takes, and what goes by it.
 -- Rule of this project: memory for them is taken before the first.
 use Rattle.std.specs.Prelude.{ℕ, cond, List, Option, None, Some}
 use Rattle.rev_items.specs.Plain.{PlainItem}
@@ -29,3 +29,12 @@ found_need (Some x) = 4
 -- of a lookup and of what it found
 abbrev pub removal_need : State → List ℕ → ℕ
 removal_need s k = found_need (find s k)
+
+-- five moves where the key has an item that is evicted: it leaves, and is counted
+abbrev pub evicted_need : Option ChunkRef → ℕ
+evicted_need None = 0
+evicted_need (Some x) = 5
+
+-- of a lookup and of what is evicted by it
+abbrev pub eviction_need : State → List ℕ → ℕ
+eviction_need s k = evicted_need (find s k)

@@ -4,15 +4,14 @@ ghost use Rattle.rev_model.specs.State.{find};
 ghost use Rattle.rev_model.specs.Client.{delete as delete_of};
 ghost use Rattle.rev_model.specs.Sound.{Sound};
 ghost use Rattle.rev_model.specs.Move.{LeadsBack};
-ghost use Rattle.rev_changes.specs.Leads.{Leads};
+ghost use Rattle.rev_inverse.specs.Leads.{Leads};
 ghost use Rattle.rev_model.specs.declared.Cause.TheVariants as causes;
-ghost use Rattle.rev_changes.specs.Telling.{Tells, TellsAll};
+ghost use Rattle.rev_inverse.specs.Telling.{Tells, TellsAll};
 ghost use Rattle.rev_model.specs.Causes.{clear_removals};
 ghost use Rattle.rev_commands.specs.Looking.{removal_need};
 
 use crate::look::{lookup_at, removal_moves_at, remove};
-use rev_changes::Record;
-use rev_inverse::Store;
+use rev_inverse::{Record, Store};
 use rev_items::Key;
 use rev_model::{Cause, ChunkRef, Outcome};
 use std::alloc::{AllocError, Allocator};

@@ -4,17 +4,17 @@ ghost use Rattle.rev_model.specs.Client.{client as client_of};
 ghost use Rattle.rev_model.specs.Sound.{Sound};
 ghost use Rattle.rev_model.specs.Move.{LeadsBack};
 ghost use Rattle.rev_model.specs.Causes.{client_removals};
-ghost use Rattle.rev_changes.specs.Telling.{TellsAll};
+ghost use Rattle.rev_inverse.specs.Telling.{TellsAll};
 ghost use Rattle.rev_requests.specs.Plain.{plain_client, plain_keyed};
 
 use crate::delete::delete;
+use crate::evict::evict;
 use crate::flush::flush_all;
 use crate::get::get;
 use crate::steps::{count, join};
 use crate::store::store_item;
 use crate::touch::touch;
-use rev_changes::Record;
-use rev_inverse::Store;
+use rev_inverse::{Record, Store};
 use rev_items::Key;
 use rev_model::Outcome;
 use rev_requests::{ClientStep, KeyCommand};
@@ -39,6 +39,7 @@ fn keyed<A: Allocator + Clone>(
     match command {
         KeyCommand::Get => get(store, key),
         KeyCommand::Delete => delete(store, key),
+        KeyCommand::Evict => evict(store, key),
         KeyCommand::Touch(exptime) => touch(store, key, exptime),
         KeyCommand::Count(arithmetic) => count(store, arithmetic, key),
     }

@@ -4,12 +4,11 @@ ghost use Rattle.rev_model.specs.Client.{flush_all as flush_all_of, flush_moment
 ghost use Rattle.rev_model.specs.Sound.{Sound};
 ghost use Rattle.rev_model.specs.Move.{LeadsBack};
 ghost use Rattle.rev_model.specs.State.{State};
-ghost use Rattle.rev_changes.specs.Telling.{TellsAll};
+ghost use Rattle.rev_inverse.specs.Telling.{TellsAll};
 ghost use Rattle.rev_commands.specs.Flushing.{flushed};
 
-use rev_changes::{Change, Record};
 use rev_edits::moving::change;
-use rev_inverse::Store;
+use rev_inverse::{Change, Record, Store};
 use rev_items::moment;
 use rev_model::{Globals, Outcome, Timing};
 use std::alloc::{AllocError, Allocator};

@@ -7,14 +7,13 @@ ghost use Rattle.rev_model.specs.Sound.{Sound};
 ghost use Rattle.rev_model.specs.Move.{LeadsBack};
 ghost use Rattle.rev_model.specs.Causes.{look_removals};
 ghost use Rattle.rev_model.specs.declared.Outcome.TheVariants as outcome;
-ghost use Rattle.rev_changes.specs.Leads.{Leads};
-ghost use Rattle.rev_changes.specs.Telling.{Tells, TellsAll};
+ghost use Rattle.rev_inverse.specs.Leads.{Leads};
+ghost use Rattle.rev_inverse.specs.Telling.{Tells, TellsAll};
 ghost use Rattle.rev_commands.specs.Hitting.{access_need};
 
 use crate::hit::{access_moves, hit};
 use crate::look::lookup_at;
-use rev_changes::Record;
-use rev_inverse::Store;
+use rev_inverse::{Record, Store};
 use rev_items::Key;
 use rev_model::{ChunkRef, Outcome};
 use std::alloc::{AllocError, Allocator};

@@ -7,14 +7,13 @@ ghost use Rattle.rev_model.specs.Words.{header_of, queue_with};
 ghost use Rattle.rev_model.specs.Client.{hit as hit_of, hit_again as hit_again_of};
 ghost use Rattle.rev_model.specs.Sound.{Sound};
 ghost use Rattle.rev_model.specs.declared.Queue.{Queue};
-ghost use Rattle.rev_changes.specs.Leads.{Leads};
-ghost use Rattle.rev_changes.specs.Telling.{Tells};
+ghost use Rattle.rev_inverse.specs.Leads.{Leads};
+ghost use Rattle.rev_inverse.specs.Telling.{Tells};
 ghost use Rattle.rev_commands.specs.Hitting.{hit_need, led_need};
 
-use rev_changes::{Change, Record};
 use rev_edits::alter::retouch;
 use rev_edits::moving::change;
-use rev_inverse::Store;
+use rev_inverse::{Change, Record, Store};
 use rev_items::Bits;
 use rev_model::{BumpEntry, ChunkRef, ItemHeader, Queue, Touched, is_dead};
 use std::alloc::Allocator;

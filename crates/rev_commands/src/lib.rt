@@ -1,9 +1,10 @@
 //! The commands of clients (protocol.txt): lookups and hits, the storage commands, new data for an item that is there,
-//! and the end of all items.
+//! and the end of all items. `~evict` is this project's own.
 #![tactic(auto)]
 
 mod delete;
 mod dispatch;
+mod evict;
 mod flush;
 mod fresh;
 mod get;

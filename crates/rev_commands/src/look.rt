@@ -6,16 +6,15 @@ ghost use Rattle.rev_model.specs.State.{State, WellFormed, item_at, find, owner_
 ghost use Rattle.rev_model.specs.Words.{queue_with, dropped};
 ghost use Rattle.rev_model.specs.Client.{lookup, looked_item, removed};
 ghost use Rattle.rev_model.specs.Sound.{SoundBut, Stands};
-ghost use Rattle.rev_changes.specs.Leads.{Leads};
+ghost use Rattle.rev_inverse.specs.Leads.{Leads};
 ghost use Rattle.rev_model.specs.Track.{removal};
-ghost use Rattle.rev_changes.specs.Telling.{Tells};
+ghost use Rattle.rev_inverse.specs.Telling.{Tells};
 ghost use Rattle.rev_model.specs.Causes.{dead_removals, look_removals, clear_removals};
 ghost use Rattle.rev_commands.specs.Looking.{dead_need, look_need, found_need, removal_need};
 ghost use Rattle.rev_commands.specs.Finding.{standing};
 
-use rev_changes::Record;
 use rev_edits::leave::drop_item;
-use rev_inverse::Store;
+use rev_inverse::{Record, Store};
 use rev_items::Key;
 use rev_model::{Cause, ChunkRef, is_dead};
 use std::alloc::Allocator;

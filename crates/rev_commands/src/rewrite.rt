@@ -4,15 +4,14 @@ ghost use Rattle.rev_model.specs.State.{find};
 ghost use Rattle.rev_model.specs.Sound.{Sound};
 ghost use Rattle.rev_model.specs.Move.{LeadsBack};
 ghost use Rattle.rev_model.specs.Causes.{look_removals, rewrite_in_removals};
-ghost use Rattle.rev_changes.specs.Telling.{TellsAll};
+ghost use Rattle.rev_inverse.specs.Telling.{TellsAll};
 ghost use Rattle.rev_commands.specs.Rewriting.{rewritten_in, named};
 ghost use Rattle.rev_commands.specs.Drafts.{Drafted, Fits, missed, unchanged, carried, carried_removals};
 
 use crate::look::{REMOVAL_MOVES, lookup_at, removal_moves_at};
 use crate::place::place;
 use crate::plan::{Draft, Plan};
-use rev_changes::Record;
-use rev_inverse::Store;
+use rev_inverse::{Record, Store};
 use rev_items::Key;
 use rev_maintainer::room::plan_room;
 use rev_model::{ChunkRef, Outcome};

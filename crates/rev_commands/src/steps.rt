@@ -4,13 +4,12 @@ ghost use Rattle.rev_model.specs.Client.{join as join_of, count as count_of};
 ghost use Rattle.rev_model.specs.Sound.{Sound};
 ghost use Rattle.rev_model.specs.Move.{LeadsBack};
 ghost use Rattle.rev_model.specs.Causes.{join_removals, count_removals};
-ghost use Rattle.rev_changes.specs.Telling.{TellsAll};
+ghost use Rattle.rev_inverse.specs.Telling.{TellsAll};
 ghost use Rattle.rev_requests.specs.Plain.{plain_payload, plain_side, plain_sum, amount};
 
 use crate::plan::{plan_count, plan_join};
 use crate::rewrite::carry_out;
-use rev_changes::Record;
-use rev_inverse::Store;
+use rev_inverse::{Record, Store};
 use rev_items::Key;
 use rev_model::Outcome;
 use rev_requests::{Arithmetic, JoinSide, Payload};

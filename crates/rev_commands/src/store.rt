@@ -8,7 +8,7 @@ ghost use Rattle.rev_model.specs.State.{IsClass};
 ghost use Rattle.rev_model.specs.Move.{LeadsBack};
 ghost use Rattle.rev_model.specs.Causes.{failed_removals, store_in_removals, store_removals};
 ghost use Rattle.rev_model.specs.declared.Outcome.TheVariants as outcome;
-ghost use Rattle.rev_changes.specs.Telling.{TellsAll};
+ghost use Rattle.rev_inverse.specs.Telling.{TellsAll};
 ghost use Rattle.rev_requests.specs.Plain.{plain_verb, plain_payload};
 ghost use Rattle.rev_commands.specs.Placing.{stored_in};
 
@@ -16,8 +16,7 @@ use crate::fresh::{class_for, new_item};
 use crate::look::REMOVAL_MOVES;
 use crate::place::place;
 use crate::verbs::{failed_moves, give_up};
-use rev_changes::Record;
-use rev_inverse::Store;
+use rev_inverse::{Record, Store};
 use rev_items::{Data, Item, Key, moment};
 use rev_maintainer::room::plan_room;
 use rev_model::Outcome;

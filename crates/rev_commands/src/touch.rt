@@ -9,15 +9,14 @@ ghost use Rattle.rev_model.specs.Client.{touch as touch_of, until, hit as hit_of
 ghost use Rattle.rev_model.specs.Sound.{Sound};
 ghost use Rattle.rev_model.specs.Move.{LeadsBack};
 ghost use Rattle.rev_model.specs.Causes.{look_removals};
-ghost use Rattle.rev_changes.specs.Leads.{Leads};
-ghost use Rattle.rev_changes.specs.Telling.{Tells, TellsAll};
+ghost use Rattle.rev_inverse.specs.Leads.{Leads};
+ghost use Rattle.rev_inverse.specs.Telling.{Tells, TellsAll};
 ghost use Rattle.rev_commands.specs.Hitting.{hit_need, access_need};
 
 use crate::hit::{access_moves, hit};
 use crate::look::lookup_at;
-use rev_changes::Record;
 use rev_edits::alter::retouch;
-use rev_inverse::Store;
+use rev_inverse::{Record, Store};
 use rev_items::{Key, moment};
 use rev_model::{ChunkRef, ItemHeader, Outcome, Touched};
 use std::alloc::{AllocError, Allocator};

@@ -5,15 +5,14 @@ ghost use Rattle.rev_model.specs.Client.{refusal as refusal_of, failed};
 ghost use Rattle.rev_model.specs.Sound.{Sound};
 ghost use Rattle.rev_model.specs.Causes.{failed_removals};
 ghost use Rattle.rev_model.specs.declared.Outcome.{Outcome as OutcomeOf};
-ghost use Rattle.rev_changes.specs.Leads.{Leads};
-ghost use Rattle.rev_changes.specs.Telling.{Tells};
+ghost use Rattle.rev_inverse.specs.Leads.{Leads};
+ghost use Rattle.rev_inverse.specs.Telling.{Tells};
 ghost use Rattle.rev_requests.specs.Plain.{plain_verb};
 ghost use Rattle.rev_commands.specs.Finding.{held};
 ghost use Rattle.rev_commands.specs.Placing.{failed_need};
 
 use crate::look::{clear, removal_moves};
-use rev_changes::Record;
-use rev_inverse::Store;
+use rev_inverse::{Record, Store};
 use rev_items::Key;
 use rev_model::{Cause, ChunkRef, Outcome};
 use rev_requests::StoreVerb;

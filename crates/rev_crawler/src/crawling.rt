@@ -10,13 +10,12 @@ ghost use Rattle.rev_model.specs.Causes.{crawl_removals, crawl_item_removals};
 ghost use Rattle.rev_model.specs.Track.{removal};
 ghost use Rattle.rev_model.specs.Sound.{Sound, Stands};
 ghost use Rattle.rev_model.specs.Move.{LeadsBack};
-ghost use Rattle.rev_changes.specs.Telling.{TellsAll};
+ghost use Rattle.rev_inverse.specs.Telling.{TellsAll};
 
 use crate::reads::{is_class, unchanged};
-use rev_changes::{Change, Record};
 use rev_edits::leave::discard;
 use rev_edits::moving::change;
-use rev_inverse::Store;
+use rev_inverse::{Change, Record, Store};
 use rev_model::{Cause, ChunkRef, Counter, Entry, Listed, Outcome, Placed, Queue, is_dead};
 use std::alloc::{AllocError, Allocator};
 

@@ -3,10 +3,9 @@ ghost use Rattle.std.specs.Prelude.{◌≡◌, ◌<◌, IfOk, [], true, false};
 ghost use Rattle.rev_model.specs.State.{WellFormed, IsClass};
 ghost use Rattle.rev_model.specs.Move.{is_class, names, names_other, LeadsBack};
 ghost use Rattle.rev_model.specs.Actor.{has_mark, is_busy};
-ghost use Rattle.rev_changes.specs.Telling.{TellsAll};
+ghost use Rattle.rev_inverse.specs.Telling.{TellsAll};
 
-use rev_changes::Record;
-use rev_inverse::Store;
+use rev_inverse::{Record, Store};
 use rev_model::{ClassSet, Outcome, Queue};
 use std::alloc::{AllocError, Allocator};
 

@@ -6,8 +6,8 @@ use Rattle.rev_model.specs.Move.{Move, moved, reverse, Possible}
 use Rattle.rev_model.specs.Track.{Removal, removals, removed}
 use Rattle.rev_model.proofs.Notes.{removals-made}
 use Rattle.rev_model.specs.declared.Cause.{Cause}
-use Rattle.rev_changes.specs.Record.{PlainRecord}
-use Rattle.rev_changes.specs.Telling.{Tells, TellsAll}
+use Rattle.rev_inverse.specs.Record.{PlainRecord}
+use Rattle.rev_inverse.specs.Telling.{Tells, TellsAll}
 
 pub append_nil : {X : Type 0} (l : List X) → l ++ [] ≡ l
 append_nil [] = refl

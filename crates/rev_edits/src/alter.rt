@@ -10,12 +10,11 @@ ghost use Rattle.rev_model.specs.declared.Entry.TheVariants.{Chunk};
 ghost use Rattle.rev_model.specs.Words.{counted, headed, with_item, header_of};
 ghost use Rattle.rev_model.specs.Pull.{warmed, cooled};
 ghost use Rattle.rev_model.specs.Sound.{Stands};
-ghost use Rattle.rev_changes.specs.Leads.{Leads};
-ghost use Rattle.rev_changes.specs.Telling.{Tells};
+ghost use Rattle.rev_inverse.specs.Leads.{Leads};
+ghost use Rattle.rev_inverse.specs.Telling.{Tells};
 
 use crate::moving::change;
-use rev_changes::{Change, Record};
-use rev_inverse::Store;
+use rev_inverse::{Change, Record, Store};
 use rev_items::Bits;
 use rev_model::{ChunkRef, Counter, ItemHeader, Queue, Touched};
 use std::alloc::Allocator;

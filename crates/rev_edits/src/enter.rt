@@ -6,14 +6,13 @@ ghost use Rattle.rev_model.specs.State.{State, WellFormed, IsChunkOf, free_of, I
 ghost use Rattle.rev_model.specs.Words.{linked, queue_for, is_brief, class_of};
 ghost use Rattle.rev_model.specs.Pull.{fronted};
 ghost use Rattle.rev_model.specs.Sound.{SoundBut, Sound};
-ghost use Rattle.rev_changes.specs.Leads.{Leads};
-ghost use Rattle.rev_changes.specs.Telling.{Tells};
+ghost use Rattle.rev_inverse.specs.Leads.{Leads};
+ghost use Rattle.rev_inverse.specs.Telling.{Tells};
 ghost use Rattle.rev_edits.specs.Linking.{Fresh};
 ghost use Rattle.rev_edits.specs.Taking.{paired};
 
 use crate::moving::change;
-use rev_changes::{Change, Record};
-use rev_inverse::Store;
+use rev_inverse::{Change, Record, Store};
 use rev_items::Item;
 use rev_model::{ChunkRef, Globals, Listed, Queue};
 use std::alloc::Allocator;

@@ -4,14 +4,13 @@ ghost use Rattle.rev_items.specs.Plain.{PlainItem};
 ghost use Rattle.rev_model.specs.State.{State, WellFormed, item_at, free_of, IsClass};
 ghost use Rattle.rev_model.specs.Words.{unlinked, freed, dropped, counted};
 ghost use Rattle.rev_model.specs.Sound.{Stands, Loose};
-ghost use Rattle.rev_changes.specs.Leads.{Leads};
+ghost use Rattle.rev_inverse.specs.Leads.{Leads};
 ghost use Rattle.rev_model.specs.Track.{removal};
-ghost use Rattle.rev_changes.specs.Telling.{Tells};
+ghost use Rattle.rev_inverse.specs.Telling.{Tells};
 
 use crate::alter::raise;
 use crate::moving::change;
-use rev_changes::{Change, Record};
-use rev_inverse::Store;
+use rev_inverse::{Change, Record, Store};
 use rev_model::{Cause, ChunkRef, Counter, Placed, Queue};
 use std::alloc::Allocator;
 

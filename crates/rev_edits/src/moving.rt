@@ -3,12 +3,11 @@ ghost use Rattle.std.specs.Prelude.{◌≡◌, ◌+◌, ◌<◌, ◌++◌, ◌�
 ghost use Rattle.rev_model.specs.State.{WellFormed};
 ghost use Rattle.rev_model.specs.Move.{moved, Possible, reverse};
 ghost use Rattle.rev_model.specs.Track.{removed};
-ghost use Rattle.rev_changes.specs.Leads.{Leads};
-ghost use Rattle.rev_changes.specs.Seen.{plain_move, IsSingle};
-ghost use Rattle.rev_changes.specs.Telling.{Tells};
+ghost use Rattle.rev_inverse.specs.Leads.{Leads};
+ghost use Rattle.rev_inverse.specs.Seen.{plain_move, IsSingle};
+ghost use Rattle.rev_inverse.specs.Telling.{Tells};
 
-use rev_changes::{Change, Record};
-use rev_inverse::Store;
+use rev_inverse::{Change, Record, Store};
 use std::alloc::Allocator;
 
 /// Makes a single move, without a note.

@@ -3,13 +3,12 @@ ghost use Rattle.std.specs.Prelude.{◌≡◌, ℕ, ◌+◌, ◌<◌, ◌≤◌,
 ghost use Rattle.rev_model.specs.State.{State, WellFormed, free_of, per_page, IsClass};
 ghost use Rattle.rev_model.specs.Pull.{carved, page_of};
 ghost use Rattle.rev_model.specs.Sound.{Sound};
-ghost use Rattle.rev_changes.specs.Leads.{Leads};
-ghost use Rattle.rev_changes.specs.Telling.{Tells};
+ghost use Rattle.rev_inverse.specs.Leads.{Leads};
+ghost use Rattle.rev_inverse.specs.Telling.{Tells};
 ghost use Rattle.rev_edits.specs.Paging.{IsPlan};
 
 use crate::moving::change;
-use rev_changes::{Change, Parts, Record};
-use rev_inverse::Store;
+use rev_inverse::{Change, Parts, Record, Store};
 use rev_model::Form;
 use std::alloc::{AllocError, Allocator};
 

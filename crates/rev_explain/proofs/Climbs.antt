@@ -7,7 +7,7 @@ use Rattle.rev_model.specs.Actor.{Step}
 use Rattle.rev_model.specs.Events.{event}
 use Rattle.rev_model.specs.Track.{key_place_of}
 use Rattle.rev_model.specs.declared.Outcome.{Outcome}
-use Rattle.rev_changes.specs.Record.{PlainRecord}
+use Rattle.rev_inverse.specs.Record.{PlainRecord}
 use Rattle.rev_tree.specs.Rows.{Row, RowsFall, row_of, at}
 use Rattle.rev_tree.specs.Machine.{nodes_from, lineage_within, lineage}
 use Rattle.rev_tree.specs.Positions.{SessionState}

@@ -25,10 +25,10 @@ use Rattle.rev_model.specs.declared.Cause.{Cause}
 use Rattle.rev_model.specs.declared.Outcome.{Outcome}
 use Rattle.rev_model.proofs.Laws.{get_put, same_key-exact}
 use Rattle.rev_model.proofs.Undo.{same_chunk-self}
-use Rattle.rev_changes.specs.Record.{PlainChange, PlainRecord, IsWhole, plain_change, moves_in, notes_in}
-use Rattle.rev_changes.specs.Seen.{plain_moves, plain_notes}
-use Rattle.rev_changes.specs.declared.changes.Change as kept
-use Rattle.rev_changes.specs.declared.changes.Change.TheVariants as stored
+use Rattle.rev_inverse.specs.Record.{PlainChange, PlainRecord, IsWhole, plain_change, moves_in, notes_in}
+use Rattle.rev_inverse.specs.Seen.{plain_moves, plain_notes}
+use Rattle.rev_inverse.specs.declared.changes.Change as kept
+use Rattle.rev_inverse.specs.declared.changes.Change.TheVariants as stored
 use Rattle.rev_tree.specs.Steps.{outcome_of}
 use Rattle.rev_tree.specs.Rows.{Row, row_of, at}
 use Rattle.rev_tree.specs.Machine.{lineage}

@@ -15,10 +15,10 @@ use Rattle.rev_model.specs.declared.KeyChange.{KeyChange}
 use Rattle.rev_model.specs.declared.Listed.TheVariants.{InFree, InQueue}
 use Rattle.rev_model.specs.declared.Placed.TheVariants.{ToFree, ToQueue}
 use Rattle.rev_model.proofs.Undo.{same_chunk-self}
-use Rattle.rev_changes.specs.Record.{PlainChange, PlainRecord, IsWhole, plain_change, moves_in, notes_in}
-use Rattle.rev_changes.specs.Seen.{plain_moves, plain_notes}
-use Rattle.rev_changes.specs.declared.changes.Change as kept
-use Rattle.rev_changes.specs.declared.changes.Change.TheVariants as stored
+use Rattle.rev_inverse.specs.Record.{PlainChange, PlainRecord, IsWhole, plain_change, moves_in, notes_in}
+use Rattle.rev_inverse.specs.Seen.{plain_moves, plain_notes}
+use Rattle.rev_inverse.specs.declared.changes.Change as kept
+use Rattle.rev_inverse.specs.declared.changes.Change.TheVariants as stored
 use Rattle.rev_explain.specs.Readings.{keyed_after, queue_after, or_before, keyed_through, queue_through, note_of}
 
 -- ---- a move, and those that are played before it

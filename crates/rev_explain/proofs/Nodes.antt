@@ -18,7 +18,7 @@ use Rattle.rev_model.specs.declared.EventKind.TheVariants as kind
 use Rattle.rev_model.specs.declared.KeyChange.{KeyChange}
 use Rattle.rev_model.specs.declared.Outcome.{Outcome}
 use Rattle.rev_model.specs.declared.Queue.{Queue}
-use Rattle.rev_changes.specs.Record.{PlainRecord}
+use Rattle.rev_inverse.specs.Record.{PlainRecord}
 use Rattle.rev_edits.proofs.Seats.{item_stands, owner_class}
 use Rattle.rev_tree.specs.Steps.{outcome_of}
 use Rattle.rev_tree.specs.Rows.{at}

@@ -12,7 +12,7 @@ use Rattle.rev_model.specs.declared.EventKind.{EventKind}
 use Rattle.rev_model.specs.declared.KeyChange.{KeyChange}
 use Rattle.rev_model.specs.declared.KeyPlace.{KeyPlace}
 use Rattle.rev_model.specs.declared.Outcome.{Outcome}
-use Rattle.rev_changes.specs.Record.{PlainRecord}
+use Rattle.rev_inverse.specs.Record.{PlainRecord}
 use Rattle.rev_tree.specs.Rows.{RowsFall, at}
 use Rattle.rev_tree.specs.Machine.{lineage}
 use Rattle.rev_tree.specs.Positions.{SessionState}

@@ -5,8 +5,8 @@ use Rattle.std.proofs.Common.{ControlFlow, Continue, Break}
 use Rattle.rev_model.specs.Chunk.{same_chunk}
 use Rattle.rev_model.specs.Move.{Move, Takes, Puts, Fills, Sets, Shifts}
 use Rattle.rev_model.specs.Track.{has_key, Removal, removal}
-use Rattle.rev_changes.specs.declared.changes.Change as kept
-use Rattle.rev_changes.specs.declared.changes.Change.TheVariants as stored
+use Rattle.rev_inverse.specs.declared.changes.Change as kept
+use Rattle.rev_inverse.specs.declared.changes.Change.TheVariants as stored
 use Rattle.rev_model.specs.declared.ChunkRef.{ChunkRef}
 use Rattle.rev_model.specs.declared.Cause.{Cause}
 use Rattle.rev_model.specs.declared.ClassQueue.{ClassQueue}

@@ -4,11 +4,11 @@ ghost use Rattle.std.specs.Option.{option_map};
 ghost use Rattle.rev_model.specs.State.{State};
 ghost use Rattle.rev_model.specs.Move.{turned};
 ghost use Rattle.rev_requests.specs.Plain.{plain_step};
-ghost use Rattle.rev_changes.specs.Seen.{plain_moves};
+ghost use Rattle.rev_inverse.specs.Seen.{plain_moves};
 ghost use Rattle.rev_explain.specs.Readings.{clock_through};
 ghost use Rattle.rev_explain.specs.Clocks.{later, time_set as set_by, clock_at as clock_of, node_by};
 
-use rev_changes::{Change, RecordRef};
+use rev_inverse::{Change, RecordRef};
 use rev_requests::{ActorStep, Step};
 use rev_undotree::{NodeId, Session};
 use std::alloc::Allocator;

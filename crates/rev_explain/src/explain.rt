@@ -11,8 +11,7 @@ ghost use Rattle.rev_explain.specs.Story.{told, last_left, story as story_of, wh
 
 use crate::events::{Event, EventKind, Why};
 use crate::readings::{find_before, find_change, home_of, is_key, note_of};
-use rev_changes::RecordRef;
-use rev_inverse::Store;
+use rev_inverse::{RecordRef, Store};
 use rev_items::Key;
 use rev_model::{Cause, ClassQueue, KeyPlace, Outcome, Queue};
 use rev_requests::Step;

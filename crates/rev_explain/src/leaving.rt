@@ -12,7 +12,7 @@ ghost use Rattle.rev_explain.specs.Story.{story as story_of};
 
 use crate::events::Departure;
 use crate::explain::has_stored;
-use rev_changes::{Change, RecordRef};
+use rev_inverse::{Change, RecordRef};
 use rev_model::Outcome;
 use rev_requests::Step;
 use rev_undotree::{NodeId, Session};

@@ -4,11 +4,11 @@
 ghost use Rattle.std.specs.Prelude.{◌≡◌, drop, Some, None};
 ghost use Rattle.rev_model.specs.Chunk.{same_chunk};
 ghost use Rattle.rev_model.specs.Track.{same_key, has_key, is_chunk, keyed, key_change, class_queue_before, key_place_before, chunk_of};
-ghost use Rattle.rev_changes.specs.Seen.{plain_moves};
-ghost use Rattle.rev_changes.specs.Record.{IsWhole, moves_in, notes_in};
+ghost use Rattle.rev_inverse.specs.Seen.{plain_moves};
+ghost use Rattle.rev_inverse.specs.Record.{IsWhole, moves_in, notes_in};
 ghost use Rattle.rev_explain.specs.Readings.{keyed_through, queue_through, note_of as note_in};
 
-use rev_changes::{Change, RecordRef};
+use rev_inverse::{Change, RecordRef};
 use rev_items::{Item, Key};
 use rev_model::{Cause, ChunkRef, ClassQueue, Entry, KeyChange, KeyPlace, Listed, Placed};
 use std::alloc::Allocator;

@@ -8,8 +8,8 @@ use Rattle.rev_model.specs.Track.{removals}
 use Rattle.rev_model.specs.declared.Mover.{Mover}
 use Rattle.rev_model.specs.declared.Outcome.{Outcome}
 use Rattle.rev_model.specs.declared.Outcome.TheVariants as outcome
-use Rattle.rev_changes.specs.Record.{PlainRecord}
-use Rattle.rev_changes.proofs.Lists.{map-reverse}
+use Rattle.rev_inverse.specs.Record.{PlainRecord}
+use Rattle.rev_inverse.proofs.Lists.{map-reverse}
 use Rattle.rev_tree.specs.Rows.{row_of, parent_of, at}
 use Rattle.rev_tree.specs.Machine.{lineage}
 use Rattle.rev_tree.specs.Positions.{SessionState}

@@ -6,7 +6,7 @@ use Rattle.rev_model.specs.Actor.{Step}
 use Rattle.rev_model.specs.Causes.{step_removals}
 use Rattle.rev_model.specs.Track.{removals}
 use Rattle.rev_model.specs.declared.Outcome.{Outcome}
-use Rattle.rev_changes.specs.Record.{PlainRecord}
+use Rattle.rev_inverse.specs.Record.{PlainRecord}
 use Rattle.rev_tree.specs.Steps.{outcome_of}
 use Rattle.rev_tree.specs.Rows.{row_of, parent_of, option_parent, at}
 use Rattle.rev_tree.specs.Machine.{lineage}

@@ -9,7 +9,7 @@ use Rattle.rev_model.specs.declared.Outcome.TheVariants as outcome
 use Rattle.rev_figures.specs.declared.path.StepKind.{StepKind}
 use Rattle.rev_figures.specs.declared.path.StepKind.TheVariants as kind
 
--- the key of a client's command
+-- the key of a client's command; an item goes by `~evict` since a log says so, and no client asks for it
 abbrev pub command_key : Step → Option (List ℕ)
 command_key (Client (Stores v k flags e d)) = Some k
 command_key (Client (Joins side k d)) = Some k

@@ -7,7 +7,7 @@ ghost use Rattle.rev_requests.specs.Plain.{plain_step};
 ghost use Rattle.rev_explain.specs.Readings.{removals_by};
 ghost use Rattle.rev_explain.specs.Departures.{departures_in};
 
-use rev_changes::{Change, RecordRef};
+use rev_inverse::{Change, RecordRef};
 use rev_items::Key;
 use rev_model::{Cause, Outcome};
 use rev_requests::Step;

@@ -10,7 +10,7 @@ use rev_model::Outcome;
 use rev_requests::{ClientStep, KeyCommand, Step};
 use std::alloc::Allocator;
 
-/// The key of a client's command.
+/// The key of a client's command; none of `~evict`, which no client asks for.
 pub fn command_key<A: Allocator>(step: &Step<A>) -> Option<&Key<A>>
     ensures { option_copied result ≡ command_key (plain_step step.now) }
 {
@@ -22,6 +22,7 @@ pub fn command_key<A: Allocator>(step: &Step<A>) -> Option<&Key<A>>
                 | KeyCommand::Delete
                 | KeyCommand::Touch(_)
                 | KeyCommand::Count(_) => Some(key),
+                KeyCommand::Evict => None,
             },
             ClientStep::FlushAll { .. } => None,
         },
@@ -37,7 +38,7 @@ fn is_look_up<A: Allocator>(step: &Step<A>) -> bool
         Step::Client(client) => match client {
             ClientStep::Keyed { command, .. } => match command {
                 KeyCommand::Get | KeyCommand::Touch(_) => true,
-                KeyCommand::Delete | KeyCommand::Count(_) => false,
+                KeyCommand::Delete | KeyCommand::Evict | KeyCommand::Count(_) => false,
             },
             ClientStep::Store { .. } | ClientStep::Join { .. } | ClientStep::FlushAll { .. } =>
                 false,

@@ -10,7 +10,7 @@ ghost use Rattle.rev_import_commands.specs.Importing.{Reports, TellsLogs, counte
 use crate::check::{Check, CheckedLogs};
 use crate::ending::end_import;
 use either::Either;
-use rev_choices::{Factor, LEAST_PAGE, Sample};
+use rev_choices::{Factor, LEAST_PAGE, Rhythm, Sample};
 use rev_classes::{ClassTable, Config};
 use rev_import::figures::Figures;
 use rev_import::setup::{Setup, follow};
@@ -25,7 +25,7 @@ use rev_intake::told::{put_run_behind, put_sample, put_split};
 use rev_intake::words::put_options;
 use rev_messages::Stop;
 use rev_messages::progress::{Progress, ToldFile};
-use rev_options::{STANDARD, WatchImport};
+use rev_options::{Leader, STANDARD, WatchImport};
 use rev_output::{Sink, ToWrite};
 use rev_watch::settings::{LogStats, Settings, StatFault, read_log_stats, read_settings};
 use std::alloc::{AllocError, Global};
@@ -535,6 +535,14 @@ fn setup_lines(setup: &Setup) -> u64 {
     u64::from(setup.tune.is_some()) + u64::from(setup.temp_ttl.is_some())
 }
 
+// The steps of the maintainer of a script that the rules lead.
+fn rhythm_of(leader: Leader) -> Rhythm {
+    match leader {
+        Leader::Rules(rhythm) => rhythm,
+        Leader::Log { .. } => Rhythm::Lean,
+    }
+}
+
 // An intake of the events that are asked for.
 fn intake_of(alloc: Global, setup: Setup, asked: &WatchImport) -> Result<Intake<Global>, Stop> {
     let range = Range {
@@ -542,7 +550,7 @@ fn intake_of(alloc: Global, setup: Setup, asked: &WatchImport) -> Result<Intake<
         last: asked.last,
         sample: asked.sample,
     };
-    match Intake::open(alloc, setup, asked.rhythm, range, asked.split) {
+    match Intake::open(alloc, setup, rhythm_of(asked.leader), range, asked.split) {
         Ok(intake) => Ok(intake),
         Err(_) => Err(Stop::Memory),
     }
@@ -849,6 +857,17 @@ fn prepare<R: Files + AllocGlobal>(
     }
 }
 
+// Why no life of the server is chosen for an import.
+fn no_lives(alloc: Global) -> Stop {
+    match String::from_str(
+        alloc,
+        "lrudb: --life: the rules alone lead an import, and they do not tell the lives of a server apart; open --watch does\n",
+    ) {
+        Ok(text) => Stop::BadImport(text),
+        Err(_) => Stop::Memory,
+    }
+}
+
 // Makes the script that is asked for, and adds what is told of it to the notes.
 fn import<R: Files + AllocGlobal, I: Read + Drop, O: Write, C: Clock, W: Sink>(
     rt: &R,
@@ -860,6 +879,9 @@ fn import<R: Files + AllocGlobal, I: Read + Drop, O: Write, C: Clock, W: Sink>(
 ) -> Result<(), Stop>
     ensures { OnOk result (TellsLogs asked.now notes.new.items) }
 {
+    if asked.life.is_some() {
+        return Err(no_lives(rt.alloc()));
+    }
     match prepare(rt, asked, notes) {
         Err(stop) => Err(stop),
         Ok(prepared) => {

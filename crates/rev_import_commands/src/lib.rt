@@ -6,5 +6,6 @@ pub mod check;
 mod ending;
 pub mod import;
 pub mod imported;
+pub mod leading;
 pub mod state;
 pub mod traces;

@@ -4,3 +4,5 @@ pub mod Marking
 pub mod Shifting
 pub mod Opened
 pub mod Empty
+pub mod Lists
+pub mod TurningRecord

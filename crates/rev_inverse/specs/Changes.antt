@@ -4,8 +4,8 @@ use Rattle.std.specs.Prelude.{Option, None}
 use Rattle.rev_model.specs.declared.Entry.{Entry}
 use Rattle.rev_model.specs.declared.Placed.{Placed}
 use Rattle.rev_model.specs.declared.Placed.TheVariants.{ToFree, ToQueue}
-use Rattle.rev_changes.specs.declared.changes.Change.{Change}
-use Rattle.rev_changes.specs.declared.changes.Change.TheVariants.{Enter, Leave, Link, Unlink, Revive, Free, Lay, Lift}
+use Rattle.rev_inverse.specs.declared.changes.Change.{Change}
+use Rattle.rev_inverse.specs.declared.changes.Change.TheVariants.{Enter, Leave, Link, Unlink, Revive, Free, Lay, Lift}
 
 -- what the entry goes behind, where it enters a queue
 abbrev pub ahead_of : Placed → Option Entry

@@ -10,8 +10,8 @@ ghost use Rattle.rev_index.specs.Index.{empty_index};
 ghost use Rattle.rev_inverse.specs.Empty.{empty_globals, empty_state};
 
 use crate::moves::COUNTERS;
+use crate::parts::{Parts, Shelf};
 use crate::store::Store;
-use rev_changes::{Parts, Shelf};
 use rev_classes::{ClassTable, Config, ConfigFault};
 use rev_index::Index;
 use rev_model::{Globals, Settings};

@@ -4,8 +4,8 @@ ghost use Rattle.rev_model.specs.State.{WellFormed};
 ghost use Rattle.rev_model.specs.Move as plain;
 ghost use Rattle.rev_model.specs.Move.{moved, reverse, Possible};
 
+use crate::parts::{Parts, Shelf, Unshelved};
 use crate::store::Store;
-use rev_changes::{Parts, Shelf, Unshelved};
 use rev_model::Form;
 use std::alloc::Allocator;
 

@@ -3,13 +3,14 @@ ghost use Rattle.std.specs.Prelude.{◌≡◌, ℕ, ◌+◌, ◌≤◌, ◌++◌
 ghost use Rattle.rev_model.specs.State.{WellFormed};
 ghost use Rattle.rev_model.specs.Move as plain;
 ghost use Rattle.rev_model.specs.Move.{Fits, Possible, moved, reverse, turned};
-ghost use Rattle.rev_changes.specs.Seen.{plain_moves, plain_notes};
-ghost use Rattle.rev_changes.specs.Leads.{Leads};
-ghost use Rattle.rev_changes.specs.Record.{plain_change, in_order, moves_in, notes_in};
+ghost use Rattle.rev_inverse.specs.Seen.{plain_moves, plain_notes};
+ghost use Rattle.rev_inverse.specs.Leads.{Leads};
+ghost use Rattle.rev_inverse.specs.Record.{plain_change, in_order, moves_in, notes_in};
 ghost use Rattle.rev_inverse.specs.Changes.{Enters, Leaves, Links, Unlinks, Revives, Frees, Lays, Lifts};
 
+use crate::changes::Change;
+use crate::record::{Record, place_of};
 use crate::store::Store;
-use rev_changes::{Change, Record, place_of};
 use rev_model::{Listed, Placed};
 use std::alloc::Allocator;
 use std::mem::{self, ManuallyDrop};

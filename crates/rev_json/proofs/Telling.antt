@@ -1,18 +1,19 @@
 -- What was written, line by line.
-use Rattle.std.proofs.Common.{◌≡◌, ℕ, suc, ◌+◌, ◌-◌, List, [], ◌++◌, Option, refl, subst, arith}
+use Rattle.std.proofs.Common.{◌≡◌, ℕ, suc, ◌+◌, ◌-◌, List, [], ◌++◌, Option, refl, sym, subst, arith}
 use Rattle.std.specs.Io.KnownBytes.{Appends}
 use Rattle.rev_output.specs.Sink.{WroteFront}
 use Rattle.rev_output.proofs.Written.{Appends-then, Appends-none}
 use Rattle.rev_script.specs.declared.byte_reader.LineFault.{LineFault}
 use Rattle.rev_script.specs.declared.byte_reader.LineFault.TheVariants as faults
-use Rattle.rev_script.specs.Source.{Told, told_by}
+use Rattle.rev_script.specs.Source.{Told, Beside, told_by}
 use Rattle.rev_script.specs.declared.dialect.Dialect.{Dialect}
 use Rattle.rev_output.specs.Sink.{PlainSink}
 use Rattle.rev_shell.specs.Answers.{BookmarkedSession}
 use Rattle.rev_shell.specs.Run.{run_fault}
 use Rattle.rev_shell.specs.declared.run.Summary.{Summary}
 use Rattle.rev_shell.proofs.Runs.{left_told}
-use Rattle.rev_json.specs.Told.{IsTold}
+use Rattle.rev_json.specs.Told.{IsTold, IsStoppedTelling}
+use Rattle.rev_shell.specs.declared.run.RunFault.{RunFault}
 use Rattle.rev_shell.specs.declared.run.RunFault.TheVariants.{Write}
 use Rattle.rev_json.specs.JsonLines.{IsJsonLine, AreJsonLines, WroteLines, WroteAt}
 
@@ -48,3 +49,11 @@ part_of_line n a b c line w f = (n, w.0, f.0, w.1, Appends-then a b c w.0 f.0 w.
 pub told_of_lent : {d : Dialect} {old new : PlainSink} {start left : BookmarkedSession} {sum : Summary} (a b : Told) (n m : ℕ) → IsTold d (told_by a n) (told_by b m) old new start left sum →
     IsTold d a b old new start left sum
 told_of_lent a b n m x = record { ended = left_told a b n m x.ended; wrote = x.wrote }
+
+-- ---- where nothing was written meanwhile
+
+pub same_told : {d : Dialect} {a b : Told} {old : PlainSink} {start left : BookmarkedSession} {sum : Summary} (x y : Beside) → y ≡ x → IsTold d a b old x.sink start left sum → IsTold d a b old y.sink start left sum
+same_told {d} {a} {b} {old} {start} {left} {sum} x y same t = subst (λ k. IsTold d a b old k.sink start left sum) (sym same) t
+
+pub same_telling : {d : Dialect} {a b : Told} {old : PlainSink} {start : BookmarkedSession} {e : RunFault} (x y : Beside) → y ≡ x → IsStoppedTelling d a b old x.sink start e → IsStoppedTelling d a b old y.sink start e
+same_telling {d} {a} {b} {old} {start} {e} x y same t = subst (λ k. IsStoppedTelling d a b old k.sink start e) (sym same) t

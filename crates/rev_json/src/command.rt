@@ -49,6 +49,7 @@ fn key_command_name(command: KeyCommand) -> &'static str {
     match command {
         KeyCommand::Get => "get",
         KeyCommand::Delete => "delete",
+        KeyCommand::Evict => "~evict",
         KeyCommand::Touch(_) => "touch",
         KeyCommand::Count(Arithmetic::Increment(_)) => "incr",
         KeyCommand::Count(Arithmetic::Decrement(_)) => "decr",

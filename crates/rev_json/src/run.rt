@@ -1,39 +1,37 @@
-//! A script from a reader, what is told of its lines to a writer.
+//! A script from a reader, what is told of its lines to the writer beside it.
 ghost use Rattle.std.specs.Prelude.{◌≡◌, ℕ, List, IfOk, IfErr};
 ghost use Rattle.rev_script.specs.Lines.{IsFirst};
-ghost use Rattle.rev_output.specs.Sink.{sink_at};
 ghost use Rattle.rev_json.specs.Told.{IsTold, IsStoppedTelling};
 ghost use Rattle.rev_shell.specs.Run.{without_bookmarks};
 ghost use Rattle.rev_shell.specs.Answers.{with_bookmarks};
 
 use crate::command::command_of;
 use crate::object::json_line;
-use rev_output::{Sink, write_all};
 use rev_script::dialect::Dialect;
+use rev_script::duplex::Duplex;
 use rev_script::lines::Lines;
-use rev_script::source::Source;
 use rev_shell::run::{NONE, Prompts, RunFault, Summary, answer_line, fault_at, is_bad, with_mark};
 use rev_undotree::Session;
 use rev_views::bookmarks::Bookmarks;
 use std::alloc::Global;
 
 // Plays the lines, from the first on, and writes what is told of each once it is done. `text` holds one answer.
-fn tell_lines<S: Source, K: Sink>(
+fn tell_lines<S: Duplex>(
     alloc: Global,
     lines: &mut Lines<S, Global>,
     session: &mut Session<Global>,
     bookmarks: &mut Bookmarks<'_, Global>,
     text: &mut Vec<u8>,
-    sink: &mut K,
 ) -> Result<Summary, RunFault>
     requires { IsFirst lines.old }
     ensures ok { IfOk result (λ sum. IsTold lines.old.input.dialect lines.old.input.bytes.source lines.new.input.bytes.source
-        (sink_at (K.contents sink.old) (K.failures sink.old)) (sink_at (K.contents sink.new) (K.failures sink.new))
+        lines.old.input.bytes.source.beside.sink lines.new.input.bytes.source.beside.sink
         (with_bookmarks session.old bookmarks.old) (with_bookmarks session.new bookmarks.new) sum) }
     ensures err { IfErr result (λ e. IsStoppedTelling lines.old.input.dialect lines.old.input.bytes.source lines.new.input.bytes.source
-        (sink_at (K.contents sink.old) (K.failures sink.old)) (sink_at (K.contents sink.new) (K.failures sink.new))
+        lines.old.input.bytes.source.beside.sink lines.new.input.bytes.source.beside.sink
         (with_bookmarks session.old bookmarks.old) e) }
     ensures same { lines.new.input.bytes.source.identity ≡ lines.old.input.bytes.source.identity }
+    ensures writer { lines.new.input.bytes.source.beside.writer ≡ lines.old.input.bytes.source.beside.writer }
 {
     let mut count: u64 = 0;
     let mut bad = NONE;
@@ -70,7 +68,7 @@ fn tell_lines<S: Source, K: Sink>(
             Err(_) => return Err(RunFault::Memory { line: count + 1 }),
             Ok(told) => told,
         };
-        match write_all(sink, told.as_slice()) {
+        match lines.put(told.as_slice()) {
             Err(_) => return Err(RunFault::Write),
             Ok(()) => {}
         }
@@ -80,32 +78,32 @@ fn tell_lines<S: Source, K: Sink>(
     }
 }
 
-/// Runs the script that the reader gives, in a dialect, on a session, with no bookmark at first, and tells of each
+/// Runs the script that the streams give, in a dialect, on a session, with no bookmark at first, and tells of each
 /// line in a line of JSON, with LF: `line`, its number from 1; `node`, the current node behind it; `command`, the words
 /// that name its command, or null where it is malformed; and `answer`, an object for each line of its answer but the
 /// `END` of a list. It is written once all steps of the line are done. The session keeps all that was played.
 ///
 /// Memory is also taken for each line's JSON. Where there is none, the line's steps are done, and nothing is told of
 /// it.
-pub fn run_as_json<S: Source, K: Sink>(
+pub fn run_as_json<X: Duplex>(
     alloc: Global,
     session: &mut Session<Global>,
     dialect: Dialect,
-    reader: &mut S,
-    sink: &mut K,
+    streams: &mut X,
 ) -> Result<Summary, RunFault>
-    ensures ok { IfOk result (λ sum. (names : List (List ℕ × ℕ)) × IsTold dialect (S.told reader.old) (S.told reader.new)
-        (sink_at (K.contents sink.old) (K.failures sink.old)) (sink_at (K.contents sink.new) (K.failures sink.new))
+    ensures ok { IfOk result (λ sum. (names : List (List ℕ × ℕ)) × IsTold dialect (X.told streams.old) (X.told streams.new)
+        (X.told streams.old).beside.sink (X.told streams.new).beside.sink
         (without_bookmarks session.old) (with_bookmarks session.new names) sum) }
-    ensures err { IfErr result (λ e. IsStoppedTelling dialect (S.told reader.old) (S.told reader.new)
-        (sink_at (K.contents sink.old) (K.failures sink.old)) (sink_at (K.contents sink.new) (K.failures sink.new))
+    ensures err { IfErr result (λ e. IsStoppedTelling dialect (X.told streams.old) (X.told streams.new)
+        (X.told streams.old).beside.sink (X.told streams.new).beside.sink
         (without_bookmarks session.old) e) }
+    ensures writer { (X.told streams.new).beside.writer ≡ (X.told streams.old).beside.writer }
 {
     let mut bookmarks = Bookmarks::new(&alloc);
-    let mut lines = Lines::of(alloc, reader, dialect);
+    let mut lines = Lines::of(alloc, streams, dialect);
     let mut text = Vec::new(alloc);
-    let ended = tell_lines(alloc, &mut lines, session, &mut bookmarks, &mut text, sink);
-    let _reader = lines.into_source();
+    let ended = tell_lines(alloc, &mut lines, session, &mut bookmarks, &mut text);
+    let _streams = lines.into_source();
     match ended {
         Err(e) => Err(e),
         Ok(sum) => Ok(sum),

@@ -11,7 +11,7 @@ pub enum Role {
     Evicting,
     /// The LRU maintainer, the page mover or the clock, as they come between the lines.
     Actor,
-    /// A delete that stands for the eviction that the log has here, mostly right in front of its store.
+    /// An `~evict` for the eviction that the log has here, mostly right in front of its store.
     Eviction,
     /// A delete that the log does not show: the key is gone at the latest at the line of this time. Where a page of
     /// its class moved while it was held, the page mover is the likely cause, and else a client's delete.

@@ -82,6 +82,25 @@ impl<A: Allocator + Copy> Stage<A> {
         })
     }
 
+    /// A stage that begins where a session stands: its state is the root from now on, and there is no node.
+    pub fn on(alloc: A, session: Session<A>) -> Stage<A>
+        ensures { result ≡ begun (record { session = session; roles = [] }) }
+    {
+        let mut stage = Stage {
+            session,
+            roles: Vec::new(alloc),
+        };
+        stage.restart();
+        stage
+    }
+
+    /// The session, without the roles.
+    pub fn into_session(self) -> Session<A>
+        ensures { result ≡ self.session }
+    {
+        self.session
+    }
+
     /// The session.
     pub fn session(&self) -> &Session<A>
         ensures { result.now ≡ self.now.session }

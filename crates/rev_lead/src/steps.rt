@@ -26,6 +26,11 @@ pub fn delete<A: Allocator + Copy>(alloc: A, key: &Key<A>) -> Result<Step<A>, Al
     keyed(alloc, KeyCommand::Delete, key)
 }
 
+/// The eviction of a key where the log has it.
+pub fn evict<A: Allocator + Copy>(alloc: A, key: &Key<A>) -> Result<Step<A>, AllocError> {
+    keyed(alloc, KeyCommand::Evict, key)
+}
+
 pub fn touch<A: Allocator + Copy>(
     alloc: A,
     key: &Key<A>,

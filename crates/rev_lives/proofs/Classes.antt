@@ -1,6 +1,6 @@
 -- The class of a key that left.
 use Rattle.std.proofs.Common.{◌≡◌, ℕ, List, Option, Some, None, IfSome, subst, sym}
-use Rattle.rev_changes.specs.Record.{PlainRecord}
+use Rattle.rev_inverse.specs.Record.{PlainRecord}
 use Rattle.rev_tree.specs.Steps.{Step, Outcome}
 use Rattle.rev_tree.specs.Positions.{SessionState}
 use Rattle.rev_tree.specs.Trails.{Trailed}

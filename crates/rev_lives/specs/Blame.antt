@@ -3,7 +3,7 @@
 -- for the eviction, it is the event's own store behind it, and where the rules evicted the key, the step itself.
 use Rattle.std.specs.Prelude.{ℕ, zero, suc, ◌+◌, ◌-◌, Bool, true, false, cond, List, length, Option, Some, None}
 use Rattle.rev_model.specs.State.{State}
-use Rattle.rev_model.specs.Client.{ClientStep, Stores, Joins, Gets, Touches, Deletes, Flushes, Counts}
+use Rattle.rev_model.specs.Client.{ClientStep, Stores, Joins, Gets, Touches, Deletes, Evicts, Flushes, Counts}
 use Rattle.rev_model.specs.Actor.{Step, Client}
 use Rattle.rev_model.specs.Events.{stored_key}
 use Rattle.rev_model.specs.declared.Cause.{Cause}
@@ -22,6 +22,7 @@ client_key (Joins side k payload) = Some k
 client_key (Gets k) = Some k
 client_key (Touches k exptime) = Some k
 client_key (Deletes k) = Some k
+client_key (Evicts k) = Some k
 client_key (Flushes delay) = None
 client_key (Counts sum k n) = Some k
 

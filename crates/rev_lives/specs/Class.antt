@@ -6,7 +6,7 @@ use Rattle.rev_model.specs.Track.{same_key}
 use Rattle.rev_model.specs.Move.{Move, Puts, Binds, Fills}
 use Rattle.rev_model.specs.declared.Placed.TheVariants.{ToQueue}
 use Rattle.rev_model.specs.declared.Cause.{Cause}
-use Rattle.rev_changes.specs.Record.{PlainChange, PlainRecord}
+use Rattle.rev_inverse.specs.Record.{PlainChange, PlainRecord}
 use Rattle.rev_tree.specs.Steps.{Step, Outcome}
 use Rattle.rev_tree.specs.Positions.{SessionState}
 use Rattle.rev_tree.specs.Trails.{Trailed}

@@ -13,7 +13,7 @@ use Rattle.rev_lives.specs.Heard.{step_number, said, named}
 use Rattle.rev_lives.specs.Lives.{PlainCulprit}
 use Rattle.rev_lives.specs.Told.{state, verdict_at, culprit_at}
 use Rattle.rev_lives.specs.Verdicts.{told}
-use Rattle.rev_lives.specs.declared.heard.Heard.{Heard}
+use Rattle.rev_replay.specs.declared.heard.Heard.{Heard}
 use Rattle.rev_lives.specs.declared.leaving.Leaving.{Leaving}
 use Rattle.rev_lives.specs.declared.leaving.Pusher.{Pusher}
 use Rattle.rev_lives.specs.declared.verdict.Verdict.{Verdict}

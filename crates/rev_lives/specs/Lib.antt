@@ -14,5 +14,3 @@ pub mod Parts
 pub mod Texts
 pub mod Lines
 pub mod Filter
-pub mod Faults
-pub mod Notes

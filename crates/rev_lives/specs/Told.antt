@@ -13,7 +13,7 @@ use Rattle.rev_lives.specs.Lives.{PlainCulprit}
 use Rattle.rev_lives.specs.Verdicts.{verdict_of}
 use Rattle.rev_model.specs.declared.Cause.{Cause}
 use Rattle.rev_lives.specs.declared.verdict.Verdict.{Verdict}
-use Rattle.rev_lives.specs.declared.heard.Heard.{Heard}
+use Rattle.rev_replay.specs.declared.heard.Heard.{Heard}
 
 -- the state behind the event's steps
 abbrev pub state : {A : Type 0} → Heard A → State

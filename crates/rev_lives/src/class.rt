@@ -1,10 +1,10 @@
 //! From which slab class a key left.
 ghost use Rattle.std.specs.Prelude.{◌≡◌, IfSome};
-ghost use Rattle.rev_changes.specs.Record.{plain_change};
+ghost use Rattle.rev_inverse.specs.Record.{plain_change};
 ghost use Rattle.rev_lives.specs.Class as rule;
 
 use crate::keys::is_key;
-use rev_changes::{Change, RecordRef};
+use rev_inverse::{Change, RecordRef};
 use rev_items::{Item, Key};
 use rev_model::Cause;
 use rev_undotree::{NodeId, Session};

@@ -9,7 +9,7 @@ ghost use Rattle.rev_lives.specs.Lives.{plain_culprit, plain_left, plain_key};
 
 use crate::alive::{is_alive, is_dead};
 use crate::blame::blame;
-use crate::heard::{Heard, connection, gone_by, is_hit, names, role_of, step_number};
+use crate::heard::{connection, gone_by, is_hit, names, role_of, step_number};
 use crate::leaving::verdict_at;
 use crate::life::{Culprit, KeyLives, Left, Moved, Stored};
 use crate::times::micros;
@@ -19,6 +19,7 @@ use rev_explain::story;
 use rev_items::Key;
 use rev_lead::Role;
 use rev_model::{Cause, ClassQueue};
+use rev_replay::heard::Heard;
 use rev_undotree::NodeId;
 use rev_watch::event::Timestamp;
 use std::alloc::{AllocError, Allocator};

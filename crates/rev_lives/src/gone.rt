@@ -5,13 +5,13 @@ ghost use Rattle.rev_lives.specs.Lines as tokens;
 ghost use Rattle.rev_lives.specs.Parts.{with_line};
 ghost use Rattle.rev_lives.specs.Texts as texts;
 
-use crate::fault::LivesFault;
 use crate::filter::Filter;
-use crate::heard::{Heard, Listener};
 use crate::leaving::{Leaving, leavings};
 use crate::lines::leaving_line;
 use crate::text::put_leaving;
 use rev_output::{Sink, write_all};
+use rev_replay::fault::ReplayFault;
+use rev_replay::heard::{Heard, Listener};
 use rev_watch::event::Timestamp;
 use std::alloc::{AllocError, Allocator};
 use std::mem;
@@ -71,7 +71,7 @@ impl<'a, K: Sink, A: Allocator + Copy> Gone<'a, K, A> {
     }
 
     // Writes the line of a key that left.
-    fn put(&mut self, leaving: &Leaving<'_, A>) -> Result<(), LivesFault> {
+    fn put(&mut self, leaving: &Leaving<'_, A>) -> Result<(), ReplayFault> {
         let out = mem::replace(&mut self.out, Vec::new(self.alloc));
         self.out = with_leaving(self.alloc, out, leaving, self.as_json)?;
         self.told = self.told.saturating_add(1);
@@ -79,7 +79,7 @@ impl<'a, K: Sink, A: Allocator + Copy> Gone<'a, K, A> {
     }
 
     // Tells of a key that left, where that is asked for.
-    fn tell(&mut self, leaving: &Leaving<'_, A>) -> Result<(), LivesFault> {
+    fn tell(&mut self, leaving: &Leaving<'_, A>) -> Result<(), ReplayFault> {
         if self.filter.passes(self.life, leaving) {
             self.put(leaving)?;
         }
@@ -91,7 +91,7 @@ impl<'a, K: Sink, A: Allocator + Copy> Gone<'a, K, A> {
     }
 
     /// Sends what is at hand.
-    pub fn send(&mut self) -> Result<(), LivesFault> {
+    pub fn send(&mut self) -> Result<(), ReplayFault> {
         write_all(self.sink, self.out.as_slice())?;
         self.out.clear();
         Ok(())
@@ -99,7 +99,7 @@ impl<'a, K: Sink, A: Allocator + Copy> Gone<'a, K, A> {
 }
 
 impl<K: Sink, A: Allocator + Copy> Listener<A> for Gone<'_, K, A> {
-    fn heard(&mut self, heard: &Heard<'_, A>) -> Result<(), LivesFault> {
+    fn heard(&mut self, heard: &Heard<'_, A>) -> Result<(), ReplayFault> {
         let gone = leavings(self.alloc, heard)?;
         for leaving in &gone {
             self.tell(leaving)?;
@@ -107,7 +107,7 @@ impl<K: Sink, A: Allocator + Copy> Listener<A> for Gone<'_, K, A> {
         Ok(())
     }
 
-    fn restarted(&mut self, _at: Timestamp, _steps: u64) -> Result<(), LivesFault> {
+    fn restarted(&mut self, _at: Timestamp, _steps: u64) -> Result<(), ReplayFault> {
         self.life = self.life.saturating_add(1);
         Ok(())
     }

@@ -1,43 +1,15 @@
-//! What a listener hears: an event of the log, and the steps that were played for it.
+//! What an event of a log says, and what is told of the steps that were played for it.
 ghost use Rattle.std.specs.Prelude.{◌≡◌};
 ghost use Rattle.std.specs.Option.{option_copied};
 ghost use Rattle.rev_lives.specs.Heard as rule;
 
-use crate::fault::LivesFault;
 use crate::keys::is_key;
 use crate::verdict::{Evidence, Reason, Said, Verdict};
 use rev_items::Key;
 use rev_lead::Role;
-use rev_undotree::{NodeId, Session};
-use rev_watch::event::{Event, LookUpOutcome, StoreOutcome, Timestamp};
+use rev_undotree::NodeId;
+use rev_watch::event::{Event, LookUpOutcome, StoreOutcome};
 use std::alloc::Allocator;
-
-/// An event, once it was played.
-#[derive(Drop)]
-pub struct Heard<'a, A: Allocator> {
-    /// The event; none where what still waited was played at the end of a server's life.
-    pub event: Option<&'a Event<A>>,
-    /// Whether it is a look-up that a storage command or a deletion made.
-    pub own: bool,
-    /// When it happened, or when the last event did.
-    pub time: Timestamp,
-    /// The steps that were played for it: a node for each, from 1 on.
-    pub session: &'a Session<A>,
-    /// The role of each node, that of node 1 first.
-    pub roles: &'a [Role],
-    /// How many steps were played before, over all logs.
-    pub before: u64,
-}
-
-/// Who is told of each event.
-pub trait Listener<A: Allocator> {
-    /// An event was played.
-    fn heard(&mut self, heard: &Heard<'_, A>) -> Result<(), LivesFault>;
-
-    /// The server was started anew, behind all events that were heard and before a line of this time; so many steps
-    /// were played so far.
-    fn restarted(&mut self, at: Timestamp, steps: u64) -> Result<(), LivesFault>;
-}
 
 /// The key that an event names.
 pub fn key_in<A: Allocator>(event: &Event<A>) -> Option<&Key<A>>

@@ -8,12 +8,13 @@ ghost use Rattle.rev_lives.specs.Told.{verdict_at as verdict_there, culprit_at};
 
 use crate::blame::blame;
 use crate::class::class_left;
-use crate::heard::{Heard, connection, has_flushed, named, role_of, said, step_number};
+use crate::heard::{connection, has_flushed, named, role_of, said, step_number};
 use crate::verdict::{Evidence, Reason, Said, Verdict, verdict_of};
 use rev_explain::departures;
 use rev_explain::events::Departure;
 use rev_items::Key;
 use rev_model::Cause;
+use rev_replay::heard::Heard;
 use rev_undotree::NodeId;
 use rev_watch::event::{Event, Timestamp};
 use std::alloc::{AllocError, Allocator};

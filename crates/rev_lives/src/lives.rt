@@ -1,15 +1,15 @@
 //! The lives of the keys that are asked for, as events are heard.
 use crate::blame::key_of;
-use crate::fault::LivesFault;
 use crate::follow::{follow, restart};
-use crate::heard::{Heard, Listener, key_in};
+use crate::heard::key_in;
 use crate::life::KeyLives;
 use indexmap::IndexMap;
-use rev_changes::{Change, RecordRef};
-use rev_inverse::Store;
+use rev_inverse::{Change, RecordRef, Store};
 use rev_items::{Item, Key};
 use rev_log::held_key::{HeldKey, SoughtKey};
 use rev_model::ChunkRef;
+use rev_replay::fault::ReplayFault;
+use rev_replay::heard::{Heard, Listener};
 use rev_watch::event::Timestamp;
 use std::alloc::{AllocError, Allocator};
 use std::hash::{BuildHasherDefault, FoldHasher};
@@ -196,7 +196,7 @@ impl<A: Allocator + Copy> Lives<A> {
 }
 
 impl<A: Allocator + Copy> Listener<A> for Lives<A> {
-    fn heard(&mut self, heard: &Heard<'_, A>) -> Result<(), LivesFault> {
+    fn heard(&mut self, heard: &Heard<'_, A>) -> Result<(), ReplayFault> {
         if !self.is_asked() {
             return Ok(());
         }
@@ -210,7 +210,7 @@ impl<A: Allocator + Copy> Listener<A> for Lives<A> {
         Ok(())
     }
 
-    fn restarted(&mut self, at: Timestamp, steps: u64) -> Result<(), LivesFault> {
+    fn restarted(&mut self, at: Timestamp, steps: u64) -> Result<(), ReplayFault> {
         let now = self.now;
         if self.is_asked() {
             for key in self.keys.iter_mut() {

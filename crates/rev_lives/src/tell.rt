@@ -1,18 +1,18 @@
 //! What is told of logs: the lives of some keys, or all keys that left.
 ghost use Rattle.rev_classes.specs.Limits.{IsWithinLimits};
 
-use crate::fault::LivesFault;
 use crate::filter::Filter;
 use crate::gone::Gone;
 use crate::life::KeyLives;
 use crate::lines::lives_lines;
 use crate::lives::Lives;
-use crate::notes::put_notes;
-use crate::run::{Replay, replay_logs};
 use crate::text::put_lives;
 use rev_import::setup::Setup;
 use rev_items::Key;
 use rev_output::{Sink, write_all};
+use rev_replay::fault::ReplayFault;
+use rev_replay::notes::put_notes;
+use rev_replay::run::{Replay, replay_logs};
 use std::alloc::{AllocError, Allocator};
 use std::io::Read;
 use std::mem;
@@ -62,7 +62,7 @@ fn send_lives<A: Allocator + Copy, K: Sink>(
     lives: &Lives<A>,
     as_json: bool,
     sink: &mut K,
-) -> Result<Found, LivesFault> {
+) -> Result<Found, ReplayFault> {
     let mut found = Found {
         told: 0,
         all_seen: true,
@@ -96,7 +96,7 @@ fn send_lives<A: Allocator + Copy, K: Sink>(
 fn opened<'a, A: Allocator + Copy>(
     alloc: A,
     setup: &'a Setup,
-) -> Result<Replay<'a, A>, (usize, LivesFault)>
+) -> Result<Replay<'a, A>, (usize, ReplayFault)>
     requires { IsWithinLimits setup.now.config }
 {
     match Replay::open(alloc, setup) {
@@ -107,20 +107,14 @@ fn opened<'a, A: Allocator + Copy>(
 
 // Notes what became of the lines, and hands on how it ended.
 fn noted<A: Allocator + Copy>(
-    done: Result<Found, LivesFault>,
+    done: Result<Found, ReplayFault>,
     replay: &Replay<'_, A>,
     notes: &mut Vec<u8, A>,
-) -> Result<Found, (usize, LivesFault)> {
+) -> Result<Found, (usize, ReplayFault)> {
     match done {
         Err(fault) => Err((0, fault)),
-        Ok(found) => match put_notes(
-            notes,
-            &replay.counts(),
-            replay.late(),
-            replay.repeated(),
-            &replay.tally(),
-        ) {
-            Err(_) => Err((0, LivesFault::Memory)),
+        Ok(found) => match put_notes(notes, replay) {
+            Err(_) => Err((0, ReplayFault::Memory)),
             Ok(()) => Ok(found),
         },
     }
@@ -139,20 +133,20 @@ pub fn tell_lives<A: Allocator + Copy, F: Read + Drop, K: Sink>(
     asked: &LivesAsked<A>,
     sink: &mut K,
     notes: &mut Vec<u8, A>,
-) -> Result<Found, (usize, LivesFault)>
+) -> Result<Found, (usize, ReplayFault)>
     requires { IsWithinLimits setup.now.config }
 {
     let mut replay = opened(alloc, setup)?;
     let mut lives = match asked_for(alloc, asked) {
         Ok(lives) => lives,
-        Err(_) => return Err((0, LivesFault::Memory)),
+        Err(_) => return Err((0, ReplayFault::Memory)),
     };
     replay_logs(&mut replay, logs, &mut lives)?;
     noted(send_lives(alloc, &lives, asked.json, sink), &replay, notes)
 }
 
 // Sends what is at hand, and counts what was told.
-fn sent<A: Allocator + Copy, K: Sink>(gone: &mut Gone<'_, K, A>) -> Result<Found, LivesFault> {
+fn sent<A: Allocator + Copy, K: Sink>(gone: &mut Gone<'_, K, A>) -> Result<Found, ReplayFault> {
     gone.send()?;
     Ok(Found {
         told: gone.told(),
@@ -173,7 +167,7 @@ pub fn tell_gone<A: Allocator + Copy, F: Read + Drop, K: Sink>(
     as_json: bool,
     sink: &mut K,
     notes: &mut Vec<u8, A>,
-) -> Result<Found, (usize, LivesFault)>
+) -> Result<Found, (usize, ReplayFault)>
     requires { IsWithinLimits setup.now.config }
 {
     let mut replay = opened(alloc, setup)?;

@@ -7,14 +7,13 @@ ghost use Rattle.rev_model.specs.State.{WellFormed, item_at, IsClass};
 ghost use Rattle.rev_model.specs.Words.{header_of};
 ghost use Rattle.rev_model.specs.Sound.{Sound, Stands};
 ghost use Rattle.rev_model.specs.Move.{LeadsBack};
-ghost use Rattle.rev_changes.specs.Leads.{Leads};
-ghost use Rattle.rev_changes.specs.Telling.{Tells, TellsAll};
+ghost use Rattle.rev_inverse.specs.Leads.{Leads};
+ghost use Rattle.rev_inverse.specs.Telling.{Tells, TellsAll};
 ghost use Rattle.rev_maintainer.specs.Bumping.{asked, bumped, bump_need};
 
-use rev_changes::{Change, Record};
 use rev_edits::alter::{raise, retouch, to_head};
 use rev_edits::moving::change;
-use rev_inverse::Store;
+use rev_inverse::{Change, Record, Store};
 use rev_items::Bits;
 use rev_model::{BumpEntry, ChunkRef, Counter, ItemHeader, Outcome, Queue, Touched};
 use std::alloc::{AllocError, Allocator};

@@ -6,15 +6,14 @@ ghost use Rattle.rev_model.specs.State.{State, WellFormed, item_at, free_of, IsC
 ghost use Rattle.rev_model.specs.Words.{header_of};
 ghost use Rattle.rev_model.specs.Pull.{pull_live, pull_item, pull};
 ghost use Rattle.rev_model.specs.Sound.{Stands, Sound};
-ghost use Rattle.rev_changes.specs.Leads.{Leads};
-ghost use Rattle.rev_changes.specs.Telling.{Tells};
+ghost use Rattle.rev_inverse.specs.Leads.{Leads};
+ghost use Rattle.rev_inverse.specs.Telling.{Tells};
 ghost use Rattle.rev_model.specs.Causes.{live_removals, item_removals, pull_removals};
 
 use crate::reads::{evicts, is_crowded, takes_all};
-use rev_changes::Record;
 use rev_edits::alter::{cool, warm_up};
 use rev_edits::leave::discard;
-use rev_inverse::Store;
+use rev_inverse::{Record, Store};
 use rev_model::{Cause, ChunkRef, Counter, ItemHeader, Outcome, PullMode, Queue, is_dead};
 use std::alloc::Allocator;
 

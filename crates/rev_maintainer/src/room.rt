@@ -3,19 +3,18 @@ ghost use Rattle.std.specs.Prelude.{◌≡◌, ℕ, ◌+◌, ◌*◌, ◌<◌, �
 ghost use Rattle.rev_model.specs.State.{State, WellFormed, IsChunkOf, free_of, IsClass};
 ghost use Rattle.rev_model.specs.Pull.{squeezed, given, page_of, room_by, room};
 ghost use Rattle.rev_model.specs.Sound.{Sound, SoundBut};
-ghost use Rattle.rev_changes.specs.Leads.{Leads};
-ghost use Rattle.rev_changes.specs.Telling.{Tells};
+ghost use Rattle.rev_inverse.specs.Leads.{Leads};
+ghost use Rattle.rev_inverse.specs.Telling.{Tells};
 ghost use Rattle.rev_model.specs.Causes.{squeeze_removals, room_removals_by, room_removals};
 ghost use Rattle.rev_edits.specs.Taking.{paired};
 ghost use Rattle.rev_edits.specs.Paging.{IsPlan};
 ghost use Rattle.rev_maintainer.specs.Rooming.{room_need, IsRoomPlan};
 
 use crate::pulls::pull_queue;
-use rev_changes::Record;
 use rev_edits::alter::raise;
 use rev_edits::enter::take_front;
 use rev_edits::page::{NewPage, lay_page, plan_page};
-use rev_inverse::Store;
+use rev_inverse::{Record, Store};
 use rev_model::{ChunkRef, Counter, PullMode, Queue};
 use std::alloc::{AllocError, Allocator};
 

@@ -4,11 +4,10 @@ ghost use Rattle.rev_model.specs.Actor.{pull_step as pull_step_of};
 ghost use Rattle.rev_model.specs.Causes.{pull_step_removals};
 ghost use Rattle.rev_model.specs.Move.{is_class, LeadsBack};
 ghost use Rattle.rev_model.specs.Sound.{Sound};
-ghost use Rattle.rev_changes.specs.Telling.{TellsAll};
+ghost use Rattle.rev_inverse.specs.Telling.{TellsAll};
 
 use crate::pulls::pull_queue;
-use rev_changes::Record;
-use rev_inverse::Store;
+use rev_inverse::{Record, Store};
 use rev_model::{Outcome, PullMode, Queue};
 use std::alloc::{AllocError, Allocator};
 

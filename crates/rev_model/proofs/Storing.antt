@@ -8,7 +8,7 @@ use Rattle.rev_items.specs.Rules.{moment}
 use Rattle.rev_model.specs.State.{State, find}
 use Rattle.rev_model.specs.Words.{linked, new_item}
 use Rattle.rev_model.specs.Pull.{room}
-use Rattle.rev_model.specs.Client.{ClientStep, Stores, Joins, Gets, Touches, Deletes, Flushes, Counts, Verb, Sets, Adds, Replaces, Cases, Side, Sum, Payload, Bytes, bytes_of, lookup, removed, renewed, class_for, joined, is_number, digits_from, summed, refusal, failed, settled_by, stored_room, stored_class, rewritten_old, rewritten_room, rewritten_class, rewritten, join_found, count_as, count_found, client}
+use Rattle.rev_model.specs.Client.{ClientStep, Stores, Joins, Gets, Touches, Deletes, Evicts, Flushes, Counts, Verb, Sets, Adds, Replaces, Cases, Side, Sum, Payload, Bytes, bytes_of, lookup, removed, renewed, class_for, joined, is_number, digits_from, summed, refusal, failed, settled_by, stored_room, stored_class, rewritten_old, rewritten_room, rewritten_class, rewritten, join_found, count_as, count_found, client}
 use Rattle.rev_model.specs.Actor.{Step, Client, Pull, Bump, CrawlStart, Crawl, Schedule, Advance, Clock, Tune, TempTtl, step}
 use Rattle.rev_model.specs.Track.{held}
 use Rattle.rev_model.proofs.Laws.{same_key-self, same_key-exact}
@@ -119,6 +119,7 @@ client_stored s d (Counts side l n) k h = own_key k l (client s (Counts side l n
 client_stored s d (Gets l) k h = other_key k (client s (Gets l)) h
 client_stored s d (Touches l e) k h = other_key k (client s (Touches l e)) h
 client_stored s d (Deletes l) k h = other_key k (client s (Deletes l)) h
+client_stored s d (Evicts l) k h = other_key k (client s (Evicts l)) h
 client_stored s d (Flushes n) k h = other_key k (client s (Flushes n)) h
 
 pub stored_held : (s : State) → Indexed s → (e : Step) (k : List ℕ) → stores s e k ≡ true → held (step s e).0 k ≡ true

@@ -15,20 +15,20 @@ use Rattle.rev_model.specs.State.{State, WellFormed, item_at, find, owner_of, qu
 use Rattle.rev_model.specs.Words.{is_dead, dropped, unlinked, counted, headed, queue_with, with_item}
 use Rattle.rev_model.specs.Sound.{Sound}
 use Rattle.rev_model.specs.Pull.{pull, room, lowest_page}
-use Rattle.rev_model.specs.Client.{ClientStep, Stores, Joins, Gets, Touches, Deletes, Flushes, Counts, Verb, Sets, Adds, Replaces, Cases, Side, Sum, Payload, Bytes, bytes_of, lookup, removed, hit, hit_again, renewed, class_for, joined, is_number, digits_from, summed, refusal, failed, settled_by, stored_room, stored_class, rewritten_old, rewritten_room, rewritten_class, rewritten, join_found, count_as, count_found, get_found, until, touch_found, delete_found, flush_at, flush_moment, client}
+use Rattle.rev_model.specs.Client.{ClientStep, Stores, Joins, Gets, Touches, Deletes, Evicts, Flushes, Counts, Verb, Sets, Adds, Replaces, Cases, Side, Sum, Payload, Bytes, bytes_of, lookup, removed, hit, hit_again, renewed, class_for, joined, is_number, digits_from, summed, refusal, failed, settled_by, stored_room, stored_class, rewritten_old, rewritten_room, rewritten_class, rewritten, join_found, count_as, count_found, get_found, until, touch_found, delete_found, evict_found, flush_at, flush_moment, client}
 use Rattle.rev_model.specs.Actor.{Step, Client, Pull, Bump, CrawlStart, Crawl, Schedule, Advance, Clock, Tune, TempTtl, step, bump_item, bump_from, is_busy, passed, crawl_item, crawl_entry, owned_pages, scheduled, spare, rescued, cleared, next_slot, handed, advance_of, with_globals, at_clock}
 use Rattle.rev_model.proofs.Undo.{tells_chunk}
 use Rattle.rev_model.specs.Track.{held, same_key, Removal, removal}
 use Rattle.rev_model.proofs.Track.{first_removal, key_removals, key_removals-first}
 use Rattle.rev_model.specs.Causes.{look_removals, found_removals, clear_removals, failed_removals, settled_removals, after_room, store_in_removals, stored_removals, after_rewrite, rewrite_in_removals, rewritten_removals, rewrite_removals, join_found_removals, count_found_removals, client_removals, pull_removals, pull_step_removals, crawl_item_removals, crawl_entry_removals, crawl_removals, rescue_removals, cleared_removals, advance_removals_of, advance_removals, step_removals, room_removals}
-use Rattle.rev_model.specs.Events.{Part, ByRoom, ByLookup, ByDelete, ByFailedSet, ByPull, ByCrawl, ByAdvance, Stage, then, clear_stages, lookup_stages, failed_stages, room_stages, store_in_stages, store_stages, rewrite_room_stages, rewrite_in_stages, rewrite_class_stages, rewrite_stages, join_found_stages, count_found_stages, client_stages, stages, cause_by, cause_of, alive, is_key, key_to_store, is_stored, stores}
+use Rattle.rev_model.specs.Events.{Part, ByRoom, ByLookup, ByDelete, ByFailedSet, ByEvict, ByPull, ByCrawl, ByAdvance, Stage, then, clear_stages, lookup_stages, failed_stages, room_stages, store_in_stages, store_stages, rewrite_room_stages, rewrite_in_stages, rewrite_class_stages, rewrite_stages, join_found_stages, count_found_stages, client_stages, stages, cause_by, cause_of, alive, is_key, key_to_store, is_stored, stores}
 use Rattle.rev_model.proofs.Fates.{Indexed, indexed_sound, fate-alive, Stays, stays, key_removed, key_inserted}
 use Rattle.rev_model.proofs.Leaving.{Goes, goes_stays, goes_drops, goes_carries, goes_cond, pull_goes, room_goes}
 use Rattle.rev_model.proofs.Stages.{look_goes, found_is, cleared_goes, Ends, Walked, Leaves, stays_so, leaves, walked_leaves}
 use Rattle.rev_model.proofs.Storing.{stored_held}
 use Rattle.rev_model.specs.declared.ChunkRef.{ChunkRef}
 use Rattle.rev_model.specs.declared.Cause.{Cause}
-use Rattle.rev_model.specs.declared.Cause.TheVariants.{ReclaimedByCrawler, ReclaimedByMover, EvictedByMover, Deleted, DroppedByFailedSet}
+use Rattle.rev_model.specs.declared.Cause.TheVariants.{Evicted, ReclaimedByCrawler, ReclaimedByMover, EvictedByMover, Deleted, DroppedByFailedSet}
 use Rattle.rev_model.specs.declared.BumpEntry.{BumpEntry}
 use Rattle.rev_model.specs.declared.Counter.TheVariants as counter
 use Rattle.rev_model.specs.declared.Entry.{Entry}
@@ -86,20 +86,20 @@ renewed_ends k c x l value flags m done s o own e h =
 one_part : (k : List ℕ) (own : Bool) (p : Part) (s t : State) (rs : List Removal) (r : State × Outcome) → Goes (cause_by p) k s t rs → r.0.index ≡ t.index → Walked k own s (then p t []) rs r
 one_part k own p s t rs r g e = (rs, [], sym (append-nil rs), g, ends_same k own t r e)
 
-clear_walk : (k : List ℕ) (own : Bool) (s : State) → Indexed s → (p : Part) (c : Cause) → ((a : Bool) → c ≡ cause_by p a) → (l : List ℕ) (o : Outcome) → Walked k own s (clear_stages p s l) (clear_removals (Some c) s l) (removed (lookup s l).1 (lookup s l).0, o)
-clear_walk k own s d p c e l o =
-    let look = look_goes k s d l in
-    let gone = removed (lookup s l).1 (lookup s l).0 in (
+clear_walk : (k : List ℕ) (own : Bool) (s : State) → Indexed s → (p : Part) (c : Cause) → ((a : Bool) → c ≡ cause_by p a) → (l : List ℕ) (r : State × Outcome) → r.0.index ≡ (removed (lookup s l).1 (lookup s l).0).index
+    → Walked k own s (clear_stages p s l) (clear_removals (Some c) s l) r
+clear_walk k own s d p c e l r same =
+    let look = look_goes k s d l in (
       look_removals s l,
       found_removals (Some c) (lookup s l).1,
       refl,
       look,
-      one_part k own p (lookup s l).0 (removed (lookup s l).1 (lookup s l).0) (found_removals (Some c) (lookup s l).1) (gone, o)
-          (cleared_goes (cause_by p) c k (lookup s l).0 look.indexed e (lookup s l).1 (λ x i f. (found_is s l d x i f).there)) refl,
+      one_part k own p (lookup s l).0 (removed (lookup s l).1 (lookup s l).0) (found_removals (Some c) (lookup s l).1) r
+          (cleared_goes (cause_by p) c k (lookup s l).0 look.indexed e (lookup s l).1 (λ x i f. (found_is s l d x i f).there)) same,
     )
 
 failed_walk : (k : List ℕ) (own : Bool) (s : State) → Indexed s → (v : Verb) (l : List ℕ) (o : Outcome) → Walked k own s (failed_stages v s l) (failed_removals v s l) (failed v l o s)
-failed_walk k own s d Sets l o = clear_walk k own s d ByFailedSet DroppedByFailedSet (λ a. refl) l o
+failed_walk k own s d Sets l o = clear_walk k own s d ByFailedSet DroppedByFailedSet (λ a. refl) l (failed Sets l o s) refl
 failed_walk k own s d Adds l o = ends_same k own s (s, o) refl
 failed_walk k own s d Replaces l o = ends_same k own s (s, o) refl
 failed_walk k own s d (Cases n) l o = ends_same k own s (s, o) refl
@@ -184,7 +184,7 @@ count_walk k l side n s (Some (x, i)) own d = go (is_number i.value) where
   go true = rewrite_walk k s d l i (own x i refl) (Bytes (decimal (summed side (digits_from 0 i.value) n))) outcome.NotFound (outcome.Number (summed side (digits_from 0 i.value) n)) refl
   go false = ends_same k (same_key k l) s (s, outcome.NotNumber) refl
 
--- ---- get, touch, delete, flush_all
+-- ---- get, touch, delete, ~evict, flush_all
 
 hit_again_index : (s : State) (q : Queue) (x : ChunkRef) (i : PlainItem) → (hit_again s q x i).index ≡ s.index
 hit_again_index s Hot x i = refl
@@ -217,9 +217,13 @@ touch_index e s (Some (x, i)) = until_index (moment s.globals.clock e) x (item_a
 look_walk : (k : List ℕ) (s : State) → Indexed s → (l : List ℕ) (r : State × Outcome) → r.0.index ≡ (lookup s l).0.index → Walked k false s (lookup_stages s l) (look_removals s l) r
 look_walk k s d l r e = one_part k false ByLookup s (lookup s l).0 (look_removals s l) r (look_goes k s d l) e
 
-delete_walk : (k : List ℕ) (s : State) (gs : List Stage) (rs : List Removal) (t : State) (o : Option (ChunkRef × PlainItem)) → ((a : Outcome) → Walked k false s gs rs (removed o t, a)) → Walked k false s gs rs (delete_found (t, o))
-delete_walk k s gs rs t None w = w outcome.NotFound
-delete_walk k s gs rs t (Some f) w = w outcome.Deleted
+delete_index : (s : State) (o : Option (ChunkRef × PlainItem)) → (delete_found (s, o)).0.index ≡ (removed o s).index
+delete_index s None = refl
+delete_index s (Some f) = refl
+
+evict_index : (s : State) (o : Option (ChunkRef × PlainItem)) → (evict_found (s, o)).0.index ≡ (removed o s).index
+evict_index s None = refl
+evict_index s (Some (x, i)) = refl
 
 flush_index : (s : State) (m : ℕ) → (flush_at s m).index ≡ s.index
 flush_index s m = go (nat_le m s.globals.clock) where
@@ -234,7 +238,8 @@ client_walk k s d (Joins side l p) =
     (look_removals s l, join_found_removals side p (lookup s l), refl, look, join_walk k l side p (lookup s l).0 (lookup s l).1 (λ x i f. (found_is s l d x i f).key) look.indexed)
 client_walk k s d (Gets l) = look_walk k s d l (get_found (lookup s l)) (get_index (lookup s l).0 (lookup s l).1)
 client_walk k s d (Touches l e) = look_walk k s d l (touch_found e (lookup s l)) (touch_index e (lookup s l).0 (lookup s l).1)
-client_walk k s d (Deletes l) = delete_walk k s (clear_stages ByDelete s l) (clear_removals (Some Deleted) s l) (lookup s l).0 (lookup s l).1 (clear_walk k false s d ByDelete Deleted (λ a. refl) l)
+client_walk k s d (Deletes l) = clear_walk k false s d ByDelete Deleted (λ a. refl) l (delete_found (lookup s l)) (delete_index (lookup s l).0 (lookup s l).1)
+client_walk k s d (Evicts l) = clear_walk k false s d ByEvict Evicted (λ a. refl) l (evict_found (lookup s l)) (evict_index (lookup s l).0 (lookup s l).1)
 client_walk k s d (Flushes n) = ends_same k false s (client s (Flushes n)) (flush_index s (flush_moment s.globals.clock n))
 client_walk k s d (Counts side l n) =
     let look = look_goes k s d l in

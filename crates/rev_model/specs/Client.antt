@@ -1,20 +1,21 @@
 -- The steps of clients.
 -- Rule of memcached: what set, add, replace, cas, append, prepend, incr, decr, get, touch, delete and flush_all do
 -- (protocol.txt).
--- Rule of this project: the order of look-up, room and link within a step.
+-- Rule of this project: the order of look-up, room and link within a step, and what `~evict` does.
 use Rattle.std.specs.Prelude.{ℕ, ℤ, pos, negsuc, ◌+◌, ◌-◌, ◌*◌, ◌%◌, ◌^◌, Bool, true, cond, ◌&&◌, List, [], ◌∷◌, ◌++◌, Option, None, Some, length, nat_eq, nat_lt, nat_le}
 use Rattle.std.specs.List.{list_all}
 use Rattle.std.specs.Fmt.{decimal}
 use Rattle.rev_items.specs.Plain.{PlainItem}
 use Rattle.rev_model.specs.State.{State, owner_of, item_at, find}
-use Rattle.rev_model.specs.Words.{class_of, is_dead, queue_with, dropped, freed, with_item, new_item, linked}
+use Rattle.rev_model.specs.Words.{class_of, is_dead, queue_with, counted, dropped, freed, with_item, new_item, linked}
 use Rattle.rev_items.specs.Rules.{footprint, moment}
 use Rattle.rev_model.specs.Pull.{room}
 use Rattle.rev_model.specs.declared.ChunkRef.{ChunkRef}
+use Rattle.rev_model.specs.declared.Counter.TheVariants as counter
 use Rattle.rev_model.specs.declared.Queue.{Queue}
 use Rattle.rev_model.specs.declared.Queue.TheVariants.{Hot, Warm, Cold, Temp}
 use Rattle.rev_model.specs.declared.Outcome.{Outcome}
-use Rattle.rev_model.specs.declared.Outcome.TheVariants.{Stored, NotStored, Exists, NotFound, Deleted, Touched, Okay, Hit, Miss, TooLarge, NoChunk, Number, NotNumber}
+use Rattle.rev_model.specs.declared.Outcome.TheVariants.{Stored, NotStored, Exists, NotFound, Deleted, Touched, Okay, Hit, Miss, TooLarge, NoChunk, Evicted, Number, NotNumber}
 
 -- the data of a command, or only how many bytes were skipped since they are too many
 pub data Payload : Type 0 where
@@ -46,6 +47,7 @@ pub data ClientStep : Type 0 where
   Gets : List ℕ → ClientStep
   Touches : List ℕ → ℤ → ClientStep
   Deletes : List ℕ → ClientStep
+  Evicts : List ℕ → ClientStep
   Flushes : Option ℤ → ClientStep
   Counts : Sum → List ℕ → ℕ → ClientStep
 
@@ -205,7 +207,7 @@ count_found side d (s, Some (x, i)) = cond (is_number i.value) (count_as s i (su
 abbrev pub count : State → Sum → List ℕ → ℕ → State × Outcome
 count s side k d = count_found side d (lookup s k)
 
--- ---- get, touch, delete, flush_all
+-- ---- get, touch, delete, ~evict, flush_all
 
 -- a hit answers the size of the data and the cas number
 abbrev pub get_found : State × Option (ChunkRef × PlainItem) → State × Outcome
@@ -239,6 +241,16 @@ delete_found (s, Some f) = (removed (Some f) s, Deleted)
 abbrev pub delete : State → List ℕ → State × Outcome
 delete s k = delete_found (lookup s k)
 
+-- the item that was found leaves as one that a pull of COLD evicts does: it is counted as an eviction of its class, and
+-- its chunk comes to the front of the class's free list
+abbrev pub evict_found : State × Option (ChunkRef × PlainItem) → State × Outcome
+evict_found (s, None) = (s, NotFound)
+evict_found (s, Some (x, i)) = (counted (owner_of s x.page) counter.Evicted (removed (Some (x, i)) s), Evicted)
+
+-- ~evict: a dead item is removed as by any look-up
+abbrev pub evict : State → List ℕ → State × Outcome
+evict s k = evict_found (lookup s k)
+
 -- the moment of a flush; 0 is at once
 abbrev pub flush_moment : ℕ → Option ℤ → ℕ
 flush_moment now None = 0
@@ -260,5 +272,6 @@ client s (Joins side k d) = join s side k d
 client s (Gets k) = get s k
 client s (Touches k e) = touch s k e
 client s (Deletes k) = delete s k
+client s (Evicts k) = evict s k
 client s (Flushes d) = flush_all s d
 client s (Counts side k d) = count s side k d

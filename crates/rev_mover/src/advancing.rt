@@ -5,16 +5,15 @@ ghost use Rattle.rev_model.specs.Actor.{cleared, next_slot, advance as advance_o
 ghost use Rattle.rev_model.specs.Causes.{cleared_removals, advance_removals};
 ghost use Rattle.rev_model.specs.Sound.{Sound, SoundBut};
 ghost use Rattle.rev_model.specs.Move.{LeadsBack};
-ghost use Rattle.rev_changes.specs.Leads.{Leads};
-ghost use Rattle.rev_changes.specs.Telling.{Tells, TellsAll};
+ghost use Rattle.rev_inverse.specs.Leads.{Leads};
+ghost use Rattle.rev_inverse.specs.Telling.{Tells, TellsAll};
 ghost use Rattle.rev_mover.specs.Moving.{slot_chunk, next_mover, with_mover, IsLeft};
 ghost use Rattle.rev_mover.specs.Clearing.{clearing_of, clearing_moves};
 
 use crate::clearing::{Plan, clear, plan_for};
 use crate::finishing::finish;
-use rev_changes::{Change, Record};
 use rev_edits::moving::change;
-use rev_inverse::Store;
+use rev_inverse::{Change, Record, Store};
 use rev_model::{ChunkRef, Mover, Outcome};
 use std::alloc::{AllocError, Allocator};
 

@@ -10,15 +10,14 @@ ghost use Rattle.rev_model.specs.Actor.{spare, shifted, cleared};
 ghost use Rattle.rev_model.specs.Causes.{cleared_removals};
 ghost use Rattle.rev_model.specs.Track.{removal};
 ghost use Rattle.rev_model.specs.Sound.{Sound, SoundBut};
-ghost use Rattle.rev_changes.specs.Leads.{Leads};
-ghost use Rattle.rev_changes.specs.Telling.{Tells};
+ghost use Rattle.rev_inverse.specs.Leads.{Leads};
+ghost use Rattle.rev_inverse.specs.Telling.{Tells};
 ghost use Rattle.rev_mover.specs.Clearing.{clearing_of, clearing_moves};
 
-use rev_changes::{Change, Record};
 use rev_edits::alter::raise;
 use rev_edits::leave::unlink;
 use rev_edits::moving::change;
-use rev_inverse::Store;
+use rev_inverse::{Change, Record, Store};
 use rev_model::{Cause, ChunkRef, Counter, Listed, Outcome, is_dead};
 use std::alloc::Allocator;
 

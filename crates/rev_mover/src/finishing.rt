@@ -4,14 +4,13 @@ ghost use Rattle.rev_model.specs.State.{State, per_page};
 ghost use Rattle.rev_model.specs.Actor.{handed};
 ghost use Rattle.rev_model.specs.Sound.{Sound};
 ghost use Rattle.rev_model.specs.Move.{LeadsBack};
-ghost use Rattle.rev_changes.specs.Leads.{Leads};
-ghost use Rattle.rev_changes.specs.Telling.{Tells, TellsAll};
+ghost use Rattle.rev_inverse.specs.Leads.{Leads};
+ghost use Rattle.rev_inverse.specs.Telling.{Tells, TellsAll};
 ghost use Rattle.rev_mover.specs.Moving.{pooled, finished, IsDone};
 ghost use Rattle.rev_mover.specs.Parting.{AreParts, parts_moves};
 
-use rev_changes::{Change, Parts, Record, Shelf};
 use rev_edits::moving::change;
-use rev_inverse::Store;
+use rev_inverse::{Change, Parts, Record, Shelf, Store};
 use rev_model::{Form, Mover, Outcome};
 use std::alloc::{AllocError, Allocator};
 

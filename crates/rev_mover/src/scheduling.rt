@@ -4,12 +4,11 @@ ghost use Rattle.rev_model.specs.Actor.{owned_pages, schedule as schedule_of};
 ghost use Rattle.rev_model.specs.Sound.{Sound, MoverSound};
 ghost use Rattle.rev_model.specs.Move.{LeadsBack};
 ghost use Rattle.rev_model.specs.declared.Outcome.TheVariants as outcome;
-ghost use Rattle.rev_changes.specs.Telling.{TellsAll};
+ghost use Rattle.rev_inverse.specs.Telling.{TellsAll};
 ghost use Rattle.rev_mover.specs.Moving.{with_mover};
 
-use rev_changes::{Change, Record};
 use rev_edits::moving::change;
-use rev_inverse::Store;
+use rev_inverse::{Change, Record, Store};
 use rev_model::{Mover, Outcome};
 use std::alloc::{AllocError, Allocator};
 

@@ -19,30 +19,35 @@ is_temp_ttl (negsuc n) = nat_eq n 0
 abbrev pub IsHeap : ℕ → Type 0
 IsHeap bytes = (4096 ≤ bytes) × (bytes ≤ 1073741824)
 
--- a time to live that there is, where a configuration is asked for
+-- where a life of the server is asked for, lives are counted from 1
+abbrev pub IsLife : Option ℕ → Type 0
+IsLife life = IfSome life (λ n. 1 ≤ n)
+
+-- a time to live that there is, where a configuration is asked for, and a life that there may be, where one is
 abbrev pub IsPlayedInRange : Played → Type 0
 IsPlayedInRange (Traces asked) = is_temp_ttl asked.config.temp_ttl ≡ true
-IsPlayedInRange (Logs asked) = Unit {0}
+IsPlayedInRange (Logs asked) = IsLife asked.life
 IsPlayedInRange (Rows asked) = is_temp_ttl asked.config.temp_ttl ≡ true
 
 -- 1 to 64 logs, and where a life of their server is asked for, lives are counted from 1
 abbrev pub AreAsked : AskedLogs → Type 0
-AreAsked asked = (1 ≤ length asked.logs.items) × (length asked.logs.items ≤ 64) × IfSome asked.life (λ n. 1 ≤ n)
+AreAsked asked = (1 ≤ length asked.logs.items) × (length asked.logs.items ≤ 64) × IsLife asked.life
 
 -- there is a key, or a file of keys
 abbrev pub HasKeys : Vec (String Global) Global → Option (String Global) → Type 0
 HasKeys keys key_file = (1 ≤ length keys.items) ⊎ (is_some key_file ≡ true)
 
 -- a time to live that there is; for a run a heap that may be asked for, where one is, and none where JSON is; for a
--- recording one to eight files; for an import a log, or a trace; logs that may be asked, of a key where keys are told of
+-- recording one to eight files; for an import a log, or a trace; a life of a server that there may be; logs that may be
+-- asked, of a key where keys are told of
 abbrev pub IsInRange : Request → Type 0
 IsInRange (Run config heap dialect starts json) = (is_temp_ttl config.temp_ttl ≡ true) × IfSome heap IsHeap × (json ≡ true → heap ≡ None)
 IsInRange (Record config dialect starts files) = (is_temp_ttl config.temp_ttl ≡ true) × (1 ≤ length files.items) × (length files.items ≤ 8)
-IsInRange (ImportWatch asked) = 1 ≤ length asked.logs.items
+IsInRange (ImportWatch asked) = (1 ≤ length asked.logs.items) × IsLife asked.life
 IsInRange (ImportCsv asked) = (is_temp_ttl asked.config.temp_ttl ≡ true) × (1 ≤ length asked.traces.items)
 IsInRange (ImportState asked) = Unit {0}
 IsInRange (Open asked) = is_temp_ttl asked.config.temp_ttl ≡ true
-IsInRange (OpenWatch asked) = Unit {0}
+IsInRange (OpenWatch asked) = IsLife asked.life
 IsInRange (OpenCsv asked) = is_temp_ttl asked.config.temp_ttl ≡ true
 IsInRange (Report asked) = IsPlayedInRange asked.played
 IsInRange (Why asked) = AreAsked asked.logs × HasKeys asked.keys asked.key_file

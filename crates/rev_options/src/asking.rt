@@ -1,6 +1,6 @@
 //! The words of `lrudb why` and `lrudb gone`.
 ghost use Rattle.std.specs.Prelude.{◌≡◌, ◌≤◌, length, map, true, false, IfOk, IfSome};
-ghost use Rattle.rev_options.specs.Request.{IsInRange, IsOfWords, OpensBy, BringsBy, ReportsBy, RunsBy, LivesBy, AreAsked, HasKeys, asks_gone, asks_lives, asks_why};
+ghost use Rattle.rev_options.specs.Request.{IsInRange, IsOfWords, OpensBy, BringsBy, ReportsBy, RunsBy, LivesBy, AreAsked, HasKeys, IsLife, asks_gone, asks_lives, asks_why};
 
 use crate::import::{MOST_LOGS, factor_of, given, required, some_names};
 use crate::{Request, fault, files_of};
@@ -101,9 +101,9 @@ fn logs_of(alloc: Global, matches: &ArgMatches<'_>) -> Result<Vec<String>, Error
     Ok(logs)
 }
 
-// The number of the only life that is asked for, if one is.
-fn life_of(alloc: Global, matches: &ArgMatches<'_>) -> Result<Option<u32>, Error>
-    ensures { IfOk result (λ life. IfSome life (λ n. 1 ≤ n)) }
+/// The number of the only life that is asked for, if one is, or the parser's error.
+pub(crate) fn life_of(alloc: Global, matches: &ArgMatches<'_>) -> Result<Option<u32>, Error>
+    ensures { IfOk result IsLife }
 {
     match matches.get_one("life") {
         None => Ok(None),

@@ -96,7 +96,7 @@ fn run() -> CommandSpec {
     CommandSpec {
         name: "run",
         about: "Runs a script from the standard input, and answers each line",
-        options: [config(), &RUN, &[]],
+        options: [config(), &RUN, &[], &[]],
     }
 }
 
@@ -118,7 +118,7 @@ fn record() -> CommandSpec {
     CommandSpec {
         name: "record",
         about: "Plays the scripts of files at once, each by an actor on a thread, and tells in which order their steps came",
-        options: [config(), &RECORD, &[]],
+        options: [config(), &RECORD, &[], &[]],
     }
 }
 
@@ -150,9 +150,33 @@ static WATCH: [OptionSpec; 6] = [
     FACTOR,
 ];
 
+// What leads where a script is made of logs.
+static LEADING: [OptionSpec; 3] = [
+    OptionSpec {
+        name: "free",
+        help: "Changes nothing: the rules alone lead an import, and not the log",
+        ..FLAG
+    },
+    OptionSpec {
+        name: "steps",
+        unit: "WHICH",
+        help: "Steps of the LRU maintainer: lean, none, or every:N lines of clients [without it: lean]",
+        ..TEXT
+    },
+    OptionSpec {
+        name: "anyway",
+        help: "Changes nothing: an import goes on where the server has a setting that the rules do not cover",
+        excludes: Some(&["free", "steps"]),
+        ..FLAG
+    },
+];
+
+fn leading() -> &'static [OptionSpec] {
+    &LEADING
+}
+
 // Which of the events a script tells, and how.
-static WATCHED: [OptionSpec; 6] = [
-    STEPS,
+static WATCHED: [OptionSpec; 5] = [
     OptionSpec {
         name: "from",
         unit: "SECONDS",
@@ -185,11 +209,25 @@ fn watched() -> &'static [OptionSpec] {
     &WATCHED
 }
 
+// Which life of the server it tells.
+static LIVED: [OptionSpec; 1] = [OptionSpec {
+    name: "life",
+    unit: "N",
+    help: "Is refused: 1 to 4294967295; the rules alone lead an import, and do not tell the lives of a server apart",
+    values: ValueParser::Signed(1, 4294967295),
+    excludes: Some(&["free", "steps", "check"]),
+    ..TEXT
+}];
+
+fn lived() -> &'static [OptionSpec] {
+    &LIVED
+}
+
 fn watch() -> CommandSpec {
     CommandSpec {
         name: "watch",
         about: "Makes a script of logs that `watch fetchers mutations evictions sysevents deletions` sent",
-        options: [&WATCH, watched(), &[]],
+        options: [&WATCH, leading(), watched(), lived()],
     }
 }
 
@@ -213,7 +251,7 @@ fn csv() -> CommandSpec {
     CommandSpec {
         name: "csv",
         about: "Makes a script of the published trace of a cache",
-        options: [&CSV, config(), &[]],
+        options: [&CSV, config(), &[], &[]],
     }
 }
 
@@ -260,7 +298,7 @@ fn state() -> CommandSpec {
     CommandSpec {
         name: "state",
         about: "Makes a start of the items that a running memcached holds",
-        options: [&STATE_OF_ITEMS, &[], &[]],
+        options: [&STATE_OF_ITEMS, &[], &[], &[]],
     }
 }
 
@@ -269,7 +307,7 @@ static PLAYED: [OptionSpec; 6] = [
     OptionSpec {
         name: "watch",
         unit: "LOG",
-        help: "Plays what `import watch` makes of a log of memcached's watch; the settings tell of the cache [may be given again]",
+        help: "Plays a log of memcached's watch, which leads; the settings tell of the cache [may be given again]",
         needs: Some(&["settings"]),
         excludes: Some(&[
             "traces",
@@ -317,7 +355,7 @@ static PLAYED: [OptionSpec; 6] = [
     OptionSpec {
         name: "steps",
         unit: "WHICH",
-        help: "With --watch or --csv: steps of the LRU maintainer: lean, none, or every:N lines of clients [without it: lean]",
+        help: "With --csv, or with --watch, where it implies --free: steps of the LRU maintainer: lean, none, or every:N lines of clients [without it: lean]",
         excludes: Some(&["traces"]),
         ..TEXT
     },
@@ -325,6 +363,36 @@ static PLAYED: [OptionSpec; 6] = [
 
 fn played() -> &'static [OptionSpec] {
     &PLAYED
+}
+
+// What leads where they play logs.
+static FOLLOWED: [OptionSpec; 3] = [
+    OptionSpec {
+        name: "free",
+        help: "With --watch: the rules alone lead, and not the log",
+        needs: Some(&["watch"]),
+        ..FLAG
+    },
+    OptionSpec {
+        name: "anyway",
+        help: "With --watch: goes on where the server has a setting that the rules do not cover",
+        needs: Some(&["watch"]),
+        excludes: Some(&["free", "steps"]),
+        ..FLAG
+    },
+    OptionSpec {
+        name: "life",
+        unit: "N",
+        help: "With --watch: plays the server's life of this number: 1 to 4294967295, the first is 1, and each start of the server begins one [without it: the last]",
+        values: ValueParser::Signed(1, 4294967295),
+        needs: Some(&["watch"]),
+        excludes: Some(&["free", "steps"]),
+        ..TEXT
+    },
+];
+
+fn followed() -> &'static [OptionSpec] {
+    &FOLLOWED
 }
 
 static OPEN: [OptionSpec; 6] = [
@@ -350,7 +418,7 @@ fn open() -> CommandSpec {
     CommandSpec {
         name: "open",
         about: "Plays the steps of traces, and answers the lines of the standard input at any node of theirs",
-        options: [config(), &OPEN, played()],
+        options: [config(), &OPEN, played(), followed()],
     }
 }
 
@@ -400,7 +468,7 @@ fn report() -> CommandSpec {
     CommandSpec {
         name: "report",
         about: "Plays the steps of traces, and writes a page that tells where the cache loses its keys",
-        options: [config(), &REPORT, played()],
+        options: [config(), &REPORT, played(), followed()],
     }
 }
 
@@ -474,7 +542,7 @@ fn why() -> CommandSpec {
     CommandSpec {
         name: "why",
         about: "Tells from logs what became of keys: each of their lives, and why it ended",
-        options: [&WHY, asked(), &[]],
+        options: [&WHY, asked(), &[], &[]],
     }
 }
 
@@ -532,7 +600,7 @@ fn gone() -> CommandSpec {
     CommandSpec {
         name: "gone",
         about: "Tells from logs which keys left, when and why",
-        options: [&GONE, asked(), &[]],
+        options: [&GONE, asked(), &[], &[]],
     }
 }
 

@@ -1,8 +1,10 @@
 //! The words of `lrudb import`.
 ghost use Rattle.std.specs.Prelude.{◌≡◌, ◌≤◌, length, map, true, false, IfOk};
-ghost use Rattle.rev_options.specs.Request.{IsInRange, IsOfWords, OpensBy, BringsBy, ReportsBy, RunsBy, LivesBy, asks_import};
+ghost use Rattle.rev_options.specs.Request.{IsInRange, IsLife, IsOfWords, OpensBy, BringsBy, ReportsBy, RunsBy, LivesBy, asks_import};
 
+use crate::asking::life_of;
 use crate::csv::{csv_import, sample_of};
+use crate::leader::{Leader, leader_of};
 use crate::state::state_import;
 use crate::{Request, fault, files_of};
 use clap::error::ErrorKind;
@@ -28,7 +30,11 @@ pub struct WatchImport {
     pub stats: Option<String>,
     /// The growth factor of chunk sizes, where it is given exactly.
     pub factor: Option<Factor>,
-    pub rhythm: Rhythm,
+    pub leader: Leader,
+    /// Whether it is said that the rules lead, and not implied.
+    pub free: bool,
+    /// The number of the server's life that is imported, where one is asked for, and else the last. The first is 1.
+    pub life: Option<u32>,
     /// The first and the last second of the events that are asked for, by the Unix clock.
     pub first: u32,
     pub last: u32,
@@ -187,12 +193,15 @@ fn split_of(alloc: Global, matches: &ArgMatches<'_>) -> Result<Option<u32>, Erro
 }
 
 fn watch_import(alloc: Global, matches: &ArgMatches<'_>) -> Result<WatchImport, Error>
-    ensures { IfOk result (λ asked. 1 ≤ length asked.logs.items) }
+    ensures logs { IfOk result (λ asked. 1 ≤ length asked.logs.items) }
+    ensures life { IfOk result (λ asked. IsLife asked.life) }
 {
     Ok(WatchImport {
         logs: logs_of(alloc, matches)?,
         factor: factor_of(alloc, matches)?,
-        rhythm: rhythm_of(alloc, matches)?,
+        leader: leader_of(alloc, matches)?,
+        free: matches.get_flag("free"),
+        life: life_of(alloc, matches)?,
         sample: sample_of(alloc, matches)?,
         split: split_of(alloc, matches)?,
         settings: required(alloc, matches, "settings")?,

@@ -1,9 +1,11 @@
 //! The words of `lrudb open`.
 ghost use Rattle.std.specs.Prelude.{◌≡◌, map, true, false, IfOk, IfSome};
-ghost use Rattle.rev_options.specs.Request.{IsInRange, IsOfWords, asks_open, OpensBy, BringsBy, ReportsBy, RunsBy, LivesBy, begins_with, brings, is_temp_ttl};
+ghost use Rattle.rev_options.specs.Request.{IsInRange, IsLife, IsOfWords, asks_open, OpensBy, BringsBy, ReportsBy, RunsBy, LivesBy, begins_with, brings, is_temp_ttl};
 
+use crate::asking::life_of;
 use crate::csv::sample_of;
 use crate::import::{STANDARD, factor_of, required, rhythm_of};
+use crate::leader::{Leader, leader_of};
 use crate::{Request, config_of, dialect_of, fault, files_of};
 use clap::error::ErrorKind;
 use clap::{ArgMatches, Error};
@@ -36,7 +38,7 @@ pub struct Opening {
     pub traces: Vec<String>,
 }
 
-/// Logs of a server's `watch` to look around in: what they become is played as they are read.
+/// Logs of a server's `watch` to look around in: what they tell is played as they are read.
 #[derive(Drop)]
 pub struct WatchOpening {
     pub manner: Manner,
@@ -48,7 +50,9 @@ pub struct WatchOpening {
     pub settings: String,
     /// The growth factor of chunk sizes, where it is given exactly.
     pub factor: Option<Factor>,
-    pub rhythm: Rhythm,
+    pub leader: Leader,
+    /// The number of the server's life that is played, where one is asked for, and else the last. The first is 1.
+    pub life: Option<u32>,
 }
 
 /// Published traces to look around in: what they become is played as they are read.
@@ -128,10 +132,13 @@ pub(crate) fn watch_opening(
     matches: &ArgMatches<'_>,
     manner: Manner,
     logs: Vec<String>,
-) -> Result<WatchOpening, Error> {
+) -> Result<WatchOpening, Error>
+    ensures { IfOk result (λ asked. IsLife asked.life) }
+{
     Ok(WatchOpening {
         factor: factor_of(alloc, matches)?,
-        rhythm: rhythm_of(alloc, matches)?,
+        leader: leader_of(alloc, matches)?,
+        life: life_of(alloc, matches)?,
         starts: files_of(alloc, matches, "start")?,
         settings: required(alloc, matches, "settings")?,
         manner,

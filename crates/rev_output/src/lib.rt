@@ -2,7 +2,7 @@
 //! a text whole.
 #![tactic(auto)]
 
-pub mod exchange;
+pub mod outbox;
 
 ghost use Rattle.std.specs.Prelude.{◌≡◌, ◌≤◌, ℕ, List, length, IfOk, OnErr, OnOk, Option};
 ghost use Rattle.std.specs.Io.KnownBytes.{Keeps, Appends, WriteAppends};
@@ -28,16 +28,21 @@ pub trait Sink {
     // modulo 2 ^ 64.
     ghost failures: { Self → ℕ };
 
+    // Which writer it is, where it is one that is lent: its ghost name.
+    ghost identity: { Self → ℕ } = { λ _. 0 };
+
     /// Takes bytes from the front of `buf`, as many as it answers.
     fn write(&mut self, buf: &[u8]) -> Result<usize, WriteFailed>
         ensures bound { IfOk result (λ n. n ≤ length buf.now) }
         ensures bytes { WriteAppends (contents self.old) (contents self.new) result buf.now }
-        ensures failures { failures self.new ≡ failures_after (failed_of result (length buf.now)) (failures self.old) };
+        ensures failures { failures self.new ≡ failures_after (failed_of result (length buf.now)) (failures self.old) }
+        ensures same { identity self.new ≡ identity self.old };
 
     /// Sends on what was taken.
     fn flush(&mut self) -> Result<(), WriteFailed>
         ensures bytes { Keeps (contents self.old) (contents self.new) }
-        ensures failures { failures self.new ≡ failures_after (is_failed result) (failures self.old) };
+        ensures failures { failures self.new ≡ failures_after (is_failed result) (failures self.old) }
+        ensures same { identity self.new ≡ identity self.old };
 }
 
 /// Writes all the bytes, in as many calls as it takes, and sends them on; no call failed then. At an
@@ -48,6 +53,7 @@ pub fn write_all<K: Sink>(sink: &mut K, text: &[u8]) -> Result<(), WriteFailed>
         × (K.failures sink.new ≡ K.failures sink.old)) }
     ensures err { OnErr result (WroteFront (K.contents sink.old) (K.contents sink.new) text.now
         × (K.failures sink.new ≡ one_more (K.failures sink.old))) }
+    ensures same { K.identity sink.new ≡ K.identity sink.old }
 {
     let mut from = 0usize;
     while from < text.len() {

@@ -1,3 +1,4 @@
 mod Ends
 mod Traced
 mod Tallies
+mod Running

@@ -30,7 +30,7 @@ more_told P t so count first some many number digits told =
     (subst (λ d. P (joined (codes "lrudb: " ∷ count ∷ codes " commands were " ∷ so ∷ codes ", the first is command " ∷ d ∷ codes "\n" ∷ []))) digits told))
 
 -- a program that is stopped does not end with 0
-some_status : (s : Stop) → status s ≡ 0 → ⊥
+pub some_status : (s : Stop) → status s ≡ 0 → ⊥
 some_status s e = let least = stop_status s in omega (arith, least, e)
 
 -- a run that was stopped

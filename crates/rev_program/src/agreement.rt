@@ -1,6 +1,7 @@
 //! How far the replay of logs agrees with them.
 
 use crate::direct::{ALL, begun};
+use rev_choices::Rhythm;
 use rev_comparisons::agreement::Agreement;
 use rev_import_commands::check::{Check, CheckedLogs, Tally};
 use rev_import_commands::import::{Making, all_opened, setup_of};
@@ -56,17 +57,18 @@ pub(crate) fn copies(alloc: Global, names: &[String]) -> Result<Vec<String>, All
     Ok(copies)
 }
 
-/// How far a replay of the logs, behind the starts, agrees with them, of as many steps as a tree has room for. The logs
+/// How far a replay of the logs by the rules, behind the starts, agrees with them, of as many steps as a tree has room for. The logs
 /// are read for it, and what they become is played as `import watch --check` plays it.
 pub(crate) fn agreement_of<R: Files + AllocGlobal, C: Clock, W: Sink>(
     rt: &R,
     asked: &WatchOpening,
+    rhythm: Rhythm,
     progress: &Progress<C, W>,
 ) -> Result<Agreement, Stop> {
     let alloc = rt.alloc();
     let setup = setup_of(rt, asked.settings.as_str(), asked.factor)?;
     let config = setup.config;
-    let mut intake = Intake::open(alloc, setup, asked.rhythm, ALL, None)?;
+    let mut intake = Intake::open(alloc, setup, rhythm, ALL, None)?;
     let (starts, names) = (asked.starts.as_slice(), asked.logs.as_slice());
     progress.expect(rt, starts);
     progress.expect(rt, names);

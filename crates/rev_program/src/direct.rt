@@ -1,7 +1,7 @@
-//! `lrudb open` of logs and of published traces: what an import would write is played as they are read, and then a
-//! session is answered.
+//! `lrudb open` of logs and of published traces: what logs lead to, or what an import would write, is played as they are
+//! read, and then a session is answered.
 ghost use Rattle.std.specs.Prelude.{IfSome};
-ghost use Rattle.rev_classes.specs.Limits.{fault_of};
+ghost use Rattle.rev_classes.specs.Limits.{IsWithinLimits, fault_of};
 ghost use Rattle.rev_messages.specs.Ends.{IsStatus, StopsBy};
 ghost use Rattle.rev_messages.specs.Stop.{stop_of_config};
 ghost use Rattle.rev_program.specs.Program.{EndsNoted};
@@ -9,23 +9,28 @@ ghost use Rattle.rev_program.specs.Program.{EndsNoted};
 use crate::opening::{Full, answer, told_files};
 use crate::starts::started;
 use crate::stopping::stop_of_trace;
-use rev_choices::Sample;
+use rev_choices::{Rhythm, Sample};
 use rev_classes::{Config, fault_of};
-use rev_import_commands::import::{all_opened as all_imported, copied, setup_of};
+use rev_import::setup::Setup;
+use rev_import_commands::import::{all_opened as all_imported, copied, name_in, setup_of};
 use rev_import_commands::imported::{Feed, ImportedScript, NamedLogs, NamedTraces};
+use rev_import_commands::leading::{leading_setup, stop_of_replay};
 use rev_import_commands::traces::{intake_of, sampled};
 use rev_intake::feed::{LogFeed, RowFeed};
 use rev_intake::intake::{Intake, Range};
 use rev_intake::report::{put_part, put_report, put_unfollowed};
 use rev_intake::row_report::put_row_report;
 use rev_intake::rows::RowIntake;
+use rev_lives::times::{micros, seconds_text};
 use rev_messages::Stop;
 use rev_messages::ends::ended;
 use rev_messages::progress::Progress;
 use rev_messages::telling::tell_bytes;
-use rev_options::{CsvOpening, Manner, WatchOpening};
+use rev_options::{CsvOpening, Leader, Manner, WatchOpening};
 use rev_output::Sink;
 use rev_plays::trace::{TraceEnd, play_trace};
+use rev_replay::grown::{Grown, grow};
+use rev_replay::keeping::Place;
 use rev_script::dialect::Dialect;
 use rev_script::source::FromRead;
 use rev_undotree::Session;
@@ -157,10 +162,11 @@ pub(crate) fn kept(
     }
 }
 
-/// The session behind what the logs become, and the configuration of its store.
-pub(crate) fn with_logs<R: Files + AllocGlobal, C: Clock, W: Sink>(
+// The same where the rules alone lead.
+fn with_rules<R: Files + AllocGlobal, C: Clock, W: Sink>(
     rt: &R,
     asked: WatchOpening,
+    rhythm: Rhythm,
     notes: &mut Vec<u8>,
     progress: &Progress<C, W>,
 ) -> Result<(Session<Global>, Config), Stop> {
@@ -170,7 +176,7 @@ pub(crate) fn with_logs<R: Files + AllocGlobal, C: Clock, W: Sink>(
         logs,
         settings,
         factor,
-        rhythm,
+        ..
     } = asked;
     let setup = setup_of(rt, settings.as_str(), factor)?;
     put_unfollowed(notes, &setup.unfollowed)?;
@@ -191,6 +197,100 @@ pub(crate) fn with_logs<R: Files + AllocGlobal, C: Clock, W: Sink>(
             );
             kept(session, config, played)
         }
+    }
+}
+
+// Adds where the logs of these names fill the tree, if they do.
+fn add_end(
+    alloc: Global,
+    notes: &mut Vec<u8>,
+    names: &[String],
+    full: Option<Place>,
+) -> Result<(), AllocError> {
+    let Some(Place { log, gid, time }) = full else {
+        return Ok(());
+    };
+    let second = seconds_text(alloc, micros(time))?;
+    notes.extend_from_slice(b"lrudb: ")?;
+    notes.extend_from_slice(name_in(names, log).as_bytes())?;
+    notes.extend_from_slice(b": @")?;
+    notes.extend_from_slice(second.as_bytes())?;
+    put_part(
+        notes,
+        b" gid=",
+        gid,
+        b": no room in the tree for what follows; `lrudb why` and `lrudb gone` read logs of any length\n",
+    )
+}
+
+// The session that the logs lead from where this one stands.
+fn grown_of<F: Read + Drop>(
+    alloc: Global,
+    setup: &Setup,
+    session: Session<Global>,
+    life: Option<u32>,
+    names: &[String],
+    logs: Vec<F>,
+    notes: &mut Vec<u8>,
+) -> Result<Session<Global>, Stop>
+    requires { IsWithinLimits setup.now.config }
+{
+    match grow(alloc, setup, session, life, logs, notes) {
+        Err((place, fault)) => Err(stop_of_replay(alloc, fault, name_in(names, place))),
+        Ok(Grown { session, full }) => match add_end(alloc, notes, names, full) {
+            Ok(()) => Ok(session),
+            Err(_) => {
+                // The program ends here, and all memory goes back at once.
+                let _session = ManuallyDrop::new(session);
+                Err(Stop::Memory)
+            }
+        },
+    }
+}
+
+// The session behind the logs where these lead, and the configuration of its store.
+fn with_lead<R: Files + AllocGlobal, C: Clock, W: Sink>(
+    rt: &R,
+    asked: WatchOpening,
+    anyway: bool,
+    notes: &mut Vec<u8>,
+    progress: &Progress<C, W>,
+) -> Result<(Session<Global>, Config), Stop> {
+    let WatchOpening {
+        manner,
+        starts,
+        logs,
+        settings,
+        factor,
+        life,
+        ..
+    } = asked;
+    let alloc = rt.alloc();
+    let setup = leading_setup(rt, settings.as_str(), factor, anyway, notes)?;
+    let config = setup.config;
+    let names = logs.as_slice();
+    progress.expect(rt, starts.as_slice());
+    progress.expect(rt, names);
+    let files = all_imported(rt, alloc, names, io::empty(), progress)?;
+    match begun(rt, &config, manner.dialect, starts, progress) {
+        Err(stop) => Err(stop),
+        Ok(session) => match grown_of(alloc, &setup, session, life, names, files, notes) {
+            Ok(session) => Ok((session, config)),
+            Err(stop) => Err(stop),
+        },
+    }
+}
+
+/// The session behind the logs, and the configuration of its store.
+pub(crate) fn with_logs<R: Files + AllocGlobal, C: Clock, W: Sink>(
+    rt: &R,
+    asked: WatchOpening,
+    notes: &mut Vec<u8>,
+    progress: &Progress<C, W>,
+) -> Result<(Session<Global>, Config), Stop> {
+    match asked.leader {
+        Leader::Rules(rhythm) => with_rules(rt, asked, rhythm, notes, progress),
+        Leader::Log { anyway } => with_lead(rt, asked, anyway, notes, progress),
     }
 }
 
@@ -251,9 +351,8 @@ fn answered<I: Read + Drop, O: Write + Drop, E: Sink>(
     }
 }
 
-/// Plays what the logs become that are asked for, each step as a node, as they are read, and answers the session that
-/// the reader gives. What the import tells of itself, and where the tree is full, is told before the session is read.
-/// Answers the exit status, and tells why where it is not 0.
+/// Plays the logs that are asked for, each step as a node, as they are read, and answers the session that the reader
+/// gives. What is told of the logs, and where the tree is full, is told before the session is read. Answers the exit status, and tells why where it is not 0.
 pub fn open_watch<
     R: Files + AllocGlobal,
     I: Read + Drop,

@@ -8,12 +8,11 @@ ghost use Rattle.rev_program.specs.Program.{EndsAsked};
 
 use rev_choices::Loss;
 use rev_import::setup::Setup;
-use rev_import_commands::import::{all_opened, copied, name_in, settings_of, setup_by, text_of};
+use rev_import_commands::import::{all_opened, name_in, text_of};
+use rev_import_commands::leading::{leading_setup, stop_of_replay};
 use rev_import_commands::state::bad_file;
-use rev_intake::report::put_unfollowed;
 use rev_items::{Key, KeyFault};
 use rev_lives::asked_key;
-use rev_lives::fault::LivesFault;
 use rev_lives::filter::Filter;
 use rev_lives::tell::{Found, LivesAsked, tell_gone, tell_lives};
 use rev_lives::verdict::Reason;
@@ -22,11 +21,10 @@ use rev_messages::ends::ended;
 use rev_messages::progress::{BesideProgress, Progress};
 use rev_messages::telling::tell_bytes;
 use rev_options::{AskedLogs, GoneAsked, WhyAsked};
-use rev_output::exchange::{Exchange, Outgoing};
-use rev_output::{Sink, ToWrite};
-use rev_watch::obstacles::{Obstacle, obstacles};
-use rev_watch::settings::Settings;
-use std::alloc::{AllocError, Global};
+use rev_output::Sink;
+use rev_output::outbox::{Outbox, Room};
+use rev_replay::fault::ReplayFault;
+use std::alloc::Global;
 use std::io::{Read, Write};
 use std::rt::{Clock, Files};
 
@@ -118,53 +116,6 @@ fn keys_of<R: Files + AllocGlobal>(
     Ok(keys)
 }
 
-// A line for each obstacle, which begins with this text.
-fn lines_of(
-    alloc: Global,
-    front: &str,
-    obstacles: &[Option<Obstacle>],
-) -> Result<String, AllocError> {
-    let mut lines = String::new(alloc);
-    for obstacle in obstacles {
-        if let Some(obstacle) = obstacle {
-            lines.push_str(front)?;
-            lines.push_str(format!(in alloc; "{obstacle}\n")?.as_str())?;
-        }
-    }
-    Ok(lines)
-}
-
-// Why logs of a server with these obstacles are not read, where the file of this name tells of them.
-fn refusal(alloc: Global, name: &str, obstacles: &[Option<Obstacle>]) -> Result<Stop, AllocError> {
-    let front = format!(in alloc; "lrudb: {name}: ")?;
-    let mut lines = lines_of(alloc, front.as_str(), obstacles)?;
-    lines.push_str("lrudb: with --anyway the logs are read all the same\n")?;
-    Ok(Stop::BadImport(lines))
-}
-
-// Sees whether the rules cover these settings of a file. Where one is an obstacle, the logs are refused, or it is noted
-// where they are to be read anyway.
-fn see_obstacles(
-    alloc: Global,
-    settings: &Settings,
-    asked: &AskedLogs,
-    notes: &mut Vec<u8>,
-) -> Result<(), Stop> {
-    let met = obstacles(settings);
-    if asked.anyway {
-        let lines = lines_of(alloc, "settings: ", &met)?;
-        notes.extend_from_slice(lines.as_bytes())?;
-        return Ok(());
-    }
-    if met.iter().all(|obstacle| obstacle.is_none()) {
-        return Ok(());
-    }
-    match refusal(alloc, asked.settings.as_str(), &met) {
-        Ok(stop) => Err(stop),
-        Err(_) => Err(Stop::Memory),
-    }
-}
-
 // The server followed by lrudb, where the rules cover its settings, with notes of what they do not cover.
 fn setup_of<R: Files + AllocGlobal>(
     rt: &R,
@@ -173,44 +124,25 @@ fn setup_of<R: Files + AllocGlobal>(
 ) -> Result<Setup, Stop>
     ensures { IfOk result (λ setup. IsWithinLimits setup.config) }
 {
-    let settings = settings_of(rt, asked.settings.as_str())?;
-    see_obstacles(rt.alloc(), &settings, asked, notes)?;
-    let setup = setup_by(&settings, asked.factor)?;
-    put_unfollowed(notes, &setup.unfollowed)?;
-    Ok(setup)
-}
-
-// Why nothing more is told of logs, at a log of this name.
-fn stop_of(alloc: Global, fault: LivesFault, log: &str) -> Stop {
-    let named = match copied(alloc, log) {
-        Ok(named) => named,
-        Err(stop) => return stop,
-    };
-    match fault {
-        LivesFault::Memory => Stop::Memory,
-        LivesFault::Read => Stop::CannotOpen(named),
-        LivesFault::Line { line, fault } => Stop::BadLine {
-            log: named,
-            line,
-            fault,
-        },
-        LivesFault::TooLong => Stop::TooLong,
-        LivesFault::Write => Stop::CannotWrite,
-        LivesFault::NoEvent => Stop::NoEvent(named),
-        LivesFault::TooManySteps => bad_file(alloc, log, "too many steps for an event"),
-    }
+    leading_setup(
+        rt,
+        asked.settings.as_str(),
+        asked.factor,
+        asked.anyway,
+        notes,
+    )
 }
 
 // What was found, where all went well and what was told is sent. What was told before a fault is sent all the same.
-fn sent<O: Write + Drop>(
+fn sent<O: Write>(
     alloc: Global,
     names: &[String],
-    told: Result<Found, (usize, LivesFault)>,
-    exchange: &Exchange<O>,
+    told: Result<Found, (usize, ReplayFault)>,
+    outbox: &mut Outbox<'_, O>,
 ) -> Result<Found, Stop> {
-    let sent = exchange.send();
+    let sent = outbox.send();
     match told {
-        Err((place, fault)) => Err(stop_of(alloc, fault, name_in(names, place))),
+        Err((place, fault)) => Err(stop_of_replay(alloc, fault, name_in(names, place))),
         Ok(_) if sent.is_err() => Err(Stop::CannotWrite),
         Ok(found) => Ok(found),
     }
@@ -243,12 +175,13 @@ fn tell_lives_of<R: Files + AllocGlobal, I: Read + Drop, O: Write + Drop, C: Clo
         life: logs.life.map(u64::from),
         json: logs.json,
     };
-    let Ok(exchange) = Exchange::new(alloc, BesideProgress::new(writer, progress)) else {
+    let Ok(room) = Room::new(alloc) else {
         return Err(Stop::Memory);
     };
-    let mut sink = ToWrite::new(Outgoing::new(&exchange));
-    let told = tell_lives(alloc, &setup, files, &asked, &mut sink, notes);
-    sent(alloc, names, told, &exchange)
+    let mut writer = BesideProgress::new(writer, progress);
+    let mut outbox = Outbox::new(room, &mut writer);
+    let told = tell_lives(alloc, &setup, files, &asked, &mut outbox, notes);
+    sent(alloc, names, told, &mut outbox)
 }
 
 // The reason of this word.
@@ -296,13 +229,14 @@ fn tell_gone_of<R: Files + AllocGlobal, I: Read + Drop, O: Write + Drop, C: Cloc
     let names = logs.logs.as_slice();
     progress.expect(rt, names);
     let files = all_opened(rt, alloc, names, reader, progress)?;
-    let Ok(exchange) = Exchange::new(alloc, BesideProgress::new(writer, progress)) else {
+    let Ok(room) = Room::new(alloc) else {
         return Err(Stop::Memory);
     };
-    let mut sink = ToWrite::new(Outgoing::new(&exchange));
+    let mut writer = BesideProgress::new(writer, progress);
+    let mut outbox = Outbox::new(room, &mut writer);
     let filter = filter_of(asked);
-    let told = tell_gone(alloc, &setup, files, &filter, logs.json, &mut sink, notes);
-    sent(alloc, names, told, &exchange)
+    let told = tell_gone(alloc, &setup, files, &filter, logs.json, &mut outbox, notes);
+    sent(alloc, names, told, &mut outbox)
 }
 
 // The status of logs that were asked so, where it is said whether all was seen that they were asked for. Where all went

@@ -18,9 +18,9 @@ use rev_messages::progress::{Progress, ToldFile};
 use rev_messages::telling::tell_parts;
 use rev_options::{Manner, Opening};
 use rev_output::Sink;
-use rev_output::exchange::{Exchange, Incoming};
 use rev_plays::trace::{TraceEnd, play_trace};
 use rev_script::dialect::Dialect;
+use rev_script::exchange::{Buffers, Exchange};
 use rev_script::source::FromRead;
 use rev_shell::run::Prompts;
 use rev_undotree::Session;
@@ -170,25 +170,22 @@ pub(crate) fn answer<I: Read + Drop, O: Write + Drop>(
     reader: I,
     writer: O,
 ) -> Result<(), Stop> {
-    // Where there is no memory the program ends, and all memory goes back at once.
-    let Ok(exchange) = Exchange::new(alloc, writer) else {
+    let mut writer = writer;
+    let Some(buffers) = Buffers::new(alloc, reader) else {
+        // The program ends here, and all memory goes back at once.
         let _session = ManuallyDrop::new(session);
         return Err(Stop::Memory);
     };
-    let Ok(incoming) = Incoming::new(alloc, reader, &exchange) else {
-        let _session = ManuallyDrop::new(session);
-        return Err(Stop::Memory);
-    };
+    let mut exchange = Exchange::new(buffers, &mut writer);
     let done = if manner.json {
-        run_as_json_on(alloc, session, Dialect::AnyFeed, incoming, &exchange)
+        run_as_json_on(alloc, session, Dialect::AnyFeed, &mut exchange)
     } else {
         run_on(
             &alloc,
             session,
             Dialect::AnyFeed,
             prompts_of(manner.has_prompt),
-            incoming,
-            &exchange,
+            &mut exchange,
         )
     };
     match done {

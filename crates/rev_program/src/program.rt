@@ -1,5 +1,5 @@
 //! The whole program.
-ghost use Rattle.std.specs.Prelude.{◌≡◌, ◌≢◌, ◌≤◌, length, map, true, false, Err, IfOk, IfSome};
+ghost use Rattle.std.specs.Prelude.{◌≡◌, ◌≢◌, ◌≤◌, [], length, map, true, false, Ok, Err, IfOk, IfErr, IfSome, OnOk};
 ghost use Rattle.std.specs.Io.KnownBytes.{Keeps};
 ghost use Rattle.rev_classes.specs.Limits.{IsWithinLimits, fault_of};
 ghost use Rattle.rev_options.specs.Request.{asks_import, asks_lives, asks_open, asks_report, asks_run, asks_why, brings};
@@ -7,6 +7,11 @@ ghost use Rattle.rev_messages.specs.Progress.{asks_progress};
 ghost use Rattle.rev_messages.specs.Ends.{IsStatus, StopsBy, EndsPlainly};
 ghost use Rattle.rev_messages.specs.Stop.{stop_of_config};
 ghost use Rattle.rev_messages.specs.Telling.{Told};
+ghost use Rattle.rev_output.specs.Outbox.{contents};
+ghost use Rattle.rev_script.specs.declared.dialect.Dialect.TheVariants.{CrLf};
+ghost use Rattle.rev_shell.specs.Run.{without_bookmarks};
+ghost use Rattle.rev_shell.specs.declared.run.Summary.{Summary};
+ghost use Rattle.rev_program.specs.Running.{Stops, HasRun, HasStopped, HasRunBehind, StopsBehind, Answers, AnswersLess, AnswersNamed, StopsNamed, HaveNames, EndsAnswering};
 ghost use Rattle.rev_program.specs.Program.{EndsAsked, EndsEarly, EndsBehind, EndsNoted, EndsUnwritten, EndsRun, IsCounted, tally_text};
 
 use crate::direct::{open_csv, open_watch};
@@ -27,11 +32,10 @@ use rev_messages::ends::ended;
 use rev_messages::progress::{Progress, asks_progress};
 use rev_messages::telling::tell_parts;
 use rev_options::{Request, parse_words};
-use rev_output::exchange::{Exchange, Incoming, Outgoing};
 use rev_output::{Sink, ToWrite, WriteFailed};
 use rev_recordings::play::play_files;
 use rev_script::dialect::Dialect;
-use rev_script::source::FromRead;
+use rev_script::exchange::{Buffers, Exchange};
 use rev_shell::run::{Prompts, RunFault, Summary, Tally, run_at_last};
 use rev_undotree::Session;
 use std::alloc::{Allocator, Global};
@@ -43,99 +47,143 @@ use std::thread::Threads;
 use std::{fs, io};
 
 /// How a run ended, behind what it wrote. What was answered before a fault is sent all the same.
-pub(crate) fn sent_behind<O: Write + Drop>(
+pub(crate) fn sent_behind<I: Read, O: Write>(
     done: Result<Summary, RunFault>,
-    exchange: &Exchange<O>,
-) -> Result<Summary, Stop> {
+    exchange: &mut Exchange<'_, I, O>,
+) -> Result<Summary, Stop>
+    ensures ok { IfOk result (λ sum. (done ≡ Ok sum) × (exchange.new.outbox.unsent ≡ [])) }
+    ensures err { IfErr result (λ stop. Stops done stop) }
+    ensures kept { contents exchange.new.outbox ≡ contents exchange.old.outbox }
+    ensures same { exchange.new.outbox.writer ≡ exchange.old.outbox.writer }
+{
     let sent = exchange.send();
     match done {
+        Ok(summary) => match sent {
+            Ok(()) => Ok(summary),
+            Err(_) => Err(Stop::CannotWrite),
+        },
         // A read sends first, and what failed then was a write.
-        Err(RunFault::Read) if exchange.has_failed() => Err(Stop::CannotWrite),
+        Err(RunFault::Read) => {
+            if exchange.has_failed() {
+                Err(Stop::CannotWrite)
+            } else {
+                Err(Stop::CannotRead)
+            }
+        }
         Err(fault) => Err(stop_of_run(fault)),
-        Ok(_) if sent.is_err() => Err(Stop::CannotWrite),
-        Ok(summary) => Ok(summary),
     }
 }
 
-/// Runs the script of the reader, in a dialect, on a session, with all that the run keeps in `alloc`.
-pub(crate) fn run_on<A: Allocator + Clone, I: Read + Drop, O: Write + Drop>(
+/// Runs the script of the exchange, in a dialect, on a session, with all that the run keeps in `alloc`. What was
+/// answered is sent at the end.
+pub(crate) fn run_on<A: Allocator + Clone, I: Read, O: Write>(
     alloc: &A,
     session: Session<A>,
     dialect: Dialect,
     prompts: Prompts,
-    reader: I,
-    exchange: &Exchange<O>,
-) -> Result<Summary, Stop> {
-    let mut source = FromRead::new(reader);
-    let mut sink = ToWrite::new(Outgoing::new(exchange));
-    let done = run_at_last(alloc, session, dialect, prompts, &mut source, &mut sink);
+    exchange: &mut Exchange<'_, I, O>,
+) -> Result<Summary, Stop>
+    ensures ok { IfOk result (λ sum. HasRun false dialect prompts exchange.old exchange.new (without_bookmarks session) sum) }
+    ensures err { IfErr result (λ stop. HasStopped false dialect prompts exchange.old exchange.new (without_bookmarks session) stop) }
+    ensures same { exchange.new.outbox.writer ≡ exchange.old.outbox.writer }
+{
+    let done = run_at_last(alloc, session, dialect, prompts, exchange);
     sent_behind(done, exchange)
 }
 
-// Runs the script of the reader behind the steps of the starts, with all that the run keeps in `alloc`.
-fn run_in<A: Allocator + Clone, F: Read + Drop, I: Read, O: Write + Drop>(
+// Runs the script of the exchange behind the steps of the starts, with all that the run keeps in `alloc`.
+fn run_in<A: Allocator + Clone, F: Read + Drop, I: Read, O: Write>(
     alloc: &A,
     config: &Config,
     dialect: Dialect,
     starts: Vec<(String, F)>,
-    reader: I,
-    exchange: &Exchange<O>,
+    exchange: &mut Exchange<'_, I, O>,
 ) -> Result<Summary, Stop>
-where
-    I: Drop,
     requires { IsWithinLimits config.now }
+    ensures ok { IfOk result (λ sum. HasRunBehind F.remaining false dialect config.entry.now starts.items exchange.old exchange.new sum) }
+    ensures err { IfErr result (λ stop. StopsBehind F.remaining false dialect config.entry.now starts.items exchange.old exchange.new stop) }
+    ensures same { exchange.new.outbox.writer ≡ exchange.old.outbox.writer }
 {
     match started(alloc, config, dialect, starts) {
         Err(stop) => Err(stop),
-        Ok(session) => run_on(alloc, session, dialect, Prompts::Hidden, reader, exchange),
+        Ok(session) => run_on(alloc, session, dialect, Prompts::Hidden, exchange),
     }
 }
 
-// Runs the script of the reader behind the steps of the starts, with all that the run keeps in one heap of so many
+// Runs the script of the exchange behind the steps of the starts, with all that the run keeps in one heap of so many
 // bytes.
-fn run_in_heap<F: Read + Drop, I: Read + Drop, O: Write + Drop>(
+fn run_in_heap<F: Read + Drop, I: Read, O: Write>(
     alloc: Global,
     bytes: usize,
     config: &Config,
     dialect: Dialect,
     starts: Vec<(String, F)>,
-    reader: I,
-    exchange: &Exchange<O>,
+    exchange: &mut Exchange<'_, I, O>,
 ) -> Result<Summary, Stop>
     requires { IsWithinLimits config.now }
+    ensures ok { IfOk result (λ sum. HasRunBehind F.remaining false dialect config.entry.now starts.items exchange.old exchange.new sum) }
+    ensures err { IfErr result (λ stop. StopsBehind F.remaining false dialect config.entry.now starts.items exchange.old exchange.new stop) }
+    ensures same { exchange.new.outbox.writer ≡ exchange.old.outbox.writer }
 {
     let Ok(heap) = LocalHeap::new(alloc, bytes) else {
         return Err(Stop::Memory);
     };
-    run_in(&&heap, config, dialect, starts, reader, exchange)
+    match run_in(&&heap, config, dialect, starts, exchange) {
+        Err(stop) => Err(stop),
+        Ok(summary) => Ok(summary),
+    }
+}
+
+// The same, with a heap or none.
+fn run_there<F: Read + Drop, I: Read, O: Write>(
+    alloc: Global,
+    config: &Config,
+    heap: Option<usize>,
+    dialect: Dialect,
+    starts: Vec<(String, F)>,
+    exchange: &mut Exchange<'_, I, O>,
+) -> Result<Summary, Stop>
+    requires { IsWithinLimits config.now }
+    ensures ok { IfOk result (λ sum. HasRunBehind F.remaining false dialect config.entry.now starts.items exchange.old exchange.new sum) }
+    ensures err { IfErr result (λ stop. StopsBehind F.remaining false dialect config.entry.now starts.items exchange.old exchange.new stop) }
+    ensures same { exchange.new.outbox.writer ≡ exchange.old.outbox.writer }
+{
+    match heap {
+        None => run_in(&alloc, config, dialect, starts, exchange),
+        Some(bytes) => run_in_heap(alloc, bytes, config, dialect, starts, exchange),
+    }
 }
 
 // Runs the script of the reader behind the steps of the starts, with a heap or none.
-fn run_sound<F: Read + Drop, I: Read + Drop, O: Write + Drop>(
+fn run_sound<F: Read + Drop, I: Read + Drop, O: Write>(
     alloc: Global,
     config: &Config,
     heap: Option<usize>,
     dialect: Dialect,
     starts: Vec<(String, F)>,
     reader: I,
-    writer: O,
+    writer: &mut O,
 ) -> Result<Summary, Stop>
     requires { IsWithinLimits config.now }
+    ensures ok { IfOk result (λ sum. Answers F.remaining false dialect config.entry.now starts.items (I.remaining reader) (O.contents writer.old) (O.contents writer.new) sum) }
+    ensures err { IfErr result (λ stop. AnswersLess F.remaining false dialect config.entry.now starts.items (I.remaining reader) (O.contents writer.old) (O.contents writer.new) stop) }
 {
-    let Ok(exchange) = Exchange::new(alloc, writer) else {
+    let Some(buffers) = Buffers::new(alloc, reader) else {
         return Err(Stop::Memory);
     };
-    let Ok(incoming) = Incoming::new(alloc, reader, &exchange) else {
-        return Err(Stop::Memory);
-    };
-    match heap {
-        None => run_in(&alloc, config, dialect, starts, incoming, &exchange),
-        Some(bytes) => run_in_heap(alloc, bytes, config, dialect, starts, incoming, &exchange),
+    let mut exchange = Exchange::new(buffers, writer);
+    let done = run_there(alloc, config, heap, dialect, starts, &mut exchange);
+    let _writer = exchange.into_writer();
+    match done {
+        Err(stop) => Err(stop),
+        Ok(summary) => Ok(summary),
     }
 }
 
 // The file of a name, opened to be read.
-fn opened<R: Files>(rt: &R, name: String) -> Result<(String, R::File), Stop> {
+fn opened<R: Files>(rt: &R, name: String) -> Result<(String, R::File), Stop>
+    ensures { IfOk result (λ file. file.0 ≡ name) }
+{
     match fs::open(rt, name.as_str()) {
         Ok(file) => Ok((name, file)),
         Err(error) if error.kind() == io::ErrorKind::OutOfMemory => Err(Stop::Memory),
@@ -149,7 +197,8 @@ pub(crate) fn all_opened<R: Files>(
     alloc: Global,
     names: Vec<String>,
 ) -> Result<Vec<(String, R::File)>, Stop>
-    ensures { IfOk result (λ files. length files.items ≡ length names.items) }
+    ensures count { IfOk result (λ files. length files.items ≡ length names.items) }
+    ensures names { IfOk result (λ files. HaveNames files.items names.items) }
 {
     let mut files = Vec::new(alloc);
     for name in names {
@@ -162,16 +211,18 @@ pub(crate) fn all_opened<R: Files>(
 }
 
 // What `run_script` says, in a dialect; and what the run did.
-fn run_told<R: Files + AllocGlobal, I: Read + Drop, O: Write + Drop>(
+fn run_told<R: Files + AllocGlobal, I: Read + Drop, O: Write>(
     rt: &R,
     config: Config,
     heap: Option<usize>,
     dialect: Dialect,
     starts: Vec<String>,
     reader: I,
-    writer: O,
+    writer: &mut O,
 ) -> Result<Summary, Stop>
-    ensures { IfSome (fault_of config) (λ fault. result ≡ Err (stop_of_config fault)) }
+    ensures config { IfSome (fault_of config) (λ fault. result ≡ Err (stop_of_config fault)) }
+    ensures ok { IfOk result (λ sum. AnswersNamed R.File.Read.remaining false dialect config starts.items (I.remaining reader) (O.contents writer.old) (O.contents writer.new) sum) }
+    ensures err { IfErr result (λ stop. StopsNamed R.File.Read.remaining false dialect config starts.items (I.remaining reader) (O.contents writer.old) (O.contents writer.new) stop) }
 {
     if let Some(fault) = fault_of(&config) {
         return Err(Stop::from(fault));
@@ -186,15 +237,17 @@ fn run_told<R: Files + AllocGlobal, I: Read + Drop, O: Write + Drop>(
 /// writes its answers. With `heap`, all that the run keeps lies in one heap of so many bytes, but for the buffers of
 /// the streams. A configuration at fault is told before a file is opened, and a file that cannot be opened before
 /// anything is read and before the heap is made. CR LF ends data.
-pub fn run_script<R: Files + AllocGlobal, I: Read + Drop, O: Write + Drop>(
+pub fn run_script<R: Files + AllocGlobal, I: Read + Drop, O: Write>(
     rt: &R,
     config: Config,
     heap: Option<usize>,
     starts: Vec<String>,
     reader: I,
-    writer: O,
+    writer: &mut O,
 ) -> Result<(), Stop>
-    ensures { IfSome (fault_of config) (λ fault. result ≡ Err (stop_of_config fault)) }
+    ensures config { IfSome (fault_of config) (λ fault. result ≡ Err (stop_of_config fault)) }
+    ensures ok { OnOk result ((sum : Summary) × AnswersNamed R.File.Read.remaining false CrLf config starts.items (I.remaining reader) (O.contents writer.old) (O.contents writer.new) sum) }
+    ensures err { IfErr result (λ stop. StopsNamed R.File.Read.remaining false CrLf config starts.items (I.remaining reader) (O.contents writer.old) (O.contents writer.new) stop) }
 {
     match run_told(rt, config, heap, Dialect::CrLf, starts, reader, writer) {
         Err(stop) => Err(stop),
@@ -244,7 +297,9 @@ fn count<E: Sink>(summary: &Summary, errors: &mut E)
 
 // The status of a run that ended so. Its user is told why it was stopped, or which commands were malformed or refused.
 fn ended_run<E: Sink>(done: Result<Summary, Stop>, errors: &mut E) -> u8
-    ensures { EndsRun (E.contents errors.old) (E.contents errors.new) (E.failures errors.old) (E.failures errors.new) result }
+    ensures ends { EndsRun (E.contents errors.old) (E.contents errors.new) (E.failures errors.old) (E.failures errors.new) result }
+    ensures done { IfOk done (λ sum. (result ≡ 0) × IsCounted (E.contents errors.old) (E.contents errors.new) (E.failures errors.old) (E.failures errors.new) sum) }
+    ensures stopped { IfErr done (λ stop. (result ≢ 0) × StopsBy (E.contents errors.old) (E.contents errors.new) (E.failures errors.old) (E.failures errors.new) result stop) }
 {
     match done {
         Err(stop) => ended(Err(stop), errors),
@@ -256,7 +311,7 @@ fn ended_run<E: Sink>(done: Result<Summary, Stop>, errors: &mut E) -> u8
 }
 
 // What `run_told` says; with `json`, and no heap then, lines are told as JSON.
-fn run_asked<R: Files + AllocGlobal, I: Read + Drop, O: Write + Drop>(
+fn run_asked<R: Files + AllocGlobal, I: Read + Drop, O: Write>(
     rt: &R,
     config: Config,
     heap: Option<usize>,
@@ -264,15 +319,37 @@ fn run_asked<R: Files + AllocGlobal, I: Read + Drop, O: Write + Drop>(
     starts: Vec<String>,
     json: bool,
     reader: I,
-    writer: O,
+    writer: &mut O,
 ) -> Result<Summary, Stop>
-    ensures { IfSome (fault_of config) (λ fault. result ≡ Err (stop_of_config fault)) }
+    ensures config { IfSome (fault_of config) (λ fault. result ≡ Err (stop_of_config fault)) }
+    ensures ok { IfOk result (λ sum. AnswersNamed R.File.Read.remaining json dialect config starts.items (I.remaining reader) (O.contents writer.old) (O.contents writer.new) sum) }
+    ensures err { IfErr result (λ stop. StopsNamed R.File.Read.remaining json dialect config starts.items (I.remaining reader) (O.contents writer.old) (O.contents writer.new) stop) }
 {
     if json {
         run_script_as_json(rt, config, dialect, starts, reader, writer)
     } else {
         run_told(rt, config, heap, dialect, starts, reader, writer)
     }
+}
+
+// Runs what is asked for, and tells its user how that ended. Answers the exit status.
+fn run_to_end<R: Files + AllocGlobal, I: Read + Drop, O: Write, E: Sink>(
+    rt: &R,
+    config: Config,
+    heap: Option<usize>,
+    dialect: Dialect,
+    starts: Vec<String>,
+    json: bool,
+    reader: I,
+    writer: &mut O,
+    errors: &mut E,
+) -> u8
+    ensures ends { EndsRun (E.contents errors.old) (E.contents errors.new) (E.failures errors.old) (E.failures errors.new) result }
+    ensures answers { EndsAnswering R.File.Read.remaining (E.contents errors.old) (E.contents errors.new) (E.failures errors.old) (E.failures errors.new)
+        (I.remaining reader) (O.contents writer.old) (O.contents writer.new) result }
+{
+    let done = run_asked(rt, config, heap, dialect, starts, json, reader, writer);
+    ended_run(done, errors)
 }
 
 // The starts and the files, opened in order, and a session on which the steps of the starts were played.
@@ -325,15 +402,17 @@ fn program_with<
     R: Files + Threads + Wait + Sync + AllocGlobal,
     S: AsStr,
     I: Read + Drop,
-    O: Write + Drop,
+    O: Write,
     E: Sink,
     C: Clock,
     W: Sink,
->(rt: &R, words: &[S], reader: I, mut writer: O, errors: &mut E, progress: &Progress<C, W>) -> u8
+>(rt: &R, words: &[S], reader: I, writer: &mut O, errors: &mut E, progress: &Progress<C, W>) -> u8
     ensures status { asks_why (map S.text words.now) ≡ false → IsStatus result }
     ensures early { result ≢ 0 → asks_open (map S.text words.now) ≡ false → asks_lives (map S.text words.now) ≡ false → EndsEarly (E.contents errors.old) (E.contents errors.new) (E.failures errors.old) (E.failures errors.new) result }
     ensures quiet { result ≡ 0 → asks_import (map S.text words.now) ≡ false → asks_open (map S.text words.now) ≡ false → asks_run (map S.text words.now) ≡ false → asks_lives (map S.text words.now) ≡ false → Keeps (E.contents errors.old) (E.contents errors.new) }
     ensures run { asks_run (map S.text words.now) ≡ true → EndsRun (E.contents errors.old) (E.contents errors.new) (E.failures errors.old) (E.failures errors.new) result }
+    ensures answers { asks_run (map S.text words.now) ≡ true → EndsAnswering R.File.Read.remaining (E.contents errors.old) (E.contents errors.new) (E.failures errors.old) (E.failures errors.new)
+        (I.remaining reader) (O.contents writer.old) (O.contents writer.new) result }
     ensures noted { asks_import (map S.text words.now) ≡ false → asks_run (map S.text words.now) ≡ false → asks_lives (map S.text words.now) ≡ false → EndsNoted (E.contents errors.old) (E.contents errors.new) (E.failures errors.old) (E.failures errors.new) result }
     ensures behind { asks_import (map S.text words.now) ≡ false → asks_run (map S.text words.now) ≡ false → asks_lives (map S.text words.now) ≡ false → brings (map S.text words.now) ≡ false → EndsBehind (E.contents errors.old) (E.contents errors.new) (E.failures errors.old) (E.failures errors.new) result }
     ensures report { asks_report (map S.text words.now) ≡ true → EndsPlainly (E.contents errors.old) (E.contents errors.new) (E.failures errors.old) (E.failures errors.new) result }
@@ -350,8 +429,9 @@ fn program_with<
                 json,
             },
         ) => {
-            let done = run_asked(rt, config, heap, dialect, starts, json, reader, writer);
-            ended_run(done, errors)
+            run_to_end(
+                rt, config, heap, dialect, starts, json, reader, writer, errors,
+            )
         }
         Ok(
             Request::Record {
@@ -360,13 +440,11 @@ fn program_with<
                 starts,
                 files,
             },
-        ) => record_files(rt, config, dialect, starts, files, &mut writer, errors),
+        ) => record_files(rt, config, dialect, starts, files, writer, errors),
         Ok(Request::ImportWatch(asked)) => {
-            import_watch(rt, asked, reader, &mut writer, errors, progress)
+            import_watch(rt, asked, reader, writer, errors, progress)
         }
-        Ok(Request::ImportCsv(asked)) => {
-            import_csv(rt, asked, reader, &mut writer, errors, progress)
-        }
+        Ok(Request::ImportCsv(asked)) => { import_csv(rt, asked, reader, writer, errors, progress) }
         Ok(Request::ImportState(asked)) => import_state(rt, asked, errors),
         Ok(Request::Open(asked)) => open_traces(rt, asked, reader, writer, errors, progress),
         Ok(Request::OpenWatch(asked)) => open_watch(rt, asked, reader, writer, errors, progress),
@@ -390,14 +468,16 @@ pub fn program<
     R: Files + Threads + Wait + Clock + Sync + AllocGlobal,
     S: AsStr,
     I: Read + Drop,
-    O: Write + Drop,
+    O: Write,
     E: Sink,
     P: Write,
->(rt: &R, words: &[S], reader: I, writer: O, errors: &mut E, progress: &mut P) -> u8
+>(rt: &R, words: &[S], reader: I, writer: &mut O, errors: &mut E, progress: &mut P) -> u8
     ensures status { asks_why (map S.text words.now) ≡ false → IsStatus result }
     ensures early { result ≢ 0 → asks_open (map S.text words.now) ≡ false → asks_lives (map S.text words.now) ≡ false → EndsEarly (E.contents errors.old) (E.contents errors.new) (E.failures errors.old) (E.failures errors.new) result }
     ensures quiet { result ≡ 0 → asks_import (map S.text words.now) ≡ false → asks_open (map S.text words.now) ≡ false → asks_run (map S.text words.now) ≡ false → asks_lives (map S.text words.now) ≡ false → Keeps (E.contents errors.old) (E.contents errors.new) }
     ensures run { asks_run (map S.text words.now) ≡ true → EndsRun (E.contents errors.old) (E.contents errors.new) (E.failures errors.old) (E.failures errors.new) result }
+    ensures answers { asks_run (map S.text words.now) ≡ true → EndsAnswering R.File.Read.remaining (E.contents errors.old) (E.contents errors.new) (E.failures errors.old) (E.failures errors.new)
+        (I.remaining reader) (O.contents writer.old) (O.contents writer.new) result }
     ensures noted { asks_import (map S.text words.now) ≡ false → asks_run (map S.text words.now) ≡ false → asks_lives (map S.text words.now) ≡ false → EndsNoted (E.contents errors.old) (E.contents errors.new) (E.failures errors.old) (E.failures errors.new) result }
     ensures behind { asks_import (map S.text words.now) ≡ false → asks_run (map S.text words.now) ≡ false → asks_lives (map S.text words.now) ≡ false → brings (map S.text words.now) ≡ false → EndsBehind (E.contents errors.old) (E.contents errors.new) (E.failures errors.old) (E.failures errors.new) result }
     ensures report { asks_report (map S.text words.now) ≡ true → EndsPlainly (E.contents errors.old) (E.contents errors.new) (E.failures errors.old) (E.failures errors.new) result }

@@ -18,7 +18,7 @@ use rev_items::{Key, KeyFault};
 use rev_messages::Stop;
 use rev_messages::ends::ended;
 use rev_messages::progress::Progress;
-use rev_options::{Opening, Played, Reporting};
+use rev_options::{Leader, Opening, Played, Reporting};
 use rev_output::Sink;
 use rev_report::figures::{Figures, figures_of};
 use rev_report::life::{Life, life_of};
@@ -119,14 +119,17 @@ fn session_of<R: Files + AllocGlobal, C: Clock, W: Sink>(
     }
 }
 
-// How far a replay agrees with the logs that are played, where logs are.
+// How far a replay agrees with the logs that are played, where the rules lead it.
 fn agreement_with<R: Files + AllocGlobal, C: Clock, W: Sink>(
     rt: &R,
     asked: &Played,
     progress: &Progress<C, W>,
 ) -> Result<Option<Agreement>, Stop> {
     match asked {
-        Played::Logs(asked) => Ok(Some(agreement_of(rt, asked, progress)?)),
+        Played::Logs(asked) => match asked.leader {
+            Leader::Rules(rhythm) => Ok(Some(agreement_of(rt, asked, rhythm, progress)?)),
+            Leader::Log { .. } => Ok(None),
+        },
         Played::Traces(_) | Played::Rows(_) => Ok(None),
     }
 }

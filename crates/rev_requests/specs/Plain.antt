@@ -51,6 +51,7 @@ amount (sums.Decrement n) = n
 abbrev pub plain_keyed : KeyCommand → List ℕ → client.ClientStep
 plain_keyed commands.Get key = client.Gets key
 plain_keyed commands.Delete key = client.Deletes key
+plain_keyed commands.Evict key = client.Evicts key
 plain_keyed (commands.Touch exptime) key = client.Touches key exptime
 plain_keyed (commands.Count a) key = client.Counts (plain_sum a) key (amount a)
 

@@ -38,13 +38,15 @@ pub enum Arithmetic {
     Decrement(u64),
 }
 
-/// A command on one key that brings no data (protocol.txt).
+/// A command on one key that brings no data (protocol.txt; `Evict` is this project's own).
 #[derive(Clone, Copy, Debug, PartialEq, Eq)]
 pub enum KeyCommand {
     /// Reads the key's item.
     Get,
     /// Removes the key's item.
     Delete,
+    /// Removes the key's item as one that a set evicts.
+    Evict,
     /// Gives the key's item a new time to live: seconds, as in `ClientStep::Store`.
     Touch(i32),
     /// Counts the number that the key's item holds up or down.

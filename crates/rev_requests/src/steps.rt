@@ -22,7 +22,8 @@ fn key_to_store<A: Allocator>(step: &Step<A>) -> Option<&Key<A>>
             ClientStep::Store { key, .. } | ClientStep::Join { key, .. } => Some(key),
             ClientStep::Keyed { command, key } => match command {
                 KeyCommand::Count(_) => Some(key),
-                KeyCommand::Get | KeyCommand::Delete | KeyCommand::Touch(_) => None,
+                KeyCommand::Get | KeyCommand::Delete | KeyCommand::Evict | KeyCommand::Touch(_) =>
+                    None,
             },
             ClientStep::FlushAll { .. } => None,
         },

@@ -54,19 +54,19 @@ Passed-then {a} {b} {c} {xs} {ys} p q = record {
 }
 
 pub Took-then : {a b c : PlainReader} {xs ys : List ℕ} → Took a b xs → Took b c ys → Took a c (xs ++ ys)
-Took-then p q = record { passed = Passed-then p.passed q.passed; steady = q.steady ∙ p.steady }
+Took-then p q = record { passed = Passed-then p.passed q.passed; steady = q.steady ∙ p.steady; beside = q.beside ∙ p.beside }
 
-stopped_then : (a b c : PlainReader) (e : LineFault) → b.source.failures ≡ a.source.failures → StoppedBy b c e → StoppedBy a c e
+pub stopped_then : (a b c : PlainReader) (e : LineFault) → b.source.failures ≡ a.source.failures → StoppedBy b c e → StoppedBy a c e
 stopped_then a b c faults.Memory same s = tt
 stopped_then a b c faults.Read same s = (s.0 ∙ ap one_more same, s.1, s.2)
 stopped_then a b c faults.TooLong same s = s
 
 pub Took-broke : {a b c : PlainReader} {xs ys : List ℕ} {e : LineFault} → Took a b xs → Broke b c ys e → Broke a c (xs ++ ys) e
-Took-broke {a} {b} {c} {xs} {ys} {e} p q = record { passed = Passed-then p.passed q.passed; stopped = stopped_then a b c e p.steady q.stopped }
+Took-broke {a} {b} {c} {xs} {ys} {e} p q = record { passed = Passed-then p.passed q.passed; beside = q.beside ∙ p.beside; stopped = stopped_then a b c e p.steady q.stopped }
 
 -- no memory for what was taken
 pub Took-memory : {a b : PlainReader} {xs : List ℕ} → Took a b xs → Broke a b xs faults.Memory
-Took-memory t = record { passed = t.passed; stopped = tt }
+Took-memory t = record { passed = t.passed; beside = t.beside; stopped = tt }
 
 keep_all : (a : Option (List ℕ)) → Consumes a a []
 keep_all None = tt
@@ -74,7 +74,7 @@ keep_all (Some xs) = refl
 
 -- nothing was taken yet
 pub Took-refl : {a : PlainReader} → Took a a []
-Took-refl {a} = record { passed = record { bytes = keep_all (ahead a); count = omega arith; same = refl }; steady = refl }
+Took-refl {a} = record { passed = record { bytes = keep_all (ahead a); count = omega arith; same = refl }; steady = refl; beside = refl }
 
 -- a front of the piece is handed out
 pub parted-known : (xs ys : List ℕ) (rest : Option (List ℕ)) → Consumes (prepend_known (xs ++ ys) rest) (prepend_known ys rest) xs

@@ -2,7 +2,9 @@
 -- Rule of this project: bytes are the same whatever the pieces in which they arrive.
 use Rattle.std.specs.Prelude.{◌≡◌, ◌<◌, ◌+◌, ◌-◌, ℕ, List, [], length, take, Option}
 use Rattle.std.specs.Io.KnownBytes.{prepend_known, Consumes, IsAtEnd}
+use Rattle.rev_output.specs.Sink.{PlainSink}
 use Rattle.rev_script.specs.Source.{Told, one_more}
+use Rattle.rev_script.specs.Source as source
 use Rattle.rev_script.specs.declared.source.LastRead.TheVariants.{Ended, Failed}
 use Rattle.rev_script.specs.declared.byte_reader.LineFault.{LineFault}
 use Rattle.rev_script.specs.declared.byte_reader.LineFault.TheVariants as faults
@@ -31,10 +33,11 @@ pub record Passed (old new : PlainReader) (taken : List ℕ) : Type 0 where
   pub count : new.given ≡ old.given + length taken
   pub same : new.source.identity ≡ old.source.identity
 
--- the same, and no read failed
+-- the same, no read failed, and nothing was written
 pub record Took (old new : PlainReader) (taken : List ℕ) : Type 0 where
   pub passed : Passed old new taken
   pub steady : new.source.failures ≡ old.source.failures
+  pub beside : new.source.beside ≡ old.source.beside
 
 -- the last read, with room for a byte, gave none, and all that was read was handed out
 abbrev pub IsEnded : PlainReader → Type 0
@@ -53,7 +56,12 @@ StoppedBy old new faults.Read =
     (new.source.failures ≡ one_more old.source.failures) × (new.source.last ≡ Failed) × (new.unused ≡ [])
 StoppedBy old new faults.TooLong = (new.given ≡ 4294967296) × (0 < length new.unused)
 
--- these bytes were handed out, and then a fault came
+-- these bytes were handed out, and then a fault came; nothing was written
 pub record Broke (old new : PlainReader) (taken : List ℕ) (e : LineFault) : Type 0 where
   pub passed : Passed old new taken
+  pub beside : new.source.beside ≡ old.source.beside
   pub stopped : StoppedBy old new e
+
+-- the same reader, whose source was written to so
+abbrev pub with_sink : PlainReader → PlainSink → PlainReader
+with_sink r sink = record r { source = source.with_sink r.source sink }

@@ -198,7 +198,8 @@ lru_command ws =
     if (length ws == 3) && bytes_eq (word ws 1) (codes "temp_ttl") then temp_ttl_of (signed (word ws 2))
     else (if (length ws == 6) && bytes_eq (word ws 1) (codes "tune") then tune_command ws else Bad Error)
 
--- ---- ~pull <class> <queue>; ~bump; ~crawl <class> <queue>; ~move; @ <time>: no fault has a text of its own
+-- ---- ~pull <class> <queue>; ~bump; ~crawl <class> <queue>; ~move; @ <time>; ~evict <key>: no fault has a text of
+-- its own
 
 unfoldable pub queue_of : List ℕ → Option Queue
 queue_of w =
@@ -218,6 +219,9 @@ abbrev pub clock_of : Option ℕ → Command
 clock_of None = Bad BadCommand
 clock_of (Some n) = Actor (actors.Clock n)
 
+unfoldable pub evict_command : List (List ℕ) → Command
+evict_command ws = if is_key (word ws 1) then Update keyed.Evict false else Bad BadCommand
+
 unfoldable pub actor_command : List (List ℕ) → Command
 actor_command ws =
     if (length ws == 1) && bytes_eq (word ws 0) (codes "~bump") then Actor actors.Bump
@@ -227,7 +231,8 @@ actor_command ws =
     else (if (length ws == 3) && bytes_eq (word ws 0) (codes "~crawl") then
     with_queue (λ n q. Actor (actors.Crawl n q)) (number_u32 (word ws 1)) (queue_of (word ws 2))
     else (if (length ws == 2) && bytes_eq (word ws 0) (codes "@") then clock_of (number_u32 (word ws 1))
-    else Bad BadCommand))))
+    else (if (length ws == 2) && bytes_eq (word ws 0) (codes "~evict") then evict_command ws
+    else Bad BadCommand)))))
 
 -- ---- debug commands
 

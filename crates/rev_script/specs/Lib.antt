@@ -11,3 +11,4 @@ pub mod DataBlock
 pub mod Line
 pub mod Lines
 pub mod Input
+pub mod Exchange

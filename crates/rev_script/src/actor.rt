@@ -1,13 +1,14 @@
-//! The commands to the maintainer, the crawler, the page mover and the clock.
+//! The commands to the maintainer, the crawler, the page mover and the clock, and `~evict`.
 ghost use Rattle.std.specs.Prelude.{◌≡◌, map};
-ghost use Rattle.rev_script.specs.Commands.{crawler_command, slabs_command, tune_command, lru_command, queue_of, actor_command};
+ghost use Rattle.rev_script.specs.Commands.{crawler_command, slabs_command, tune_command, lru_command, queue_of, evict_command, actor_command};
 ghost use Rattle.rev_script.specs.Keyed.{HasKeys};
 
 use crate::command::{BadAnswer, Command};
+use crate::keys::is_key;
 use crate::number::{factor, ids, is_factor, number_u32, signed};
 use crate::words::{is_word, word};
 use rev_model::{ClassSet, Queue};
-use rev_requests::{ActorStep, MOST_SHARES, Tune};
+use rev_requests::{ActorStep, KeyCommand, MOST_SHARES, Tune};
 
 #[tactic(auto, unfolding(crate::specs::Commands::crawler_command))]
 pub fn crawler_command(words: &[&[u8]]) -> Command
@@ -109,6 +110,21 @@ pub fn queue_of(w: &[u8]) -> Option<Queue>
     }
 }
 
+/// `~evict` and a word, which is to be a key.
+#[tactic(auto, unfolding(crate::specs::Commands::evict_command))]
+fn evict_command(words: &[&[u8]]) -> Command
+    ensures value { result ≡ evict_command (map (λ x. x.now) words.now) }
+    ensures keyed { HasKeys result (map (λ x. x.now) words.now) }
+{
+    if !is_key(word(words, 1)) {
+        return Command::Bad(BadAnswer::BadCommand);
+    }
+    Command::Update {
+        command: KeyCommand::Evict,
+        noreply: false,
+    }
+}
+
 /// A line whose first word begins with `~` or `@`.
 #[tactic(auto, unfolding(crate::specs::Commands::actor_command))]
 pub fn actor_command(words: &[&[u8]]) -> Command
@@ -145,6 +161,9 @@ pub fn actor_command(words: &[&[u8]]) -> Command
             return Command::Bad(BadAnswer::BadCommand);
         };
         return Command::Actor(ActorStep::Clock(now));
+    }
+    if words.len() == 2 && is_word(name, b"~evict") {
+        return evict_command(words);
     }
     Command::Bad(BadAnswer::BadCommand)
 }

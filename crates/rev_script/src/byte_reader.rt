@@ -1,7 +1,11 @@
 //! Bytes by large pieces, from a source that gives them in pieces of any size.
-ghost use Rattle.std.specs.Prelude.{◌≡◌, ◌≢◌, [], ◌≤◌, ◌<◌, length, take, Ok, IfOk, IfErr, OnOk, IfNone, true, false, option_to_list};
+ghost use Rattle.std.specs.Prelude.{◌≡◌, ◌≢◌, [], ◌≤◌, ◌<◌, length, take, Ok, IfOk, IfErr, OnOk, IfNone, OnErr, true, false, option_to_list};
+ghost use Rattle.std.specs.Io.KnownBytes.{Appends};
+ghost use Rattle.rev_output.specs.Sink.{WroteFront, one_more};
 
+use crate::duplex::Duplex;
 use crate::source::Source;
+use rev_output::WriteFailed;
 use std::marker::Model;
 use thiserror::Error;
 
@@ -165,5 +169,24 @@ impl<S: Source> ByteReader<S> {
     {
         let ByteReader { source, .. } = self;
         source
+    }
+}
+
+impl<S: Duplex> ByteReader<S> {
+    ghost use Rattle.rev_script.specs.ByteReader.{with_sink};
+
+    /// Writes all the bytes to the source. What is read is left alone.
+    #[inline(always)]
+    pub fn put(&mut self, text: &[u8]) -> Result<(), WriteFailed>
+        ensures ok { OnOk result (Appends self.old.source.beside.sink.contents self.new.source.beside.sink.contents text.now
+            × (self.new.source.beside.sink.failures ≡ self.old.source.beside.sink.failures)) }
+        ensures err { OnErr result (WroteFront self.old.source.beside.sink.contents self.new.source.beside.sink.contents text.now
+            × (self.new.source.beside.sink.failures ≡ one_more self.old.source.beside.sink.failures)) }
+        ensures kept { self.new ≡ with_sink self.old self.new.source.beside.sink }
+    {
+        match self.source.put(text) {
+            Err(e) => Err(e),
+            Ok(()) => Ok(()),
+        }
     }
 }

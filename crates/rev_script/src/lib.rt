@@ -4,7 +4,8 @@
 //! of some bytes are is a function of the whole list of bytes; however a source cuts it into pieces,
 //! the same lines come. [`dialect::Dialect`] says what has to stand behind the data of a block.
 //! [`source::Source`] is the reader that all of this reads from, and
-//! [`source::FromRead`] makes one of any `std::io::Read`. The grammar, in `grammar` and the modules
+//! [`source::FromRead`] makes one of any `std::io::Read`. An [`exchange::Exchange`] is one that is
+//! written to as well, and sends what was written before it may wait. The grammar, in `grammar` and the modules
 //! that it uses, looks at a line by itself, without the data block that may follow it.
 #![tactic(auto)]
 
@@ -15,6 +16,8 @@ pub mod command;
 mod data_block;
 mod debug;
 pub mod dialect;
+pub mod duplex;
+pub mod exchange;
 mod grammar;
 mod input;
 mod keys;

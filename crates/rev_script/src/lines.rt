@@ -1,6 +1,8 @@
 //! The lines of a script, one after another.
 ghost use Rattle.std.specs.Prelude.{◌≡◌, ◌≢◌, [], ◌∷◌, ◌++◌, false, take, ◌≤◌, ◌<◌, ◌+◌, ℕ, List, length, IfOk, IfErr, IfSome, Some, None, Err, Ok, true, nat_lt, not, if◌then◌else◌};
-ghost use Rattle.std.specs.Prelude.{map, drop};
+ghost use Rattle.std.specs.Prelude.{map, drop, OnOk, OnErr};
+ghost use Rattle.std.specs.Io.KnownBytes.{Appends};
+ghost use Rattle.rev_output.specs.Sink.{WroteFront, one_more};
 ghost use Rattle.std.specs.Option.{option_map};
 ghost use Rattle.std.specs.List.{list_all};
 ghost use Rattle.rev_items.specs.Keys.{is_key};
@@ -22,6 +24,7 @@ use crate::byte_reader::{ByteReader, LineFault};
 use crate::command::{BadAnswer, BookmarkCommand, Command, KeyQuery, StorageCommand};
 use crate::data_block::{MOST_DATA, take_block};
 use crate::dialect::Dialect;
+use crate::duplex::Duplex;
 use crate::grammar::{asked, body};
 use crate::input::Input;
 use crate::line::{Asked, ClientLine, DebugLine, Line};
@@ -30,6 +33,7 @@ use crate::source::Source;
 use crate::words::{few_words, few_words_in, word, words};
 use arrayvec::ArrayVec;
 use rev_items::{Filler, Key};
+use rev_output::WriteFailed;
 use rev_requests::{KeyCommand, Payload};
 use std::alloc::{AllocError, Allocator};
 use std::marker::Model;
@@ -581,5 +585,24 @@ impl<S: Source, A: Allocator + Clone> Lines<S, A> {
         let Lines { input, .. } = self;
         let Input { bytes, .. } = input;
         bytes.into_source()
+    }
+}
+
+impl<S: Duplex, A: Allocator> Lines<S, A> {
+    ghost use Rattle.rev_script.specs.Lines.{with_sink};
+
+    /// Writes all the bytes to the source. What is read is left alone.
+    #[inline(always)]
+    pub fn put(&mut self, text: &[u8]) -> Result<(), WriteFailed>
+        ensures ok { OnOk result (Appends self.old.input.bytes.source.beside.sink.contents self.new.input.bytes.source.beside.sink.contents text.now
+            × (self.new.input.bytes.source.beside.sink.failures ≡ self.old.input.bytes.source.beside.sink.failures)) }
+        ensures err { OnErr result (WroteFront self.old.input.bytes.source.beside.sink.contents self.new.input.bytes.source.beside.sink.contents text.now
+            × (self.new.input.bytes.source.beside.sink.failures ≡ one_more self.old.input.bytes.source.beside.sink.failures)) }
+        ensures kept { self.new ≡ with_sink self.old self.new.input.bytes.source.beside.sink }
+    {
+        match self.input.bytes.put(text) {
+            Err(e) => Err(e),
+            Ok(()) => Ok(()),
+        }
     }
 }

@@ -31,7 +31,7 @@ pub trait Source {
     ghost use Rattle.rev_script.specs.declared.source.LastRead.{LastRead};
 
     // The bytes that reads will give from here on, where they are known; what the last read did; how many reads failed;
-    // which reader it is.
+    // which reader it is; what it is written to, where it is a writer too.
     ghost told: { Self → Told };
 
     /// Puts bytes at the front of `buf`, as many as it answers; none only at the end, or where there
@@ -42,7 +42,8 @@ pub trait Source {
         ensures last { (told self.new).last ≡ last_of (told self.old).last result (length buf.new) }
         ensures failures { (told self.new).failures ≡ failures_after (told self.old).failures result }
         ensures ended { (told self.old).last ≡ LastRead.Ended → result ≡ Ok 0 }
-        ensures same { (told self.new).identity ≡ (told self.old).identity };
+        ensures same { (told self.new).identity ≡ (told self.old).identity }
+        ensures beside { (told self.new).beside ≡ (told self.old).beside };
 }
 
 impl<S: Source> Source for &mut S {
@@ -89,7 +90,7 @@ impl<R: Read> FromRead<R> {
 }
 
 // Reads, and tries again where a read was interrupted.
-fn read_again<R: Read>(reader: &mut R, buf: &mut [u8]) -> Result<usize, ReadFailed>
+pub(crate) fn read_again<R: Read>(reader: &mut R, buf: &mut [u8]) -> Result<usize, ReadFailed>
     ensures bound { IfOk result (λ n. n ≤ length buf.new) }
     ensures same_room { length buf.new ≡ length buf.old }
     ensures bytes { ReadConsumes (R.remaining reader.old) (R.remaining reader.new) result buf.new }

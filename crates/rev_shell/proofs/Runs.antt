@@ -3,14 +3,17 @@ use Rattle.std.proofs.Common.{◌≡◌, ℕ, ◌+◌, ◌⊎◌, inl, inr, Bool
 use Rattle.std.proofs.Math.Dec.{eqb-suc-zero}
 use Rattle.std.proofs.Math.Seq.{take-append_seam}
 use Rattle.std.specs.Io.KnownBytes.{Appends, IsAtEnd}
-use Rattle.rev_script.specs.ByteReader.{Took, AtEnd, IsEnded}
+use Rattle.rev_script.specs.ByteReader.{with_sink, PlainReader, Passed, Took, Broke, StoppedBy, AtEnd, IsEnded}
 use Rattle.rev_script.specs.Script.{ScriptLine, onwards, cuts, lines, whole_lines}
 use Rattle.rev_script.specs.Line.{PlainInput, IsNext, IsFault}
-use Rattle.rev_script.specs.Source.{Told, told_by}
+use Rattle.rev_script.specs.Source.{Told, Beside, told_by}
+use Rattle.rev_script.specs.Source as source
+use Rattle.rev_script.specs.Lines.{PlainLines}
+use Rattle.rev_script.specs.Lines as written
 use Rattle.rev_script.specs.declared.dialect.Dialect.{Dialect}
 use Rattle.rev_script.specs.declared.byte_reader.LineFault.{LineFault}
 use Rattle.rev_script.specs.declared.byte_reader.LineFault.TheVariants as faults
-use Rattle.rev_script.proofs.Known.{Took-then, Took-broke}
+use Rattle.rev_script.proofs.Known.{Passed-then, stopped_then}
 use Rattle.rev_script.proofs.Front.{take_front}
 use Rattle.rev_texts.proofs.Wholes.{AreWhole, lines-more, whole_lines-more, whole_then, last_then, plain_ahead, read_of, read_all, keep_all, in_dialect, over_now, then_line}
 use Rattle.rev_output.specs.Sink.{WroteFront, one_more, PlainSink}
@@ -26,11 +29,17 @@ use Rattle.std.specs.Prelude.{◌≡◌, ◌⊎◌, ℕ, List, ◌++◌, length,
 
 -- ---- within a run
 
+-- these bytes were handed out, and then a fault came
+record Broken (old new : PlainReader) (taken : List ℕ) (e : LineFault) : Type 0 where
+  passed : Passed old new taken
+  stopped : StoppedBy old new e
+
 -- so far: the lines of what was taken are done; they lie whole in it, or the input is at its end
 pub record IsSoFar (d : Dialect) (p : Prompts) (start now : PlainInput) (old new : PlainSink) (m0 m : BookmarkedSession) (count : ℕ) (bad refused : Tally) : Type 0 where
   pub done : List ScriptLine
   pub read : List ℕ
-  pub took : Took start.bytes now.bytes read
+  pub passed : Passed start.bytes now.bytes read
+  pub steady : now.bytes.source.failures ≡ start.bytes.source.failures
   pub dialect_is : now.dialect ≡ d
   pub lines_are : AreWhole d now.passes read done ⊎ ((lines d read ≡ done) × AtEnd now.bytes)
   pub count_is : length done ≡ count
@@ -39,6 +48,31 @@ pub record IsSoFar (d : Dialect) (p : Prompts) (start now : PlainInput) (old new
   pub writes : new.failures ≡ old.failures
   pub bad_is : bad ≡ tally_of (bad_marks done)
   pub refused_is : refused ≡ tally_of (refused_marks m0 done)
+
+-- the source was written to
+pub so_far_beside : {d : Dialect} {p : Prompts} {start now : PlainInput} {old new : PlainSink} {m0 m : BookmarkedSession} {count : ℕ} {bad refused : Tally} (sink : PlainSink) →
+    IsSoFar d p start now old new m0 m count bad refused → IsSoFar d p start (record now { bytes = with_sink now.bytes sink }) old new m0 m count bad refused
+so_far_beside sink f = record {
+  done = f.done;
+  read = f.read;
+  passed = record { bytes = f.passed.bytes; count = f.passed.count; same = f.passed.same };
+  steady = f.steady;
+  dialect_is = f.dialect_is;
+  lines_are = elim f.lines_are [
+    | inl w ↦ inl w
+    | inr p ↦ inr (p.0, record { none_left = p.1.none_left; ended = p.1.ended })
+  ];
+  count_is = f.count_is;
+  session_is = f.session_is;
+  wrote = f.wrote;
+  writes = f.writes;
+  bad_is = f.bad_is;
+  refused_is = f.refused_is;
+}
+
+-- a fault behind what was handed out
+broke_behind : {a b c : PlainReader} {xs ys : List ℕ} {e : LineFault} → Passed a b xs → b.source.failures ≡ a.source.failures → Broke b c ys e → Broken a c (xs ++ ys) e
+broke_behind {a} {b} {c} {xs} {ys} {e} p steady q = record { passed = Passed-then p q.passed; stopped = stopped_then a b c e steady q.stopped }
 
 -- what is written with a line in the middle
 answers-then : (p : Prompts) (s : BookmarkedSession) (xs : List ScriptLine) (y : ScriptLine) (ys : List ScriptLine) →
@@ -165,7 +199,8 @@ module _ (d : Dialect) (p : Prompts) (start b c : PlainInput) (old mid new : Pla
       record {
         done = f.done ++ line ∷ [];
         read = f.read ++ n.0;
-        took = Took-then f.took n.1;
+        passed = Passed-then f.passed n.1.passed;
+        steady = n.1.steady ∙ f.steady;
         dialect_is = n.2 ∙ f.dialect_is;
         lines_are = elim (in_dialect d f.dialect_is n) [
           | inl x ↦ inl (whole_then d b.passes c.passes f.read n.0 f.done line w x)
@@ -189,16 +224,15 @@ module _ (d : Dialect) (p : Prompts) (start b c : PlainInput) (old mid new : Pla
   unfolding out
   finished plays q stays n a same =
       let o = over_now c d f.read f.done f.dialect_is f.lines_are stays n in
-      let took = Took-then f.took o.took in
       record {
         done = record {
           read = f.read ++ o.taken;
-          took = read_all start.bytes c.bytes (f.read ++ o.taken) fresh o.at_end.ended.1 took.passed;
+          took = read_all start.bytes c.bytes (f.read ++ o.taken) fresh o.at_end.ended.1 (Passed-then f.passed o.took.passed);
           none_left = subst (λ a. IsAtEnd a) (plain_ahead c.bytes.unused c.bytes.source.remaining o.at_end.ended.1) o.at_end.none_left;
           ended = o.at_end.ended.0;
           wrote = subst (λ l. Appends old.contents new.contents (answers p s0 l ++ end_text p)) (sym o.lines_are)
               (Appends-then old.contents mid.contents new.contents (answers p s0 f.done) (end_text p) f.wrote a);
-          reads = took.steady;
+          reads = o.took.steady ∙ f.steady;
           writes = same ∙ f.writes;
           lines_are = sym f.count_is ∙ ap (λ l. length l) (sym o.lines_are);
           plays_are = q ∙ ap (λ m. length m.session.rows) (f.session_is ∙ ap (λ l. session_after s0 l) (sym o.lines_are));
@@ -214,10 +248,9 @@ module _ (d : Dialect) (p : Prompts) (start b c : PlainInput) (old mid new : Pla
   unfolding out
   unfinished stays n a t =
       let o = over_now c d f.read f.done f.dialect_is f.lines_are stays n in
-      let took = Took-then f.took o.took in
       record {
         read = f.read ++ o.taken;
-        took = read_all start.bytes c.bytes (f.read ++ o.taken) fresh o.at_end.ended.1 took.passed;
+        took = read_all start.bytes c.bytes (f.read ++ o.taken) fresh o.at_end.ended.1 (Passed-then f.passed o.took.passed);
         because = t ∙ ap one_more f.writes;
         wrote = (
           answers p s0 f.done ++ a.0,
@@ -251,12 +284,12 @@ module _ (d : Dialect) (p : Prompts) (start b c : PlainInput) (old mid new : Pla
   pub fault_now : (fault : LineFault) → AreWhole d b.passes f.read f.done → IsFault b c fault → StoppedHere fault
   fault_now faults.Memory w n = record {
     read = (f.read ++ n.0) ++ c.bytes.unused;
-    took = read_of start.bytes c.bytes (f.read ++ n.0) fresh (Took-broke f.took n.1).passed;
+    took = read_of start.bytes c.bytes (f.read ++ n.0) fresh (Passed-then f.passed n.1.passed);
     because = tt;
     wrote = text_then (n.0 ++ c.bytes.unused) ((f.read ++ n.0) ++ c.bytes.unused) w (append_assoc f.read n.0 c.bytes.unused);
   }
   fault_now faults.Read w n =
-      let both = Took-broke f.took n.1 in
+      let both = broke_behind f.passed f.steady n.1 in
       record {
         read = f.read ++ n.0;
         took = read_all start.bytes c.bytes (f.read ++ n.0) fresh both.stopped.2 both.passed;
@@ -264,7 +297,7 @@ module _ (d : Dialect) (p : Prompts) (start b c : PlainInput) (old mid new : Pla
         wrote = text_at n.0 (f.read ++ n.0) (whole_lines d (f.read ++ n.0)) w refl (none_more n.0 w (n.2 (λ e. cc e)));
       }
   fault_now faults.TooLong w n =
-      let both = Took-broke f.took n.1 in
+      let both = broke_behind f.passed f.steady n.1 in
       let size : length (f.read ++ n.0) ≡ 4294967296 = omega (arith, both.passed.count, none_given, both.stopped.0) in
       let front : take 4294967296 ((f.read ++ n.0) ++ c.bytes.unused) ≡ f.read ++ n.0 = take_front 4294967296 (f.read ++ n.0) c.bytes.unused size in
       record {
@@ -279,7 +312,7 @@ module _ (d : Dialect) (p : Prompts) (start b c : PlainInput) (old mid new : Pla
   pub memory_now : (line : ScriptLine) → AreWhole d b.passes f.read f.done → IsNext b c (Some line) → StoppedHere faults.Memory
   memory_now line w n = record {
     read = (f.read ++ n.0) ++ c.bytes.unused;
-    took = read_of start.bytes c.bytes (f.read ++ n.0) fresh (Took-then f.took n.1).passed;
+    took = read_of start.bytes c.bytes (f.read ++ n.0) fresh (Passed-then f.passed n.1.passed);
     because = tt;
     wrote = text_then (n.0 ++ c.bytes.unused) ((f.read ++ n.0) ++ c.bytes.unused) w (append_assoc f.read n.0 c.bytes.unused);
   }
@@ -296,7 +329,7 @@ module _ (d : Dialect) (p : Prompts) (start b c : PlainInput) (old mid new : Pla
       ∙ ap (λ l. answers p s0 f.done ++ (answer s line ++ l)) rest.1 in
       record {
         read = (f.read ++ n.0) ++ c.bytes.unused;
-        took = read_of start.bytes c.bytes (f.read ++ n.0) fresh (Took-then f.took n.1).passed;
+        took = read_of start.bytes c.bytes (f.read ++ n.0) fresh (Passed-then f.passed n.1.passed);
         because = q ∙ ap one_more f.writes;
         wrote = (
           answers p s0 f.done ++ a.0,
@@ -351,3 +384,55 @@ left_told a b n m x = record { done = done_told a b n m x.done; left_is = x.left
 
 pub stopped_told : {d : Dialect} {p : Prompts} {old new : PlainSink} {start : BookmarkedSession} {e : RunFault} (a b : Told) (n m : ℕ) → IsStopped d p (told_by a n) (told_by b m) old new start e → IsStopped d p a b old new start e
 stopped_told {e = e} a b n m x = record { read = x.read; took = x.took; because = because_told e x.read a b n m _ _ x.because; wrote = x.wrote }
+
+-- ---- the source is written to behind the last read: it tells the same of what is read
+
+because_beside : (e : RunFault) (read : List ℕ) (a b : Told) (sink old new : PlainSink) → Because e read a b old new → Because e read a (source.with_sink b sink) old new
+because_beside (run_faults.Memory line) read a b sink old new p = p
+because_beside run_faults.Read read a b sink old new p = p
+because_beside run_faults.Write read a b sink old new p = p
+because_beside run_faults.TooLong read a b sink old new p = p
+
+abbrev done_beside : {d : Dialect} {p : Prompts} {old new : PlainSink} {start : BookmarkedSession} {sum : Summary} (a b : Told) (sink : PlainSink) → IsDone d p a b old new start sum → IsDone d p a (source.with_sink b sink) old new start sum
+done_beside a b sink x = record {
+  read = x.read;
+  took = x.took;
+  none_left = x.none_left;
+  ended = x.ended;
+  wrote = x.wrote;
+  reads = x.reads;
+  writes = x.writes;
+  lines_are = x.lines_are;
+  plays_are = x.plays_are;
+  bad_are = x.bad_are;
+  refused_are = x.refused_are;
+}
+
+pub left_beside : {d : Dialect} {p : Prompts} {old new : PlainSink} {start left : BookmarkedSession} {sum : Summary} (a b : Told) (sink : PlainSink) → IsLeft d p a b old new start left sum →
+    IsLeft d p a (source.with_sink b sink) old new start left sum
+left_beside a b sink x = record { done = done_beside a b sink x.done; left_is = x.left_is }
+
+pub stopped_beside : {d : Dialect} {p : Prompts} {old new : PlainSink} {start : BookmarkedSession} {e : RunFault} (a b : Told) (sink : PlainSink) → IsStopped d p a b old new start e → IsStopped d p a (source.with_sink b sink) old new start e
+stopped_beside {e = e} a b sink x = record { read = x.read; took = x.took; because = because_beside e x.read a b sink _ _ x.because; wrote = x.wrote }
+
+-- ---- what was written, where nothing was written meanwhile
+
+pub same_sink : {d : Dialect} {p : Prompts} {old : PlainSink} {start : BookmarkedSession} {e : RunFault} (a b : Told) (x y : Beside) → y ≡ x → IsStopped d p a b old x.sink start e → IsStopped d p a b old y.sink start e
+same_sink {d} {p} {old} {start} {e} a b x y same s = subst (λ k. IsStopped d p a b old k.sink start e) (sym same) s
+
+-- ---- lines whose source was written to
+
+pub so_far_written : {d : Dialect} {p : Prompts} {start : PlainInput} {old new : PlainSink} {m0 m : BookmarkedSession} {count : ℕ} {bad refused : Tally} (now then : PlainLines) (sink : PlainSink) → then ≡ written.with_sink now sink →
+    IsSoFar d p start now.input old new m0 m count bad refused → IsSoFar d p start then.input old new m0 m count bad refused
+so_far_written {d} {p} {start} {old} {new} {m0} {m} {count} {bad} {refused} now then sink e f =
+    subst (λ l. IsSoFar d p start l.input old new m0 m count bad refused) (sym e) (so_far_beside sink f)
+
+pub left_written : {d : Dialect} {p : Prompts} {a : Told} {old new : PlainSink} {start left : BookmarkedSession} {sum : Summary} (now then : PlainLines) (sink : PlainSink) → then ≡ written.with_sink now sink →
+    IsLeft d p a now.input.bytes.source old new start left sum → IsLeft d p a then.input.bytes.source old new start left sum
+left_written {d} {p} {a} {old} {new} {start} {left} {sum} now then sink e x =
+    subst (λ l. IsLeft d p a l.input.bytes.source old new start left sum) (sym e) (left_beside a now.input.bytes.source sink x)
+
+pub stopped_written : {d : Dialect} {p : Prompts} {a : Told} {old new : PlainSink} {start : BookmarkedSession} {fault : RunFault} (now then : PlainLines) (sink : PlainSink) → then ≡ written.with_sink now sink →
+    IsStopped d p a now.input.bytes.source old new start fault → IsStopped d p a then.input.bytes.source old new start fault
+stopped_written {d} {p} {a} {old} {new} {start} {fault} now then sink e x =
+    subst (λ l. IsStopped d p a l.input.bytes.source old new start fault) (sym e) (stopped_beside a now.input.bytes.source sink x)

@@ -1,23 +1,23 @@
-//! A script from a reader, its answers to a writer.
+//! A script from a reader, its answers to the writer beside it.
 ghost use Rattle.std.specs.Prelude.{◌≡◌, ◌++◌, ◌<◌, ℕ, List, IfOk, IfErr, OnOk, OnErr};
 ghost use Rattle.std.specs.Io.KnownBytes.{Appends};
 ghost use Rattle.rev_classes.specs.Limits.{IsWithinLimits};
-ghost use Rattle.rev_script.specs.Lines.{IsFirst};
+ghost use Rattle.rev_script.specs.Lines.{IsFirst, with_sink};
 ghost use Rattle.rev_script.specs.Line.{view};
-ghost use Rattle.rev_output.specs.Sink.{sink_at, WroteFront, one_more};
+ghost use Rattle.rev_output.specs.Sink.{WroteFront, one_more};
 ghost use Rattle.rev_shell.specs.Run.{IsDone, IsLeft, IsStopped, run_fault, without_bookmarks, initial, is_bad, is_refusal, with_mark, prompt_text, end_text};
 ghost use Rattle.rev_shell.specs.declared.run.Prompts.TheVariants.{Hidden};
 ghost use Rattle.rev_shell.specs.Answers.{with_bookmarks, answer, after};
 
 use crate::answer::put_answer;
 use rev_classes::Config;
-use rev_output::{Sink, WriteFailed, write_all};
+use rev_output::WriteFailed;
 use rev_plays::begin::open_session;
 use rev_script::byte_reader::LineFault;
 use rev_script::dialect::Dialect;
+use rev_script::duplex::Duplex;
 use rev_script::line::Line;
 use rev_script::lines::Lines;
-use rev_script::source::Source;
 use rev_texts::text::put_field;
 use rev_undotree::{NodeId, Session};
 use rev_views::bookmarks::Bookmarks;
@@ -198,46 +198,51 @@ fn end_text(prompts: Prompts) -> &'static [u8]
     }
 }
 
-// Writes the bytes, as `write_all` does, where there are some.
-fn write_some<K: Sink>(sink: &mut K, text: &[u8]) -> Result<(), WriteFailed>
-    ensures ok { OnOk result (Appends (K.contents sink.old) (K.contents sink.new) text.now
-        × (K.failures sink.new ≡ K.failures sink.old)) }
-    ensures err { OnErr result (WroteFront (K.contents sink.old) (K.contents sink.new) text.now
-        × (K.failures sink.new ≡ one_more (K.failures sink.old))) }
+// Writes the bytes, as `put` does, where there are some.
+fn put_some<S: Duplex, A: Allocator>(
+    lines: &mut Lines<S, A>,
+    text: &[u8],
+) -> Result<(), WriteFailed>
+    ensures ok { OnOk result (Appends lines.old.input.bytes.source.beside.sink.contents lines.new.input.bytes.source.beside.sink.contents text.now
+        × (lines.new.input.bytes.source.beside.sink.failures ≡ lines.old.input.bytes.source.beside.sink.failures)) }
+    ensures err { OnErr result (WroteFront lines.old.input.bytes.source.beside.sink.contents lines.new.input.bytes.source.beside.sink.contents text.now
+        × (lines.new.input.bytes.source.beside.sink.failures ≡ one_more lines.old.input.bytes.source.beside.sink.failures)) }
+    ensures kept { lines.new ≡ with_sink lines.old lines.new.input.bytes.source.beside.sink }
 {
     if text.is_empty() {
         return Ok(());
     }
-    match write_all(sink, text) {
+    match lines.put(text) {
         Err(e) => Err(e),
         Ok(()) => Ok(()),
     }
 }
 
-/// Plays the lines, from the first on, and writes each answer once its line is done. `text` holds one answer at a time.
-/// Where prompts are shown, one is written before each line is read, and the line of the last is ended.
-pub fn run_lines<S: Source, K: Sink, A: Allocator + Clone>(
+/// Plays the lines, from the first on, and writes each answer to their source once its line is done. `text` holds one
+/// answer at a time. Where prompts are shown, one is written before each line is read, and the line of the last is
+/// ended.
+pub fn run_lines<S: Duplex, A: Allocator + Clone>(
     prompts: Prompts,
     lines: &mut Lines<S, A>,
     session: &mut Session<A>,
     bookmarks: &mut Bookmarks<'_, A>,
     text: &mut Vec<u8, A>,
-    sink: &mut K,
 ) -> Result<Summary, RunFault>
     requires { IsFirst lines.old }
     ensures ok { IfOk result (λ sum. IsLeft lines.old.input.dialect prompts lines.old.input.bytes.source lines.new.input.bytes.source
-        (sink_at (K.contents sink.old) (K.failures sink.old)) (sink_at (K.contents sink.new) (K.failures sink.new))
+        lines.old.input.bytes.source.beside.sink lines.new.input.bytes.source.beside.sink
         (with_bookmarks session.old bookmarks.old) (with_bookmarks session.new bookmarks.new) sum) }
     ensures err { IfErr result (λ e. IsStopped lines.old.input.dialect prompts lines.old.input.bytes.source lines.new.input.bytes.source
-        (sink_at (K.contents sink.old) (K.failures sink.old)) (sink_at (K.contents sink.new) (K.failures sink.new))
+        lines.old.input.bytes.source.beside.sink lines.new.input.bytes.source.beside.sink
         (with_bookmarks session.old bookmarks.old) e) }
     ensures same { lines.new.input.bytes.source.identity ≡ lines.old.input.bytes.source.identity }
+    ensures writer { lines.new.input.bytes.source.beside.writer ≡ lines.old.input.bytes.source.beside.writer }
 {
     match first_prompt(prompts, session.current(), text) {
         Err(_) => return Err(RunFault::Memory { line: 0 }),
         Ok(()) => {}
     }
-    match write_some(sink, text.as_slice()) {
+    match put_some(lines, text.as_slice()) {
         Err(_) => return Err(RunFault::Write),
         Ok(()) => {}
     }
@@ -251,7 +256,7 @@ pub fn run_lines<S: Source, K: Sink, A: Allocator + Clone>(
         };
         let line = match next {
             None => {
-                match write_some(sink, end_text(prompts)) {
+                match put_some(lines, end_text(prompts)) {
                     Err(_) => return Err(RunFault::Write),
                     Ok(()) => {}
                 }
@@ -269,7 +274,7 @@ pub fn run_lines<S: Source, K: Sink, A: Allocator + Clone>(
             Err(_) => return Err(RunFault::Memory { line: count + 1 }),
             Ok(refused) => refused,
         };
-        match write_all(sink, text.as_slice()) {
+        match lines.put(text.as_slice()) {
             Err(_) => return Err(RunFault::Write),
             Ok(()) => {}
         }
@@ -283,64 +288,55 @@ fn two_handles<A: Allocator + Clone>(alloc: &A) -> Result<(A, A), AllocError> {
     Ok((alloc.clone()?, alloc.clone()?))
 }
 
-/// Runs the script that the reader gives, in a dialect, on a session, with no bookmark at first, and writes its
-/// answers, with a prompt before each line where these are shown. The answer of a line is written once all its steps
-/// are done. The session keeps all that was played.
-pub fn run_session<S: Source, K: Sink, A: Allocator + Clone>(
+/// Runs the script that the streams give, in a dialect, on a session, with no bookmark at first, and writes its
+/// answers to them, with a prompt before each line where these are shown. The answer of a line is written once all its
+/// steps are done. The session keeps all that was played.
+pub fn run_session<X: Duplex, A: Allocator + Clone>(
     alloc: &A,
     session: &mut Session<A>,
     dialect: Dialect,
     prompts: Prompts,
-    reader: &mut S,
-    sink: &mut K,
+    streams: &mut X,
 ) -> Result<Summary, RunFault>
-    ensures ok { IfOk result (λ sum. (names : List (List ℕ × ℕ)) × IsLeft dialect prompts (S.told reader.old) (S.told reader.new)
-        (sink_at (K.contents sink.old) (K.failures sink.old)) (sink_at (K.contents sink.new) (K.failures sink.new))
+    ensures ok { IfOk result (λ sum. (names : List (List ℕ × ℕ)) × IsLeft dialect prompts (X.told streams.old) (X.told streams.new)
+        (X.told streams.old).beside.sink (X.told streams.new).beside.sink
         (without_bookmarks session.old) (with_bookmarks session.new names) sum) }
-    ensures err { IfErr result (λ e. IsStopped dialect prompts (S.told reader.old) (S.told reader.new)
-        (sink_at (K.contents sink.old) (K.failures sink.old)) (sink_at (K.contents sink.new) (K.failures sink.new))
+    ensures err { IfErr result (λ e. IsStopped dialect prompts (X.told streams.old) (X.told streams.new)
+        (X.told streams.old).beside.sink (X.told streams.new).beside.sink
         (without_bookmarks session.old) e) }
+    ensures writer { (X.told streams.new).beside.writer ≡ (X.told streams.old).beside.writer }
 {
     let Ok((handle, other)) = two_handles(alloc) else {
         return Err(RunFault::Memory { line: 0 });
     };
     let mut bookmarks = Bookmarks::new(alloc);
-    let mut lines = Lines::of(handle, reader, dialect);
+    let mut lines = Lines::of(handle, streams, dialect);
     let mut text = Vec::new(other);
-    let ended = run_lines(
-        prompts,
-        &mut lines,
-        session,
-        &mut bookmarks,
-        &mut text,
-        sink,
-    );
-    let _reader = lines.into_source();
+    let ended = run_lines(prompts, &mut lines, session, &mut bookmarks, &mut text);
+    let _streams = lines.into_source();
     match ended {
         Err(e) => Err(e),
         Ok(sum) => Ok(sum),
     }
 }
 
-/// Runs the script that the reader gives, in a dialect, on a session, as `run_session` does. It is
+/// Runs the script that the streams give, in a dialect, on a session, as `run_session` does. It is
 /// for a program that ends with the run: all memory goes back at once then, and the session is not taken apart.
-pub fn run_at_last<S: Source, K: Sink, A: Allocator + Clone>(
+pub fn run_at_last<X: Duplex, A: Allocator + Clone>(
     alloc: &A,
     session: Session<A>,
     dialect: Dialect,
     prompts: Prompts,
-    reader: &mut S,
-    sink: &mut K,
+    streams: &mut X,
 ) -> Result<Summary, RunFault>
-    ensures ok { IfOk result (λ sum. IsDone dialect prompts (S.told reader.old) (S.told reader.new)
-        (sink_at (K.contents sink.old) (K.failures sink.old)) (sink_at (K.contents sink.new) (K.failures sink.new))
-        (without_bookmarks session) sum) }
-    ensures err { IfErr result (λ e. IsStopped dialect prompts (S.told reader.old) (S.told reader.new)
-        (sink_at (K.contents sink.old) (K.failures sink.old)) (sink_at (K.contents sink.new) (K.failures sink.new))
-        (without_bookmarks session) e) }
+    ensures ok { IfOk result (λ sum. IsDone dialect prompts (X.told streams.old) (X.told streams.new)
+        (X.told streams.old).beside.sink (X.told streams.new).beside.sink (without_bookmarks session) sum) }
+    ensures err { IfErr result (λ e. IsStopped dialect prompts (X.told streams.old) (X.told streams.new)
+        (X.told streams.old).beside.sink (X.told streams.new).beside.sink (without_bookmarks session) e) }
+    ensures writer { (X.told streams.new).beside.writer ≡ (X.told streams.old).beside.writer }
 {
     let mut session = session;
-    let ended = run_session(alloc, &mut session, dialect, prompts, reader, sink);
+    let ended = run_session(alloc, &mut session, dialect, prompts, streams);
     let _session = ManuallyDrop::new(session);
     match ended {
         Err(e) => Err(e),
@@ -348,27 +344,24 @@ pub fn run_at_last<S: Source, K: Sink, A: Allocator + Clone>(
     }
 }
 
-/// Runs the script that the reader gives, in a dialect, on an empty store, and writes its answers, as `run_session`
-/// does without prompts.
-pub fn run<S: Source, K: Sink, A: Allocator + Clone>(
+/// Runs the script that the streams give, in a dialect, on an empty store, and writes its answers to them, as
+/// `run_session` does without prompts.
+pub fn run<X: Duplex, A: Allocator + Clone>(
     alloc: &A,
     config: &Config,
     dialect: Dialect,
-    reader: &mut S,
-    sink: &mut K,
+    streams: &mut X,
 ) -> Result<Summary, RunFault>
     requires { IsWithinLimits config.now }
-    ensures ok { IfOk result (λ sum. IsDone dialect Hidden (S.told reader.old) (S.told reader.new)
-        (sink_at (K.contents sink.old) (K.failures sink.old)) (sink_at (K.contents sink.new) (K.failures sink.new))
-        (initial config.entry.now) sum) }
-    ensures err { IfErr result (λ e. IsStopped dialect Hidden (S.told reader.old) (S.told reader.new)
-        (sink_at (K.contents sink.old) (K.failures sink.old)) (sink_at (K.contents sink.new) (K.failures sink.new))
-        (initial config.entry.now) e) }
+    ensures ok { IfOk result (λ sum. IsDone dialect Hidden (X.told streams.old) (X.told streams.new)
+        (X.told streams.old).beside.sink (X.told streams.new).beside.sink (initial config.entry.now) sum) }
+    ensures err { IfErr result (λ e. IsStopped dialect Hidden (X.told streams.old) (X.told streams.new)
+        (X.told streams.old).beside.sink (X.told streams.new).beside.sink (initial config.entry.now) e) }
 {
     let ended = match open_session(alloc, config) {
         None => return Err(RunFault::Memory { line: 0 }),
         Some(mut session) => {
-            let done = run_session(alloc, &mut session, dialect, Prompts::Hidden, reader, sink);
+            let done = run_session(alloc, &mut session, dialect, Prompts::Hidden, streams);
             drop(session);
             done
         }

@@ -3,12 +3,11 @@ ghost use Rattle.std.specs.Prelude.{◌≡◌, ◌≤◌, length, IfOk, OnOk, On
 ghost use Rattle.rev_model.specs.Actor.{clock, is_due};
 ghost use Rattle.rev_model.specs.Sound.{Sound};
 ghost use Rattle.rev_model.specs.Move.{LeadsBack};
-ghost use Rattle.rev_changes.specs.Telling.{TellsAll};
+ghost use Rattle.rev_inverse.specs.Telling.{TellsAll};
 ghost use Rattle.rev_steps.specs.Exchange.{timing_at};
 
 use crate::globals::{exchange, unchanged};
-use rev_changes::Record;
-use rev_inverse::Store;
+use rev_inverse::{Record, Store};
 use rev_model::{GlobalPart, Globals, Outcome, Timing};
 use std::alloc::{AllocError, Allocator};
 

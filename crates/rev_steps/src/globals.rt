@@ -2,13 +2,12 @@
 ghost use Rattle.std.specs.Prelude.{◌≡◌, ◌≤◌, length, IfOk, OnOk, OnErr, []};
 ghost use Rattle.rev_model.specs.Move.{with_part, Sets, LeadsBack};
 ghost use Rattle.rev_model.specs.Sound.{SettingsSound, Sound};
-ghost use Rattle.rev_changes.specs.Seen.{plain_move, IsSingle};
-ghost use Rattle.rev_changes.specs.Telling.{TellsAll};
+ghost use Rattle.rev_inverse.specs.Seen.{plain_move, IsSingle};
+ghost use Rattle.rev_inverse.specs.Telling.{TellsAll};
 ghost use Rattle.rev_steps.specs.Exchange.{exchanged};
 
-use rev_changes::{Change, Record};
 use rev_edits::moving::change;
-use rev_inverse::Store;
+use rev_inverse::{Change, Record, Store};
 use rev_model::{GlobalPart, Outcome};
 use std::alloc::{AllocError, Allocator};
 

@@ -6,7 +6,7 @@ ghost use Rattle.rev_model.specs.Actor.{step as step_of};
 ghost use Rattle.rev_model.specs.Causes.{step_removals};
 ghost use Rattle.rev_model.specs.Sound.{Sound};
 ghost use Rattle.rev_model.specs.Move.{LeadsBack};
-ghost use Rattle.rev_changes.specs.Telling.{TellsAll};
+ghost use Rattle.rev_inverse.specs.Telling.{TellsAll};
 ghost use Rattle.rev_steps.specs.Plain.{plain_actor, plain_step};
 
 mod clocks;
@@ -14,10 +14,9 @@ mod globals;
 mod settings;
 
 use clocks::set_clock;
-use rev_changes::Record;
 use rev_commands::client;
 use rev_crawler::{crawl, start};
-use rev_inverse::Store;
+use rev_inverse::{Record, Store};
 use rev_maintainer::{bump, pull};
 use rev_model::Outcome;
 use rev_mover::{advance, schedule};

@@ -5,6 +5,7 @@ use crate::streams::{Narrow, Stutter};
 use rev_classes::{Config, fault_of};
 use rev_output::ToWrite;
 use rev_script::dialect::Dialect;
+use rev_script::duplex::Apart;
 use rev_script::source::FromRead;
 use rev_shell::run::{RunFault, Summary, Tally, run};
 use std::alloc::Global;
@@ -34,9 +35,11 @@ pub fn run_in<R: Abort, I: Read + Drop, O: Write + Drop>(
     if let Some(fault) = fault_of(config) {
         panic!(rt; "{fault}");
     }
-    let mut source = FromRead::new(reader);
-    let mut sink = ToWrite::new(writer);
-    run(&alloc, config, dialect, &mut source, &mut sink)
+    let mut streams = Apart {
+        source: FromRead::new(reader),
+        sink: ToWrite::new(writer),
+    };
+    run(&alloc, config, dialect, &mut streams)
 }
 
 /// Adds bytes to a text.

@@ -8,6 +8,7 @@ use rev_plays::quiet::TraceFault;
 use rev_plays::start::play_start;
 use rev_program::program::program;
 use rev_script::dialect::Dialect;
+use rev_script::duplex::Apart;
 use rev_script::source::FromRead;
 use rev_shell::run::{Prompts, run_session};
 use rev_undotree::Session;
@@ -82,8 +83,10 @@ fn answers<R: AllocGlobal + Abort>(
         session,
         Dialect::CrLf,
         Prompts::Hidden,
-        &mut FromRead::new(script),
-        &mut ToWrite::new(&mut written),
+        &mut Apart {
+            source: FromRead::new(script),
+            sink: ToWrite::new(&mut written),
+        },
     );
     assert!(rt; ended.is_ok());
     written

@@ -43,6 +43,7 @@ topics =
     ∷ topic (codes "~crawl") (codes "~crawl <class> <queue>") (codes "a step of the crawler") (codes "~crawl 1 hot")
     ∷ topic (codes "slabs") (codes "slabs reassign <source> <target>") (codes "sends a page from one class to another") (codes "slabs reassign 5 1")
     ∷ topic (codes "~move") (codes "~move") (codes "a step of the page mover") (codes "~move")
+    ∷ topic (codes "~evict") (codes "~evict <key>") (codes "evicts the item, as a set that needs room does") (codes "~evict home")
     ∷ topic (codes "lru") (codes "lru tune <hot> <warm> <hot factor> <warm factor>") (codes "sets the shares and ages of HOT and WARM") (codes "lru tune 20 40 0.2 2")
     ∷ topic (codes "lru") (codes "lru temp_ttl <seconds>") (codes "sets which items enter TEMP") (codes "lru temp_ttl 60")
     ∷ topic (codes "@") (codes "@ <seconds>") (codes "sets the clock, which never goes back") (codes "@ 100")

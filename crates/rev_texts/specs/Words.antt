@@ -1,7 +1,7 @@
 -- The words by which a tree's lines name steps and outcomes.
 -- Rule of this project: one word for each step and each outcome.
 use Rattle.std.specs.Prelude.{ℕ, List, codes}
-use Rattle.rev_model.specs.Client.{ClientStep, Verb, Side, Sum, Stores, Joins, Gets, Touches, Deletes, Flushes, Counts, Sets, Adds, Replaces, Cases, Appends, Prepends, Increases, Decreases}
+use Rattle.rev_model.specs.Client.{ClientStep, Verb, Side, Sum, Stores, Joins, Gets, Touches, Deletes, Evicts, Flushes, Counts, Sets, Adds, Replaces, Cases, Appends, Prepends, Increases, Decreases}
 use Rattle.rev_model.specs.Actor.{Step, Client, Pull, Bump, CrawlStart, Crawl, Schedule, Advance, Clock, Tune, TempTtl}
 use Rattle.rev_model.specs.declared.Outcome.{Outcome}
 use Rattle.rev_model.specs.declared.Outcome.TheVariants as outcomes
@@ -30,6 +30,7 @@ client_word (Joins side k payload) = side_word side
 client_word (Gets k) = codes "get"
 client_word (Touches k exptime) = codes "touch"
 client_word (Deletes k) = codes "delete"
+client_word (Evicts k) = codes "evict"
 client_word (Flushes delay) = codes "flush_all"
 client_word (Counts sum k n) = sum_word sum
 

@@ -17,7 +17,7 @@ struct Topic {
 }
 
 // In the order of README.md's table.
-static TOPICS: [Topic; 45] = [
+static TOPICS: [Topic; 46] = [
     Topic {
         word: "set",
         usage: "set <key> <flags> <exptime> <bytes> [noreply]",
@@ -131,6 +131,12 @@ static TOPICS: [Topic; 45] = [
         usage: "~move",
         line: "a step of the page mover",
         example: "~move",
+    },
+    Topic {
+        word: "~evict",
+        usage: "~evict <key>",
+        line: "evicts the item, as a set that needs room does",
+        example: "~evict home",
     },
     Topic {
         word: "lru",

@@ -34,6 +34,7 @@ fn client_word<A: Allocator>(step: &ClientStep<A>) -> &'static [u8]
         ClientStep::Keyed { command, .. } => match *command {
             KeyCommand::Get => b"get",
             KeyCommand::Delete => b"delete",
+            KeyCommand::Evict => b"evict",
             KeyCommand::Touch(_) => b"touch",
             KeyCommand::Count(Arithmetic::Increment(_)) => b"incr",
             KeyCommand::Count(Arithmetic::Decrement(_)) => b"decr",

@@ -3,8 +3,8 @@ use Rattle.std.specs.Prelude.{not}
 use Rattle.std.proofs.Common.{ℕ, zero, suc, ◌≡◌, ◌+◌, ◌-◌, ◌<◌, ◌≤◌, false, List, [], ◌∷◌, ◌++◌, length, map, take, drop, set, get_or, slice_range, refl, sym, ap, subst, ◌∙◌, arith}
 use Rattle.std.proofs.lemmas.List.{take-take, drop-take, drop-drop, take-map, drop-map, map-append, length-map, length-append, get_or-set_same, length-drop, length-take, take-append-le, drop-append-le}
 use Rattle.std.proofs.Math.Seq.{take-length, take-append_seam, drop-append_seam}
-use Rattle.rev_changes.specs.declared.changes.Change.{Change}
-use Rattle.rev_changes.specs.Record.{PlainRecord, PlainChange, IsWhole, plain_change, in_order, notes_in, whole, fitted, no_record}
+use Rattle.rev_inverse.specs.declared.changes.Change.{Change}
+use Rattle.rev_inverse.specs.Record.{PlainRecord, PlainChange, IsWhole, plain_change, in_order, notes_in, whole, fitted, no_record}
 use Rattle.rev_tree.specs.declared.records.Extent.{Extent}
 use Rattle.rev_tree.specs.Cuts.{first_of, cut_by, Tiles}
 

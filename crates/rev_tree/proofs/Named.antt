@@ -8,7 +8,7 @@ use Rattle.rev_tree.specs.declared.mention.Mention.{Mention}
 use Rattle.rev_tree.specs.Mentions.{Holds, Within}
 use Rattle.rev_model.specs.Lists.{has}
 use Rattle.rev_model.specs.Move.{Move}
-use Rattle.rev_changes.specs.Record.{PlainChange, PlainRecord, IsWhole, moves_in}
+use Rattle.rev_inverse.specs.Record.{PlainChange, PlainRecord, IsWhole, moves_in}
 use Rattle.rev_tree.specs.Steps.{State}
 use Rattle.rev_tree.specs.Named.{named_by, named, stored_keys}
 use Rattle.rev_tree.specs.Mentioned.{AreMentioned, Grows}

@@ -1,7 +1,7 @@
 -- A run as its heads and its records: what is read, changed, added and kept of its nodes.
 use Rattle.std.proofs.Common.{◌≡◌, ℕ, suc, zero, ◌<◌, Option, Some, List, [], ◌∷◌, ◌++◌, length, get_or, set, take, reverse, refl, ap, sym, ◌∙◌, arith}
 use Rattle.rev_model.specs.Move as moves
-use Rattle.rev_changes.specs.Record.{flat, fitted, no_record}
+use Rattle.rev_inverse.specs.Record.{flat, fitted, no_record}
 use Rattle.rev_tree.specs.Steps.{State, PlainRecord, turned}
 use Rattle.rev_tree.specs.Tree.{PlainNode}
 use Rattle.rev_tree.specs.Ways.{no_node, undo_of}

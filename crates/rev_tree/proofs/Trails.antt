@@ -5,8 +5,8 @@ use Rattle.std.proofs.lemmas.Bool.Decides.{nat_tests}
 use Rattle.rev_model.specs.Actor.{step as played_step}
 use Rattle.rev_model.specs.Causes.{step_removals}
 use Rattle.rev_model.specs.Move.{LeadsBack}
-use Rattle.rev_changes.specs.Record.{flat}
-use Rattle.rev_changes.specs.Telling.{TellsAll}
+use Rattle.rev_inverse.specs.Record.{flat}
+use Rattle.rev_inverse.specs.Telling.{TellsAll}
 use Rattle.rev_tree.specs.Steps.{State, PlainRecord, Step, Outcome, Sound, next, outcome_of, Undoes}
 use Rattle.rev_tree.specs.Tree.{PlainNode, PlainBranch, fork_at}
 use Rattle.rev_tree.specs.Places.{with_place}

@@ -8,9 +8,9 @@ use Rattle.rev_model.specs.Actor as actor
 use Rattle.rev_model.specs.Causes.{step_removals}
 use Rattle.rev_model.specs.Move.{LeadsBack}
 use Rattle.rev_model.proofs.Undo.{turns_back}
-use Rattle.rev_changes.specs.Record.{flat}
-use Rattle.rev_changes.proofs.Turning.{length-turned}
-use Rattle.rev_changes.specs.Telling.{TellsAll}
+use Rattle.rev_inverse.specs.Record.{flat}
+use Rattle.rev_inverse.proofs.TurningRecord.{length-turned}
+use Rattle.rev_inverse.specs.Telling.{TellsAll}
 use Rattle.rev_tree.specs.Steps.{State, Step, Outcome, PlainRecord, Sound, next, outcome_of, Fits, turned, Leads, Recalls, Undoes}
 
 -- what a turn needs

@@ -1,7 +1,7 @@
 -- Records whose changes stand one behind another in a list.
 -- Rule of this project: the records of a run lie in one list, each cut off by its extent.
 use Rattle.std.specs.Prelude.{ℕ, ◌≡◌, ◌+◌, List, [], ◌∷◌, take, drop}
-use Rattle.rev_changes.specs.Record.{PlainRecord, PlainChange, in_order, whole}
+use Rattle.rev_inverse.specs.Record.{PlainRecord, PlainChange, in_order, whole}
 use Rattle.rev_tree.specs.declared.records.Extent.{Extent}
 
 -- the record of the first changes of a list, as many as the extent counts

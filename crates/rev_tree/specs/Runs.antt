@@ -1,7 +1,7 @@
 -- A run as it is kept: what its nodes are beside their records, and the records apart from that.
 -- Rule of this project: nodes and their records lie in two lists, side by side.
 use Rattle.std.specs.Prelude.{ℕ, List, [], ◌∷◌}
-use Rattle.rev_changes.specs.Record.{flat}
+use Rattle.rev_inverse.specs.Record.{flat}
 use Rattle.rev_tree.specs.Steps.{Step, Outcome, PlainRecord}
 use Rattle.rev_tree.specs.Tree.{PlainNode}
 

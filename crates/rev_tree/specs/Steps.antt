@@ -4,11 +4,11 @@ use Rattle.std.specs.Prelude.{◌≡◌, reverse}
 pub use Rattle.rev_model.specs.State.{State}
 pub use Rattle.rev_model.specs.Sound.{Sound}
 pub use Rattle.rev_model.specs.Actor.{Step}
-pub use Rattle.rev_changes.specs.Record.{PlainRecord}
+pub use Rattle.rev_inverse.specs.Record.{PlainRecord}
 pub use Rattle.rev_model.specs.declared.Outcome.{Outcome}
 use Rattle.rev_model.specs.Actor as actor
 use Rattle.rev_model.specs.Causes.{step_removals}
-use Rattle.rev_changes.specs.Telling.{TellsAll}
+use Rattle.rev_inverse.specs.Telling.{TellsAll}
 use Rattle.rev_model.specs.Move as moves
 
 -- the state that a step leaves

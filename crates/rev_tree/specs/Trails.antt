@@ -4,7 +4,7 @@ use Rattle.std.specs.Prelude.{◌≡◌, ℕ, ◌-◌, cond, nat_le, List, [], �
 use Rattle.rev_model.specs.Actor.{step}
 use Rattle.rev_model.specs.Causes.{step_removals}
 use Rattle.rev_model.specs.Move.{LeadsBack}
-use Rattle.rev_changes.specs.Telling.{TellsAll}
+use Rattle.rev_inverse.specs.Telling.{TellsAll}
 use Rattle.rev_tree.specs.Steps.{Step, Outcome, PlainRecord, Sound, outcome_of}
 use Rattle.rev_tree.specs.Rows.{Row, RowsFall, row_of, at}
 use Rattle.rev_tree.specs.Machine.{lineage}

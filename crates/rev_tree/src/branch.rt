@@ -1,6 +1,6 @@
 //! A branch: a run of nodes, and the branches that fork from it.
 ghost use Rattle.std.specs.Prelude.{◌≡◌, ◌++◌, ◌∷◌, ◌^◌, ◌<◌, ◌-◌, ◌≤◌, ℕ, Bool, IfOk, IfErr, OnOk, OnErr, IfSome, IfNone, IsSome, Some, None, [], length, get_or, slice_get, cond, eqb, List, map};
-ghost use Rattle.rev_changes.specs.Record.{flat};
+ghost use Rattle.rev_inverse.specs.Record.{flat};
 ghost use Rattle.rev_requests.specs.Plain.{plain_step};
 ghost use Rattle.rev_tree.specs.Steps.{Fits, turned};
 ghost use Rattle.rev_tree.specs.Ways.{IsWay, reach, undo_of, at_end, with_undo, with_node, with_fork, no_node};
@@ -14,8 +14,7 @@ ghost use Rattle.rev_tree.specs.Finds.{RisesRun, Rises, Found, IsElsewhere};
 
 use crate::junction::Junction;
 use crate::run::{Node, Run};
-use rev_changes::RecordRef;
-use rev_inverse::Store;
+use rev_inverse::{RecordRef, Store};
 use rev_model::Outcome;
 use rev_requests::Step;
 use std::alloc::{AllocError, Allocator};

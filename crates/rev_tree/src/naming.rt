@@ -4,14 +4,13 @@ ghost use Rattle.std.specs.Option.{option_map};
 ghost use Rattle.rev_items.specs.Hash.{hash_of};
 ghost use Rattle.rev_tree.specs.Mentions.{Within};
 ghost use Rattle.rev_model.specs.State.{item_at};
-ghost use Rattle.rev_changes.specs.Seen.{plain_moves};
+ghost use Rattle.rev_inverse.specs.Seen.{plain_moves};
 ghost use Rattle.rev_requests.specs.Plain.{plain_step};
 ghost use Rattle.rev_tree.specs.Named.{hashed, named, stored_keys, none_or};
 ghost use Rattle.rev_tree.specs.Mentioned.{AreMentioned, Grows};
 
 use crate::mentions::Mentions;
-use rev_changes::{Change, Record};
-use rev_inverse::Store;
+use rev_inverse::{Change, Record, Store};
 use rev_items::Item;
 use rev_model::{ChunkRef, Entry, Listed, Outcome, Placed};
 use rev_requests::Step;

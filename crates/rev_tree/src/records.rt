@@ -2,10 +2,9 @@
 ghost use Rattle.std.specs.Prelude.{◌≡◌, ◌<◌, ◌^◌, ◌++◌, ◌∷◌, [], length, get_or, set, take, reverse, IfOk, OnOk, OnErr};
 ghost use Rattle.rev_model.specs.State.{WellFormed};
 ghost use Rattle.rev_model.specs.Move.{Fits, turned};
-ghost use Rattle.rev_changes.specs.Record.{fitted, no_record};
+ghost use Rattle.rev_inverse.specs.Record.{fitted, no_record};
 
-use rev_changes::{Change, Record, RecordRef};
-use rev_inverse::Store;
+use rev_inverse::{Change, Record, RecordRef, Store};
 use std::alloc::{AllocError, Allocator};
 use std::marker::Model;
 
@@ -27,7 +26,7 @@ pub struct Records<A: Allocator> {
 
 impl<A: Allocator> Model for Records<A> {
     ghost use Rattle.std.specs.Prelude.{List, map, length};
-    ghost use Rattle.rev_changes.specs.Record.{PlainRecord, plain_change};
+    ghost use Rattle.rev_inverse.specs.Record.{PlainRecord, plain_change};
     ghost use Rattle.rev_tree.specs.Cuts.{cut_by, Tiles};
 
     ghost Value = { List PlainRecord };

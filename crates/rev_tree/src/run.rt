@@ -1,14 +1,13 @@
 //! A run of nodes: their records lie one behind another, and what else a node is lies apart from them.
 ghost use Rattle.std.specs.Prelude.{◌≡◌, ◌++◌, ◌∷◌, ◌^◌, ◌<◌, IfOk, OnOk, OnErr, IsSome, Some, None, [], length, get_or, set, take};
-ghost use Rattle.rev_changes.specs.Record.{flat};
+ghost use Rattle.rev_inverse.specs.Record.{flat};
 ghost use Rattle.rev_requests.specs.Plain.{plain_step};
 ghost use Rattle.rev_tree.specs.Steps.{Fits, turned};
 ghost use Rattle.rev_tree.specs.Tree.{PlainNode};
 ghost use Rattle.rev_tree.specs.Ways.{undo_of, no_node};
 
 use crate::records::Records;
-use rev_changes::{Record, RecordRef};
-use rev_inverse::Store;
+use rev_inverse::{Record, RecordRef, Store};
 use rev_model::Outcome;
 use rev_requests::Step;
 use std::alloc::{AllocError, Allocator};
@@ -27,7 +26,7 @@ pub struct Node<A: Allocator> {
 impl<A: Allocator> Model for Node<A> {
     ghost use Rattle.std.specs.Prelude.{Option};
     ghost use Rattle.std.specs.Option.{option_map};
-    ghost use Rattle.rev_changes.specs.Record.{flat};
+    ghost use Rattle.rev_inverse.specs.Record.{flat};
     ghost use Rattle.rev_requests.specs.Plain.{plain_step};
     ghost use Rattle.rev_tree.specs.Tree.{PlainNode};
 

@@ -32,7 +32,7 @@ use Rattle.rev_model.specs.declared.KeyPlace.{KeyPlace}
 use Rattle.rev_model.specs.declared.Listed.TheVariants.{InFree, InQueue}
 use Rattle.rev_model.specs.declared.Outcome.{Outcome}
 use Rattle.rev_model.specs.declared.Placed.TheVariants.{ToFree, ToQueue}
-use Rattle.rev_changes.specs.Record.{PlainRecord}
+use Rattle.rev_inverse.specs.Record.{PlainRecord}
 use Rattle.rev_edits.proofs.Seats.{item_stands}
 use Rattle.rev_tree.specs.Named.{none_or, hashed, named, stored_keys, note_of}
 use Rattle.rev_tree.proofs.Named.{is_named}

@@ -19,8 +19,7 @@ ghost use Rattle.rev_tree.specs.Steps.{State, next, Undoes};
 ghost use Rattle.rev_tree.specs.Mentions.{Within};
 
 use arrayvec::ArrayVec;
-use rev_changes::RecordRef;
-use rev_inverse::Store;
+use rev_inverse::{RecordRef, Store};
 use rev_items::Key;
 use rev_model::Outcome;
 use rev_steps::{Step, apply};

@@ -1,7 +1,7 @@
 -- What is answered to questions about a node, and about the way from the root to the current node.
 -- Rule of this project: the texts of `:gone`, `:step` and `:time`.
 use Rattle.std.specs.Prelude.{ℕ, cond, nat_eq, List, [], ◌∷◌, ◌++◌, Option, None, Some, codes, decimal}
-use Rattle.rev_model.specs.Client.{ClientStep, Stores, Joins, Gets, Touches, Deletes, Flushes, Counts}
+use Rattle.rev_model.specs.Client.{ClientStep, Stores, Joins, Gets, Touches, Deletes, Evicts, Flushes, Counts}
 use Rattle.rev_model.specs.Actor.{Step, Client, Pull, Crawl}
 use Rattle.rev_model.specs.declared.Outcome.{Outcome}
 use Rattle.rev_model.specs.declared.Queue.{Queue}
@@ -35,6 +35,7 @@ client_subject (Joins side k payload) = k
 client_subject (Gets k) = k
 client_subject (Touches k exptime) = k
 client_subject (Deletes k) = k
+client_subject (Evicts k) = k
 client_subject (Flushes delay) = codes "-"
 client_subject (Counts sum k n) = k
 

@@ -1,5 +1,5 @@
 -- What is counted of steps, one after another.
-use Rattle.std.proofs.Common.{◌≡◌, ℕ, ◌+◌, ◌*◌, ◌^◌, ◌<◌, ◌≤◌, List, length, drop, map, slice_index_or, refl, sym, ◌∙◌, ap, subst, arith}
+use Rattle.std.proofs.Common.{◌≡◌, ℕ, ◌+◌, ◌*◌, ◌^◌, ◌<◌, ◌≤◌, Bool, true, false, cond, List, length, drop, map, slice_index_or, refl, sym, ◌∙◌, ap, subst, arith}
 use Rattle.std.proofs.lemmas.List.{drop_all}
 use Rattle.rev_model.specs.State.{State}
 use Rattle.rev_model.specs.Actor.{Step}
@@ -9,7 +9,7 @@ use Rattle.rev_explain.proofs.MoveLaws.{drop_at}
 use Rattle.rev_figures.specs.Kinds.{kind_of}
 use Rattle.rev_figures.specs.declared.path.StepKind.{StepKind}
 use Rattle.rev_figures.specs.declared.path.StepKind.TheVariants as kind
-use Rattle.rev_whatif.specs.Trials.{with_kind, with_evictions, evicted, with_step, count_from}
+use Rattle.rev_whatif.specs.Trials.{with_kind, with_evictions, evicted, is_left_out, next_tried, with_tried, count_from}
 use Rattle.rev_whatif.specs.Playing.{HasRoom}
 use Rattle.rev_whatif.specs.declared.trial.Counts.{Counts}
 
@@ -42,6 +42,13 @@ few_kind kind.Other c n e f le =
     let h = f.hits in let m = f.misses in let s = f.stores in let v = f.evictions in
     record { hits = omega (arith, h); misses = omega (arith, m); stores = omega (arith, s); evictions = omega (arith, v, le) }
 
+-- a step more, which may be left out
+few_tried : (out : Bool) (k : StepKind) (c : Counts) (n e : ℕ) → Few c n → (out ≡ false → e ≤ 64) → Few (cond out c (with_kind k (with_evictions e c))) (n + 1)
+few_tried true k c n e f le =
+    let h = f.hits in let m = f.misses in let s = f.stores in let v = f.evictions in
+    record { hits = omega (arith, h); misses = omega (arith, m); stores = omega (arith, s); evictions = omega (arith, v) }
+few_tried false k c n e f le = few_kind k c n e f (le refl)
+
 -- steps that are counted from the i-th on at state s, beside c, give what is told of all
 pub record Counted {X : Type 0} (f : X → Step) (first : State) (none : Counts) (xs : List X) (i : ℕ) (s : State) (c : Counts) : Type 0 where
   pub told : count_from first (map f xs) none ≡ count_from s (map f (drop i xs)) c
@@ -52,13 +59,13 @@ count_starts f s none xs few = record { told = refl; few = few }
 
 -- one step more
 pub count_more : {X : Type 0} (f : X → Step) (first : State) (none : Counts) (xs : List X) (i : ℕ) (x : X) (s t : State) (c d : Counts)
-    → Counted f first none xs i s c → i < length xs → x ≡ slice_index_or xs i x → t ≡ next s (f x) → d ≡ with_step s (f x) c → evicted (departures_at 0 s (f x)) ≤ 64 → Counted f first none xs (i + 1) t d
+    → Counted f first none xs i s c → i < length xs → x ≡ slice_index_or xs i x → t ≡ next_tried s (f x) → d ≡ with_tried s (f x) c → (is_left_out (f x) ≡ false → evicted (departures_at 0 s (f x)) ≤ 64) → Counted f first none xs (i + 1) t d
 count_more f first none xs i x s t c d w lt at te de le = record {
   told = w.told
       ∙ ap (λ l. count_from s (map f l) c) (drop_at xs i x lt at)
-      ∙ ap (λ u. count_from u (map f (drop (i + 1) xs)) (with_step s (f x) c)) (sym te)
+      ∙ ap (λ u. count_from u (map f (drop (i + 1) xs)) (with_tried s (f x) c)) (sym te)
       ∙ ap (count_from t (map f (drop (i + 1) xs))) (sym de);
-  few = subst (λ z. Few z (i + 1)) (sym de) (few_kind (kind_of (f x) (outcome_of s (f x))) c i (evicted (departures_at 0 s (f x))) w.few le);
+  few = subst (λ z. Few z (i + 1)) (sym de) (few_tried (is_left_out (f x)) (kind_of (f x) (outcome_of s (f x))) c i (evicted (departures_at 0 s (f x))) w.few le);
 }
 
 -- all steps

@@ -9,8 +9,8 @@ use Rattle.rev_model.specs.Move.{Move, Takes, Puts, Fills, Touches, Binds, Unbin
 use Rattle.rev_model.specs.Track.{Removal, removal, removals, first_note, more_notes}
 use Rattle.rev_model.specs.declared.Cause.{Cause}
 use Rattle.rev_model.specs.declared.Outcome.{Outcome}
-use Rattle.rev_changes.specs.Record.{PlainChange, PlainRecord, IsWhole, plain_change}
-use Rattle.rev_changes.specs.declared.changes.Change as kept
+use Rattle.rev_inverse.specs.Record.{PlainChange, PlainRecord, IsWhole, plain_change}
+use Rattle.rev_inverse.specs.declared.changes.Change as kept
 use Rattle.rev_explain.specs.Readings.{removals_by}
 use Rattle.rev_explain.specs.Departures.{PlainDeparture, departure, departures_in}
 use Rattle.rev_explain.proofs.Departing.{removals_from, removals_next, removals_end, removals_whole}

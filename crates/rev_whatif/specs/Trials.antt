@@ -1,11 +1,13 @@
 -- What a trace counts on an empty store with another setting.
 -- Rule of this project: the steps on the way from the root to the current node are played again, one after another, by
 -- the model's own step. Each is counted as the report counts it, and a key that left is counted where it was evicted.
-use Rattle.std.specs.Prelude.{ℕ, ◌+◌, List, [], ◌∷◌, ◌++◌, Option, None, Some, Result, Ok, Err}
+-- Steps of `~evict` are left out: they say what made way in the cache that was recorded, and not in this one.
+use Rattle.std.specs.Prelude.{ℕ, ◌+◌, Bool, true, false, cond, List, [], ◌∷◌, ◌++◌, Option, None, Some, Result, Ok, Err}
 use Rattle.std.specs.List.{count_by}
 use Rattle.rev_classes.specs.declared.Config.{Config}
 use Rattle.rev_model.specs.State.{State}
-use Rattle.rev_model.specs.Actor.{Step, Tune}
+use Rattle.rev_model.specs.Actor.{Step, Client, Tune}
+use Rattle.rev_model.specs.Client.{Evicts}
 use Rattle.rev_requests.specs.Limits.{PlainTune}
 use Rattle.rev_inverse.specs.Empty.{empty_state}
 use Rattle.rev_tree.specs.Steps.{next, outcome_of}
@@ -63,10 +65,25 @@ evicted ds = count_by (λ (d : PlainDeparture). is_eviction d.cause) ds
 abbrev pub with_step : State → Step → Counts → Counts
 with_step s e c = with_kind (kind_of e (outcome_of s e)) (with_evictions (evicted (departures_at 0 s e)) c)
 
--- steps more, which are played one after another, the first one at s
+-- ---- what a trial leaves out
+
+-- a step by which a log says that an item was evicted
+abbrev pub is_left_out : Step → Bool
+is_left_out (Client (Evicts k)) = true
+is_left_out e = false
+
+-- the store after a step, which is played at s if it is not left out
+abbrev pub next_tried : State → Step → State
+next_tried s e = cond (is_left_out e) s (next s e)
+
+-- what is counted then
+abbrev pub with_tried : State → Step → Counts → Counts
+with_tried s e c = cond (is_left_out e) c (with_step s e c)
+
+-- steps more, one after another, the first one at s
 abbrev pub count_from : State → List Step → Counts → Counts
 count_from s [] c = c
-count_from s (e ∷ es) c = count_from (next s e) es (with_step s e c)
+count_from s (e ∷ es) c = count_from (next_tried s e) es (with_tried s e c)
 
 -- ---- a trial
 

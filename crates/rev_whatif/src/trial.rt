@@ -1,5 +1,5 @@
 //! Trials: a trace on an empty store with one other setting.
-ghost use Rattle.std.specs.Prelude.{◌≡◌, ◌<◌, ◌≤◌, ◌^◌, ℕ, IfOk, OnOk, Ok, cond, length, map, slice_index_or};
+ghost use Rattle.std.specs.Prelude.{◌≡◌, ◌<◌, ◌≤◌, ◌^◌, ℕ, IfOk, OnOk, Ok, cond, false, length, map, slice_index_or};
 ghost use Rattle.rev_model.specs.State.{State};
 ghost use Rattle.rev_model.specs.Sound.{Sound};
 ghost use Rattle.rev_model.specs.Causes.{step_removals};
@@ -11,18 +11,17 @@ ghost use Rattle.rev_tree.specs.Steps.{next, outcome_of};
 ghost use Rattle.rev_explain.specs.Readings.{removals_by};
 ghost use Rattle.rev_explain.specs.Departures.{departure, departures_in, departures_at};
 ghost use Rattle.rev_whatif.specs.Settings.{fault_with};
-ghost use Rattle.rev_whatif.specs.Trials.{path_steps, no_counts, with_kind, with_evictions, evicted, with_step, count_from, tuned, outcome_by, trial_of};
+ghost use Rattle.rev_whatif.specs.Trials.{path_steps, no_counts, with_kind, with_evictions, evicted, with_step, is_left_out, next_tried, with_tried, count_from, tuned, outcome_by, trial_of};
 ghost use Rattle.rev_whatif.specs.Playing.{HasRoom, IsTried};
 
 use crate::path::steps;
 use crate::setting::{Setting, SettingFault};
-use rev_changes::{Change, Record};
 use rev_classes::Config;
 use rev_figures::{StepKind, has_stored, is_eviction, kind_of};
-use rev_inverse::Store;
+use rev_inverse::{Change, Record, Store};
 use rev_items::Key;
 use rev_model::{Cause, Outcome};
-use rev_requests::{Step, Tune};
+use rev_requests::{ClientStep, KeyCommand, Step, Tune};
 use rev_steps::apply;
 use rev_undotree::Session;
 use std::alloc::{AllocError, Allocator, Global};
@@ -165,7 +164,49 @@ fn count_step<A: Allocator + Clone>(
     Ok(())
 }
 
-/// Plays the steps in order, and counts what they did.
+/// Whether a trial leaves the step out: by `~evict` a log says what made way in the cache that was recorded.
+fn is_left_out<A: Allocator>(step: &Step<A>) -> bool
+    ensures { result ≡ is_left_out (plain_step step.now) }
+{
+    match step {
+        Step::Client(client) => match client {
+            ClientStep::Keyed { command, .. } => match command {
+                KeyCommand::Evict => true,
+                KeyCommand::Get
+                | KeyCommand::Delete
+                | KeyCommand::Touch(_)
+                | KeyCommand::Count(_) => false,
+            },
+            ClientStep::Store { .. } | ClientStep::Join { .. } | ClientStep::FlushAll { .. } =>
+                false,
+        },
+        Step::Actor(_) | Step::Tune(_) => false,
+    }
+}
+
+/// Plays a step, and counts what it did, if it is not left out.
+///
+/// Err: a growth was refused.
+fn try_step<A: Allocator + Clone>(
+    store: &mut Store<A>,
+    counts: &mut Counts,
+    step: &Step<A>,
+) -> Result<(), AllocError>
+    requires sound { Sound store.old }
+    requires room { HasRoom counts.old }
+    ensures state { OnOk result (store.new ≡ next_tried store.old (plain_step step.now)) }
+    ensures sound { OnOk result (Sound store.new) }
+    ensures counts { OnOk result (counts.new ≡ with_tried store.old (plain_step step.now) counts.old) }
+    ensures few { OnOk result (is_left_out (plain_step step.now) ≡ false → evicted (departures_at 0 store.old (plain_step step.now)) ≤ 64) }
+{
+    if is_left_out(step) {
+        return Ok(());
+    }
+    count_step(store, counts, step)?;
+    Ok(())
+}
+
+/// Plays the steps in order, but for those that are left out, and counts what they did.
 ///
 /// Err: a growth was refused.
 fn count_steps<A: Allocator + Clone>(
@@ -178,7 +219,7 @@ fn count_steps<A: Allocator + Clone>(
 {
     let mut counts = Counts::NONE;
     for step in steps {
-        count_step(store, &mut counts, step)?;
+        try_step(store, &mut counts, step)?;
     }
     Ok(counts)
 }
@@ -284,6 +325,8 @@ fn all_done(results: &[Result<Trial, AllocError>], alloc: Global) -> Result<Vec<
 
 /// A trial of each setting, in their order: the steps on the way from the session's root to its current node are played
 /// on an empty store that has the configuration with this one setting, and counted. What led to the root is not played.
+///
+/// Steps of `~evict` are left out: by them a log says what made way in the cache that was recorded.
 ///
 /// A step that names a class by its number names the class of that number in the trial's own table of classes, and is
 /// answered as it is there.

@@ -10,7 +10,7 @@ use crate::agreeing::{Agreement, Disagreement, agrees_if, is_gone, is_in_class};
 use crate::holding::{holding_of, is_class};
 use crate::role::Role;
 use crate::stage::{LeadFault, Stage};
-use crate::steps::delete;
+use crate::steps::evict;
 use crate::tally::Adjustment;
 use rev_items::Key;
 use rev_log::foresight::Foresight;
@@ -24,7 +24,7 @@ impl<A: Allocator + Copy> Driver<A> {
     {
         if holding_of(stage.store(), key).is_some() {
             self.tally.adjust(Adjustment::Evicted);
-            stage.play(delete(self.alloc, key)?, Role::Eviction)?;
+            stage.play(evict(self.alloc, key)?, Role::Eviction)?;
         }
         Ok(())
     }

@@ -51,4 +51,5 @@ loop-from-preserved g c =
       omega (arith, bound, length-drop from text, c.loop-from.invariant.0),
       subst (λ l. Appends (g.K.Sink.contents c.args.sink.now) (g.K.Sink.contents c.write.new.self) l) (sym (take-add from c.in-Ok.n text)) (Appends-then _ _ _ _ _ c.loop-from.invariant.1 b),
       e ∙ ap (λ t. failures_after t (g.K.Sink.failures c.loop-from.sink)) (taken c.in-Ok.n _ c.if-n-eq0.false) ∙ c.loop-from.invariant.2,
+      c.write.ensures.same ∙ c.loop-from.invariant.3,
     )

@@ -6,7 +6,7 @@ use crate::streams::Stutter;
 use rev_choices::{Rhythm, Sample};
 use rev_import_commands::import::import_watch;
 use rev_messages::progress::Progress;
-use rev_options::{CsvOpening, Manner, WatchImport, WatchOpening};
+use rev_options::{CsvOpening, Leader, Manner, WatchImport, WatchOpening};
 use rev_output::ToWrite;
 use rev_program::direct::{open_csv, open_watch};
 use rev_script::dialect::Dialect;
@@ -50,7 +50,9 @@ fn asked(rt: &impl Abort, alloc: Global, split: Option<u32>) -> WatchImport {
         settings: text(rt, alloc, "settings"),
         stats: Some(text(rt, alloc, "stats")),
         factor: None,
-        rhythm: Rhythm::Lean,
+        leader: Leader::Rules(Rhythm::Lean),
+        free: true,
+        life: None,
         first: 0,
         last: u32::MAX,
         out: text(rt, alloc, "t"),
@@ -142,7 +144,8 @@ fn on_log(rt: &impl Abort, alloc: Global) -> WatchOpening {
         logs: named(rt, alloc, "log"),
         settings: text(rt, alloc, "settings"),
         factor: None,
-        rhythm: Rhythm::Lean,
+        leader: Leader::Rules(Rhythm::Lean),
+        life: None,
     }
 }
 

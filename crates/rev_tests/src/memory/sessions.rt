@@ -14,6 +14,7 @@ use rev_inverse::Store;
 use rev_items::Key;
 use rev_output::ToWrite;
 use rev_script::dialect::Dialect;
+use rev_script::duplex::Apart;
 use rev_script::source::FromRead;
 use rev_shell::run::{RunFault, Summary, run};
 use rev_steps::{ActorStep, KeyCommand, Step, StoreVerb};
@@ -375,8 +376,10 @@ fn run_script<R: Abort>(
         &heap,
         &SMALL,
         Dialect::CrLf,
-        &mut FromRead::new(script),
-        &mut ToWrite::new(written),
+        &mut Apart {
+            source: FromRead::new(script),
+            sink: ToWrite::new(written),
+        },
     )
 }
 

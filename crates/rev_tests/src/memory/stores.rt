@@ -7,9 +7,8 @@ use crate::memory::pictures::picture_of;
 use crate::memory::steps::{Command, step_of};
 use crate::owned::is_made;
 use linked_list_allocator::LocalHeap;
-use rev_changes::Record;
 use rev_classes::{Config, ConfigFault};
-use rev_inverse::Store;
+use rev_inverse::{Record, Store};
 use rev_model::{ClassSet, Queue};
 use rev_steps::{ActorStep, Arithmetic, JoinSide, KeyCommand, Step, StoreVerb, apply};
 use std::alloc::{Allocator, Global};
@@ -112,7 +111,7 @@ const ONE_OF_3: &[Command] = &[Command::Set("a", 3)];
 #[derive(Clone, Copy)]
 struct Case(&'static str, u32, &'static [Command], Command);
 
-static CASES: [Case; 30] = [
+static CASES: [Case; 31] = [
     Case("a set that makes a page", 1, &[], SET),
     Case(
         "a set with a long key",
@@ -195,6 +194,12 @@ static CASES: [Case; 30] = [
         1,
         &[Command::Set("b", 1), SET],
         Command::Keyed(KeyCommand::Delete, "a"),
+    ),
+    Case(
+        "an eviction by name",
+        1,
+        &[Command::Set("b", 1), SET],
+        Command::Keyed(KeyCommand::Evict, "a"),
     ),
     Case("a flush", 1, ONE, Command::FlushAll),
     Case("a pull", 1, &[SET, Command::Set("b", 1)], PULL),

@@ -2,7 +2,7 @@ use Rattle.std.proofs.Common.{sym, ◌∙◌, subst, rules, arith}
 use Rattle.rev_commands.proofs.Looking.{found, missed, look_most, found_look, found_removal}
 use Rattle.std.specs.Prelude.{Some, None}
 use Rattle.rev_model.specs.declared.Cause.TheVariants.{Deleted}
-use Rattle.rev_changes.specs.Telling.{Tells}
+use Rattle.rev_inverse.specs.Telling.{Tells}
 use Rattle.rev_edits.proofs.Telling.{tells_then, append_nil}
 use Rattle.rev_model.specs.Causes.{look_removals}
 use Rattle.rev_commands.proofs.Leaving.{deleted_by, found_clear, missed_clear, there}

@@ -1,6 +1,6 @@
 use Rattle.std.proofs.Common.{sym, ◌∙◌, subst, arith}
 use Rattle.rev_commands.proofs.Looking.{found, missed, look_most, found_look, found_removal}
-use Rattle.rev_changes.specs.Telling.{Tells}
+use Rattle.rev_inverse.specs.Telling.{Tells}
 use Rattle.rev_edits.proofs.Telling.{tells_then, append_nil}
 use Rattle.rev_model.specs.Causes.{look_removals}
 use Rattle.rev_commands.proofs.Leaving.{cleared_by, there, found_clear, missed_clear}

@@ -5,7 +5,7 @@ use Rattle.rev_model.specs.State.{State}
 use Rattle.rev_model.specs.Client.{looked_at}
 use Rattle.rev_model.specs.Causes.{looked_removals}
 use Rattle.rev_model.specs.declared.ChunkRef.{ChunkRef}
-use Rattle.rev_changes.specs.Telling.{Tells}
+use Rattle.rev_inverse.specs.Telling.{Tells}
 use Rattle.rev_edits.proofs.Telling.{tells_none}
 use Rattle.rev_commands.specs.Looking.{looked_need}
 use Rattle.rev_commands.proofs.Looking.{chunk_of}

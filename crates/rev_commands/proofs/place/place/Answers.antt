@@ -4,7 +4,7 @@ use Rattle.rev_model.specs.State.{Fixed, IsClass}
 use Rattle.rev_model.specs.Sound.{SoundBut}
 use Rattle.rev_model.specs.declared.Outcome.TheVariants.{NoChunk}
 use Rattle.rev_maintainer.proofs.Rooming.{same_globals_after}
-use Rattle.rev_changes.specs.Telling.{Tells}
+use Rattle.rev_inverse.specs.Telling.{Tells}
 use Rattle.rev_edits.proofs.Telling.{tells_then}
 use Rattle.rev_requests.specs.Plain.{plain_verb}
 use Rattle.rev_commands.proofs.Looking.{removal_less}

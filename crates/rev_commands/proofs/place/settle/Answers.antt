@@ -4,7 +4,7 @@ use Rattle.rev_model.specs.State.{find}
 use Rattle.rev_model.specs.Client.{lookup, refusal}
 use Rattle.rev_model.specs.Causes.{look_removals, settled_removals}
 use Rattle.rev_model.specs.declared.Outcome.TheVariants.{Stored}
-use Rattle.rev_changes.specs.Telling.{Tells}
+use Rattle.rev_inverse.specs.Telling.{Tells}
 use Rattle.rev_edits.proofs.Telling.{tells_then}
 use Rattle.rev_requests.specs.Plain.{plain_verb}
 use Rattle.rev_commands.proofs.Finding.{found_key}

@@ -2,7 +2,7 @@ use Rattle.std.specs.Prelude.{length, None}
 use Rattle.std.proofs.Common.{ap, arith}
 use Rattle.rev_model.specs.State.{find}
 use Rattle.rev_model.proofs.Undo.{leads_none}
-use Rattle.rev_changes.specs.Record.{PlainRecord}
+use Rattle.rev_inverse.specs.Record.{PlainRecord}
 use Rattle.rev_commands.specs.Looking.{found_need}
 use Rattle.rev_commands.proofs.Looking.{look_most, removal_most}
 use Rattle.rev_commands.proofs.Standing.{found_stands}

@@ -6,8 +6,8 @@ use Rattle.rev_model.specs.Client.{Replaces}
 use Rattle.rev_model.specs.Causes.{store_in_removals}
 use Rattle.rev_model.proofs.Undo.{leads_none}
 use Rattle.rev_model.specs.declared.Outcome.{Outcome}
-use Rattle.rev_changes.specs.Record.{PlainRecord}
-use Rattle.rev_changes.specs.Telling.{TellsAll}
+use Rattle.rev_inverse.specs.Record.{PlainRecord}
+use Rattle.rev_inverse.specs.Telling.{TellsAll}
 use Rattle.rev_edits.proofs.Telling.{tells_all}
 use Rattle.rev_commands.proofs.Looking.{removal_most}
 use Rattle.rev_commands.proofs.Rewriting.{rewritten_as, told_as}

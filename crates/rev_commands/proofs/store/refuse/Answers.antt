@@ -7,7 +7,7 @@ use Rattle.rev_commands.proofs.Looking.{removal_most}
 use Rattle.rev_commands.specs.Placing.{failed_need}
 use Rattle.rev_model.proofs.Undo.{leads_none}
 use Rattle.rev_model.specs.declared.Outcome.TheVariants.{TooLarge}
-use Rattle.rev_changes.specs.Record.{PlainRecord}
+use Rattle.rev_inverse.specs.Record.{PlainRecord}
 use Rattle.rev_edits.proofs.Telling.{tells_all}
 use Rattle.rev_commands.proofs.store.refuse.Goals as goal
 

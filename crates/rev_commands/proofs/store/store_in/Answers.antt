@@ -4,8 +4,8 @@ use Rattle.std.proofs.lemmas.Int.{to_z-of_z}
 use Rattle.rev_items.specs.Plain.{PlainItem}
 use Rattle.rev_model.specs.Causes.{store_in_removals}
 use Rattle.rev_model.proofs.Undo.{leads_none}
-use Rattle.rev_changes.specs.Record.{PlainRecord}
-use Rattle.rev_changes.specs.Telling.{TellsAll}
+use Rattle.rev_inverse.specs.Record.{PlainRecord}
+use Rattle.rev_inverse.specs.Telling.{TellsAll}
 use Rattle.rev_edits.proofs.Telling.{tells_all}
 use Rattle.rev_requests.specs.Plain.{plain_verb}
 use Rattle.rev_commands.proofs.Looking.{removal_most}

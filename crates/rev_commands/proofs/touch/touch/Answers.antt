@@ -3,7 +3,7 @@ use Rattle.std.proofs.Common.{◌∙◌, ap, arith, w32}
 use Rattle.std.proofs.lemmas.Int.{to_z-of_z}
 use Rattle.rev_model.proofs.Undo.{leads_none}
 use Rattle.rev_model.specs.Client.{touch}
-use Rattle.rev_changes.specs.Record.{PlainRecord}
+use Rattle.rev_inverse.specs.Record.{PlainRecord}
 use Rattle.rev_commands.proofs.Hitting.{access_most}
 use Rattle.rev_edits.proofs.Telling.{tells_all}
 use Rattle.rev_commands.proofs.touch.touch.Goals as goal

@@ -5,7 +5,7 @@ use Rattle.rev_model.specs.Lists.{before}
 use Rattle.rev_model.specs.State.{State, queue_of}
 use Rattle.rev_model.specs.declared.Outcome.{Outcome}
 use Rattle.rev_model.specs.declared.Entry.TheVariants.{Chunk, Mark}
-use Rattle.rev_changes.specs.Telling.{TellsAll}
+use Rattle.rev_inverse.specs.Telling.{TellsAll}
 use Rattle.rev_crawler.proofs.Marking.{class_is}
 use Rattle.rev_crawler.proofs.Passing.{answers_same, crawl_bad, crawl_bad-told, crawl_idle, crawl_idle-told, crawl_is, crawl_is-told}
 use Rattle.rev_crawler.proofs.crawling.crawl.Goals as goal

@@ -3,7 +3,7 @@ use Rattle.std.proofs.Common.{sym, ◌∙◌, subst}
 use Rattle.rev_model.specs.State.{queue_of, item_at}
 use Rattle.rev_model.proofs.Places.{glanced}
 use Rattle.rev_model.specs.declared.Entry.TheVariants.{Chunk, Mark}
-use Rattle.rev_changes.specs.Telling.{TellsAll}
+use Rattle.rev_inverse.specs.Telling.{TellsAll}
 use Rattle.rev_crawler.proofs.Passing.{before_there, entry_stands, answers, answers_same, no_item, death, crawl_none, crawl_none-told, crawl_dead, crawl_dead-told, crawl_alive, crawl_alive-told}
 use Rattle.rev_crawler.proofs.crawling.crawl_item.Goals as goal
 

@@ -5,7 +5,7 @@ use Rattle.rev_crawler.proofs.Passing.{take_mark, rest-left}
 use Rattle.std.proofs.Common.{ap, arith}
 use Rattle.rev_model.specs.State.{State}
 use Rattle.rev_model.specs.declared.Outcome.TheVariants.{Ended}
-use Rattle.rev_changes.specs.Record.{PlainRecord}
+use Rattle.rev_inverse.specs.Record.{PlainRecord}
 use Rattle.rev_edits.proofs.Telling.{tells_all}
 use Rattle.rev_crawler.proofs.crawling.end.Goals as goal
 

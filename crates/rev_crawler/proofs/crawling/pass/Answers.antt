@@ -9,7 +9,7 @@ use Rattle.rev_model.specs.declared.Entry.TheVariants.{Chunk, Mark}
 use Rattle.rev_model.specs.declared.Placed.TheVariants.{ToQueue}
 use Rattle.rev_edits.proofs.Rest.{Rest, sound_of, rest_of}
 use Rattle.rev_crawler.proofs.Passing.{before_there, take_mark, chunk_left, put_mark, passed_is, rest-passed}
-use Rattle.rev_changes.specs.Record.{PlainRecord}
+use Rattle.rev_inverse.specs.Record.{PlainRecord}
 use Rattle.rev_edits.proofs.Telling.{tells_all, tells_still}
 use Rattle.rev_crawler.proofs.crawling.pass.Goals as goal
 

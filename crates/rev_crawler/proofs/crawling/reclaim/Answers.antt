@@ -2,7 +2,7 @@ use Rattle.std.proofs.Common.{ap, arith}
 use Rattle.std.specs.Prelude.{None, length, refl}
 use Rattle.rev_model.proofs.Undo.{leads_none}
 use Rattle.rev_edits.proofs.Rest.{sound_of, rest_of, rest-dropped}
-use Rattle.rev_changes.specs.Record.{PlainRecord}
+use Rattle.rev_inverse.specs.Record.{PlainRecord}
 use Rattle.rev_edits.proofs.Telling.{tells_all}
 use Rattle.rev_crawler.proofs.crawling.reclaim.Goals as goal
 

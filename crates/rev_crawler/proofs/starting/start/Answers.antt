@@ -3,7 +3,7 @@ use Rattle.std.proofs.Common.{sym, ◌∙◌, subst, ap, arith}
 use Rattle.rev_model.proofs.Undo.{leads_none}
 use Rattle.rev_edits.proofs.Rest.{Rest, sound_of, rest_of}
 use Rattle.rev_crawler.proofs.Marking.{as_free, free_marks, start_okay, rest-marks}
-use Rattle.rev_changes.specs.Record.{PlainRecord}
+use Rattle.rev_inverse.specs.Record.{PlainRecord}
 use Rattle.rev_edits.proofs.Telling.{tells_all}
 use Rattle.rev_crawler.proofs.Passing.{answers_same, case_one, case_two}
 use Rattle.rev_crawler.proofs.starting.start.Goals as goal

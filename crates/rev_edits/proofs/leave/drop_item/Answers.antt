@@ -5,7 +5,7 @@ use Rattle.rev_model.proofs.Drops.{drop_take, drop_unbind, drop_fill}
 use Rattle.rev_model.specs.State.{item_at}
 use Rattle.rev_model.specs.Track.{removal}
 use Rattle.rev_edits.proofs.Dropping.{drop_put, drop_fits}
-use Rattle.rev_changes.specs.Telling.{Tells}
+use Rattle.rev_inverse.specs.Telling.{Tells}
 use Rattle.rev_edits.proofs.Telling.{append_nil, tells_four}
 use Rattle.rev_edits.proofs.leave.drop_item.Goals as goal
 

@@ -4,7 +4,7 @@ use Rattle.std.proofs.lemmas.List.{length-append}
 use Rattle.rev_model.proofs.Drops.{drop_take, drop_unbind, drop_fill}
 use Rattle.rev_model.specs.State.{item_at}
 use Rattle.rev_model.specs.Track.{removal}
-use Rattle.rev_changes.specs.Telling.{Tells}
+use Rattle.rev_inverse.specs.Telling.{Tells}
 use Rattle.rev_edits.proofs.Telling.{append_nil, tells_three}
 use Rattle.rev_edits.proofs.leave.unlink.Goals as goal
 

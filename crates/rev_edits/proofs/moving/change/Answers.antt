@@ -2,7 +2,7 @@ use Rattle.std.specs.Prelude.{None, ◌≡◌, ◌++◌, ◌∷◌, [], length, 
 use Rattle.std.proofs.Common.{ap, sym, subst, ◌∙◌, arith}
 use Rattle.std.proofs.lemmas.List.{length-append}
 use Rattle.rev_model.specs.Move.{Fits, turned, reverse as back}
-use Rattle.rev_changes.specs.Seen.{plain_moves, plain_move}
+use Rattle.rev_inverse.specs.Seen.{plain_moves, plain_move}
 use Rattle.rev_edits.proofs.Telling.{tells_made}
 use Rattle.rev_edits.proofs.moving.change.Goals as goal
 

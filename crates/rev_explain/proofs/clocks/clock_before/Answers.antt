@@ -1,5 +1,5 @@
 use Rattle.std.proofs.Common.{sym, ◌∙◌}
-use Rattle.rev_changes.specs.Record.{plain_change}
+use Rattle.rev_inverse.specs.Record.{plain_change}
 use Rattle.rev_explain.proofs.Timing.{clock_told}
 use Rattle.rev_explain.proofs.clocks.clock_before.Goals as goal
 

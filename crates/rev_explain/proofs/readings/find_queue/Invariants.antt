@@ -1,6 +1,6 @@
 use Rattle.std.proofs.Common.{◌≡◌, drop}
 use Rattle.rev_model.specs.Track.{class_queue_before}
-use Rattle.rev_changes.specs.Record.{moves_in}
+use Rattle.rev_inverse.specs.Record.{moves_in}
 use Rattle.rev_explain.proofs.readings.find_queue.Given as goal
 
 abbrev pub invariant-loop-i : goal.invariant-loop-i

@@ -1,6 +1,6 @@
 use Rattle.std.proofs.Common.{◌≡◌, drop}
 use Rattle.rev_model.specs.Track.{keyed}
-use Rattle.rev_changes.specs.Record.{moves_in}
+use Rattle.rev_inverse.specs.Record.{moves_in}
 use Rattle.rev_explain.proofs.readings.is_keyed.Given as goal
 
 -- the chunk that is sought here has the key's item if the first one has it in the end

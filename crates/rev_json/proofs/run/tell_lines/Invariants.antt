@@ -9,9 +9,10 @@ use Rattle.rev_json.proofs.run.tell_lines.Given as goal
 abbrev pub invariant-lines : goal.invariant-lines
 invariant-lines g l = (l.lines.fault ≡ None) × (l.count ≤ l.lines.input.bytes.given) × (l.lines.input.bytes.given ≤ 4294967296)
     × IsSoFar l.fn.lines.input.dialect Hidden l.fn.lines.input l.lines.input
-    (sink_at None (g.K.Sink.failures l.fn.sink)) (sink_at None (g.K.Sink.failures l.sink))
+    (sink_at None l.fn.lines.input.bytes.source.beside.sink.failures) (sink_at None l.lines.input.bytes.source.beside.sink.failures)
     (with_bookmarks l.fn.session l.fn.bookmarks) (with_bookmarks l.session l.bookmarks) l.count l.bad l.refused
-    × WroteLines l.count (g.K.Sink.contents l.fn.sink) (g.K.Sink.contents l.sink)
+    × WroteLines l.count l.fn.lines.input.bytes.source.beside.sink.contents l.lines.input.bytes.source.beside.sink.contents
+    × (l.lines.input.bytes.source.beside.writer ≡ l.fn.lines.input.bytes.source.beside.writer)
 
 abbrev pub decreases-lines : goal.decreases-lines
 decreases-lines g l = 4294967296 - l.lines.input.bytes.given

@@ -1,7 +1,7 @@
 use Rattle.std.specs.Prelude.{length}
 use Rattle.std.proofs.Common.{ap, arith}
 use Rattle.rev_model.proofs.Undo.{leads_none}
-use Rattle.rev_changes.specs.Record.{PlainRecord}
+use Rattle.rev_inverse.specs.Record.{PlainRecord}
 use Rattle.rev_maintainer.proofs.Bumps.{need_most}
 use Rattle.rev_edits.proofs.Telling.{tells_all}
 use Rattle.rev_maintainer.proofs.bumping.bump.Goals as goal

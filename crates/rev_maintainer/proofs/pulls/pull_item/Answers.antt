@@ -1,6 +1,6 @@
 use Rattle.std.proofs.Common.{◌∙◌, ap, sym, subst}
 use Rattle.rev_items.specs.Rules.{is_past}
-use Rattle.rev_changes.specs.Telling.{Tells}
+use Rattle.rev_inverse.specs.Telling.{Tells}
 use Rattle.rev_model.specs.declared.Globals.{Globals}
 use Rattle.rev_model.specs.declared.Queue.TheVariants.{Hot, Warm, Cold}
 use Rattle.rev_maintainer.proofs.Arms.{live_done, live_gone, dead_done, dead_gone}

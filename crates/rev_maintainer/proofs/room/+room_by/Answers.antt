@@ -2,9 +2,9 @@ use Rattle.std.specs.Prelude.{◌++◌, ◌≡◌, ◌-◌, ◌+◌, ◌≤◌, 
 use Rattle.std.proofs.Common.{sym, ◌∙◌, ap, subst, rules, arith}
 use Rattle.rev_model.specs.State.{State, Fixed, free_of, IsClass}
 use Rattle.rev_model.specs.Pull.{squeezed, page_of}
-use Rattle.rev_changes.specs.Record.{PlainRecord}
+use Rattle.rev_inverse.specs.Record.{PlainRecord}
 use Rattle.rev_edits.specs.Taking.{paired}
-use Rattle.rev_changes.specs.Telling.{Tells}
+use Rattle.rev_inverse.specs.Telling.{Tells}
 use Rattle.rev_edits.proofs.Telling.{tells_more, tells_then}
 use Rattle.rev_model.specs.Causes.{squeeze_removals, room_removals_by}
 use Rattle.rev_maintainer.proofs.Causes.{later_removals, given_removals}

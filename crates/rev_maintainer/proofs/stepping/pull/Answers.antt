@@ -5,8 +5,8 @@ use Rattle.rev_model.specs.Pull.{pull}
 use Rattle.rev_model.specs.Causes.{pull_removals}
 use Rattle.rev_model.specs.declared.Outcome.TheVariants.{BadClass}
 use Rattle.rev_model.specs.declared.PullMode.TheVariants.{Plain}
-use Rattle.rev_changes.specs.Record.{PlainRecord}
-use Rattle.rev_changes.specs.Telling.{TellsAll}
+use Rattle.rev_inverse.specs.Record.{PlainRecord}
+use Rattle.rev_inverse.specs.Telling.{TellsAll}
 use Rattle.rev_edits.proofs.Telling.{tells_all}
 use Rattle.rev_maintainer.proofs.stepping.pull.Goals as goal
 

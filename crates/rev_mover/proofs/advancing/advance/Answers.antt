@@ -4,7 +4,7 @@ use Rattle.rev_model.specs.State.{State}
 use Rattle.rev_model.specs.Track.{Removal}
 use Rattle.rev_model.specs.declared.Globals.{Globals}
 use Rattle.rev_model.specs.declared.Outcome.{Outcome}
-use Rattle.rev_changes.specs.Telling.{TellsAll}
+use Rattle.rev_inverse.specs.Telling.{TellsAll}
 use Rattle.rev_mover.specs.Moving.{IsDone, IsLeft}
 use Rattle.rev_mover.proofs.Steps.{not_done, advance_left, advance_done, left_removals, done_removals}
 use Rattle.rev_mover.proofs.advancing.advance.Goals as goal

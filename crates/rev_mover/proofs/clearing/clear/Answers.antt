@@ -2,7 +2,7 @@ use Rattle.std.proofs.Common.{sym, ◌∙◌, subst}
 use Rattle.rev_model.specs.State.{free_of, item_at}
 use Rattle.rev_mover.proofs.Walking.{spare_there}
 use Rattle.rev_mover.proofs.Steps.{rescue_planned, plan_none, plan_dead, plan_evict, plan_rescue, withdrawn_done, reclaimed_done, reclaimed_told, evicted_done, evicted_told, rescued_done, rescued_told}
-use Rattle.rev_changes.specs.Telling.{Tells}
+use Rattle.rev_inverse.specs.Telling.{Tells}
 use Rattle.rev_mover.proofs.clearing.clear.Goals as goal
 
 pub rescue-requires-clause-free : goal.rescue-requires-clause-free

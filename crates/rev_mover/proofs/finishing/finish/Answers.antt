@@ -1,6 +1,6 @@
 use Rattle.std.proofs.Common.{rules, ap, arith}
 use Rattle.rev_model.proofs.Undo.{leads_none}
-use Rattle.rev_changes.specs.Record.{PlainRecord}
+use Rattle.rev_inverse.specs.Record.{PlainRecord}
 use Rattle.rev_edits.proofs.Telling.{tells_all}
 use Rattle.std.specs.Prelude.{length}
 use Rattle.rev_model.specs.State.{State}

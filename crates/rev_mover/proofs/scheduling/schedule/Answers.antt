@@ -1,5 +1,5 @@
 use Rattle.rev_mover.proofs.Starting.{started_sound}
-use Rattle.rev_changes.specs.Record.{PlainRecord}
+use Rattle.rev_inverse.specs.Record.{PlainRecord}
 use Rattle.rev_edits.proofs.Telling.{tells_all}
 use Rattle.std.specs.Prelude.{length}
 use Rattle.std.proofs.Common.{ap, arith, sym, ◌∙◌}

@@ -1,16 +1,24 @@
-use Rattle.std.proofs.Common.{inl, rules, Err}
+use Rattle.std.proofs.Common.{inl, rules, Err, sym, ◌∙◌}
 use Rattle.rev_program.proofs.Ends.{asked_stopped, stopped_of, plainly, plain_of, unnoted, noted_of, noted_plainly, behind_of, early_of}
-use Rattle.rev_program.proofs.Tallies.{run_stopped}
+use Rattle.rev_program.proofs.Tallies.{run_stopped, some_status}
+use Rattle.rev_program.proofs.Running.{keep, ends_refused}
 use Rattle.rev_program.proofs.program.program_with.Goals as goal
 
 pub returns-in-Err-clause-status : goal.returns-in-Err-clause-status
 returns-in-Err-clause-status c = search rules steps 4000000
 
 pub returns-in-Ok-Run-clause-early : goal.returns-in-Ok-Run-clause-early
-returns-in-Ok-Run-clause-early g c = λ some other lives. c.ended_run.ensures.early some
+returns-in-Ok-Run-clause-early g c = λ some other lives. c.run_to_end.ensures.ends.early some
 
 pub returns-in-Ok-Run-clause-run : goal.returns-in-Ok-Run-clause-run
-returns-in-Ok-Run-clause-run g c = λ asks. c.ended_run.ensures
+returns-in-Ok-Run-clause-run g c = λ asks. c.run_to_end.ensures.ends
+
+pub returns-in-Ok-Run-clause-answers : goal.returns-in-Ok-Run-clause-answers
+returns-in-Ok-Run-clause-answers g c = λ asks. c.run_to_end.ensures.answers
+
+pub returns-in-Err-clause-answers : goal.returns-in-Err-clause-answers
+returns-in-Err-clause-answers g c =
+    λ asks. ends_refused _ _ _ _ _ _ _ _ _ c.from.result (λ e. some_status c.from.result (sym c.ended.ensures.status ∙ e)) (record { status_is = c.ended.ensures.status; text_is = c.ended.ensures.told }) (keep _)
 
 pub returns-in-Err-clause-run : goal.returns-in-Err-clause-run
 returns-in-Err-clause-run g c = λ asks. run_stopped _ _ _ _ c.from.result _ c.ended.ensures.range c.ended.ensures.status c.ended.ensures.told

@@ -2,8 +2,8 @@ use Rattle.std.proofs.Common.{[], None, inl, refl, sym, ◌∙◌, ap, arith}
 use Rattle.rev_script.specs.Script.{onwards, cuts}
 use Rattle.rev_script.proofs.Known.{Took-refl}
 use Rattle.rev_script.proofs.Scripts.{takes_byte, first-unused, first-given}
+use Rattle.rev_shell.proofs.Runs.{progress, finished, unfinished, memory_now, fault_now, front_now, still_whole, few_bad, few_refused, nothing_read, nothing_asked, so_far_written, left_written, stopped_written, same_sink}
 use Rattle.rev_output.specs.Sink.{PlainSink, sink_at}
-use Rattle.rev_shell.proofs.Runs.{progress, finished, unfinished, memory_now, fault_now, front_now, still_whole, few_bad, few_refused, nothing_read, nothing_asked}
 use Rattle.rev_shell.proofs.run.run_lines.Goals as goal
 
 -- (what is not written to)
@@ -13,68 +13,73 @@ nowhere = sink_at None 0
 pub lines-init : goal.lines-init
 lines-init g c =
     let start = c.args.lines.now.input in
-    let a = rw (c.as_slice.ensures.value, c.in-Ok.ensures, c.current.ensures) at c.in-Ok-write_some.ensures.ok.0 in (
-      ap (λ l. l.fault) c.requires,
+    let kept = c.put_some.ensures.kept in
+    let a = rw (c.as_slice.ensures.value, c.in-Ok.ensures, c.current.ensures) at c.in-Ok-put_some.ensures.ok in
+    let given = ap (λ l. l.input.bytes.given) kept ∙ first-given _ c.requires in (
+      ap (λ l. l.fault) kept ∙ ap (λ l. l.fault) c.requires,
       omega arith,
-      omega (arith, first-given _ c.requires),
-      record {
+      omega (arith, given),
+      so_far_written _ _ _ kept (record {
         done = [];
         read = [];
-        took = Took-refl;
+        passed = Took-refl.passed;
+        steady = refl;
         dialect_is = refl;
         lines_are = inl (record { cuts_are = λ more. ap (λ l. cuts start.dialect (onwards l.input.passes more)) (sym c.requires) });
         count_is = refl;
         session_is = refl;
-        wrote = a;
-        writes = c.in-Ok-write_some.ensures.ok.1;
+        wrote = a.0;
+        writes = a.1;
         bad_is = refl;
         refused_is = refl;
-      },
+      }),
+      ap (λ l. l.input.bytes.source.beside.writer) kept,
     )
 
 pub returns-in-Err-clause-err : goal.returns-in-Err-clause-err
 returns-in-Err-clause-err g c = nothing_read _ _ _ _ _
 
-pub returns-in-Err-write_some-clause-err : goal.returns-in-Err-write_some-clause-err
-returns-in-Err-write_some-clause-err g c =
-    let f = rw (c.as_slice.ensures.value, c.in-Ok.ensures, c.current.ensures) at c.in-Err-write_some.ensures.err.0 in
-    nothing_asked _ _ _ _ _ _ f c.in-Err-write_some.ensures.err.1
+pub returns-in-Err-put_some-clause-err : goal.returns-in-Err-put_some-clause-err
+returns-in-Err-put_some-clause-err g c =
+    let f = rw (c.as_slice.ensures.value, c.in-Ok.ensures, c.current.ensures) at c.in-Err-put_some.ensures.err in
+    stopped_written _ _ _ c.put_some.ensures.kept (nothing_asked _ _ _ _ _ _ f.0 f.1)
 
 pub returns-in-Err-next-clause-err : goal.returns-in-Err-next-clause-err
 returns-in-Err-next-clause-err g c =
     let i = c.lines.invariant in
     let w = still_whole i.3 (λ e. let n = (c.in-Err-next.ensures.stays i.0 e.ended).0 in cc) in
-    rw c.fault_at.ensures (fault_now _ _ _ _ c.next.new.self.input _ _ nowhere _ _ _ _ _ (first-unused _ c.requires) (first-given _ c.requires) i.3 c.in-Err-next.fault w (c.in-Err-next.ensures.err i.0))
+    let n = c.in-Err-next.ensures.err i.0 in
+    rw c.fault_at.ensures (same_sink _ _ _ _ n.1.beside (fault_now _ _ _ _ c.next.new.self.input _ _ nowhere _ _ _ _ _ (first-unused _ c.requires) (first-given _ c.requires) i.3 c.in-Err-next.fault w n))
 
 pub returns-in-None-clause-ok : goal.returns-in-None-clause-ok
 returns-in-None-clause-ok g c =
     let i = c.lines.invariant in
     let n = rw c.in-None.is at c.in-Ok-next.ensures.ok in
-    let a = rw c.end_text.ensures at c.in-Ok-write_some-2.ensures.ok.0 in
-    finished _ _ _ _ c.next.new.self.input _ _ _ _ _ _ _ _ (first-unused _ c.requires) (first-given _ c.requires) i.3 _ c.issued.ensures (λ e. (c.in-Ok-next.ensures.stays i.0 e).1) n a c.in-Ok-write_some-2.ensures.ok.1
+    let a = rw (c.end_text.ensures, n.1.beside) at c.in-Ok-put_some-2.ensures.ok in
+    left_written _ _ _ c.put_some-in-None.ensures.kept (finished _ _ _ _ c.next.new.self.input _ _ _ _ _ _ _ _ (first-unused _ c.requires) (first-given _ c.requires) i.3 _ c.issued.ensures (λ e. (c.in-Ok-next.ensures.stays i.0 e).1) n a.0 a.1)
 
-pub returns-in-Err-write_some-2-clause-err : goal.returns-in-Err-write_some-2-clause-err
-returns-in-Err-write_some-2-clause-err g c =
+pub returns-in-Err-put_some-2-clause-err : goal.returns-in-Err-put_some-2-clause-err
+returns-in-Err-put_some-2-clause-err g c =
     let i = c.lines.invariant in
     let n = rw c.in-None.is at c.in-Ok-next.ensures.ok in
-    let a = rw c.end_text.ensures at c.in-Err-write_some-2.ensures.err.0 in
-    unfinished _ _ _ _ c.next.new.self.input _ _ _ _ _ _ _ _ (first-unused _ c.requires) (first-given _ c.requires) i.3 (λ e. (c.in-Ok-next.ensures.stays i.0 e).1) n a c.in-Err-write_some-2.ensures.err.1
+    let a = rw (c.end_text.ensures, n.1.beside) at c.in-Err-put_some-2.ensures.err in
+    stopped_written _ _ _ c.put_some-in-None.ensures.kept (unfinished _ _ _ _ c.next.new.self.input _ _ _ _ _ _ _ _ (first-unused _ c.requires) (first-given _ c.requires) i.3 (λ e. (c.in-Ok-next.ensures.stays i.0 e).1) n a.0 a.1)
 
 pub returns-in-Err-answer_line-clause-err : goal.returns-in-Err-answer_line-clause-err
 returns-in-Err-answer_line-clause-err g c =
     let i = c.lines.invariant in
     let n = rw c.in-Some.is at c.in-Ok-next.ensures.ok in
     let w = still_whole i.3 (λ e. let x = (c.in-Ok-next.ensures.stays i.0 e.ended).0 in cc) in
-    memory_now _ _ _ _ c.next.new.self.input _ _ nowhere _ _ _ _ _ (first-unused _ c.requires) (first-given _ c.requires) i.3 _ w n
+    same_sink _ _ _ _ n.1.beside (memory_now _ _ _ _ c.next.new.self.input _ _ nowhere _ _ _ _ _ (first-unused _ c.requires) (first-given _ c.requires) i.3 _ w n)
 
-pub returns-in-Err-write_all-clause-err : goal.returns-in-Err-write_all-clause-err
-returns-in-Err-write_all-clause-err g c =
+pub returns-in-Err-put-clause-err : goal.returns-in-Err-put-clause-err
+returns-in-Err-put-clause-err g c =
     let i = c.lines.invariant in
     let n = rw c.in-Some.is at c.in-Ok-next.ensures.ok in
     let w = still_whole i.3 (λ e. let x = (c.in-Ok-next.ensures.stays i.0 e.ended).0 in cc) in
     let a = c.as_slice-in-lines.ensures.value ∙ c.in-Ok-answer_line.ensures.text in
-    let f = rw a at c.in-Err-write_all.ensures.err.0 in
-    front_now _ _ _ _ _ _ _ _ _ _ _ _ _ (first-unused _ c.requires) (first-given _ c.requires) i.3 _ _ w n c.in-Ok-answer_line.ensures.state f c.in-Err-write_all.ensures.err.1
+    let f = rw (a, n.1.beside) at c.in-Err-put.ensures.err in
+    stopped_written _ _ _ c.put.ensures.kept (front_now _ _ _ _ c.next.new.self.input _ _ _ _ _ _ _ _ (first-unused _ c.requires) (first-given _ c.requires) i.3 _ _ w n c.in-Ok-answer_line.ensures.state f.0 f.1)
 
 pub with_mark-bad-requires : goal.with_mark-bad-requires
 with_mark-bad-requires g c = few_bad c.lines.invariant.3
@@ -88,41 +93,75 @@ lines-preserved g c =
     let n = rw c.in-Some.is at c.in-Ok-next.ensures.ok in
     let w = still_whole i.3 (λ e. let x = (c.in-Ok-next.ensures.stays i.0 e.ended).0 in cc) in
     let a = c.as_slice-in-lines.ensures.value ∙ c.in-Ok-answer_line.ensures.text in
-    let f = rw a at c.in-Ok-write_all.ensures.ok.0 in
+    let f = rw (a, n.1.beside) at c.in-Ok-put.ensures.ok in
     let bad = rw c.is_bad-is_bad.ensures at c.with_mark-bad.ensures in
-    let refused = rw c.in-Ok-answer_line.ensures.refused at c.with_mark-refused.ensures in (
-      c.in-Ok-next.ensures.good,
-      omega (arith, takes_byte _ _ _ n.0 _ _ n.3, n.1.passed.count, i.1),
-      c.in-Ok-next.ensures.most,
-      progress _ _ _ _ _ _ _ _ _ _ _ _ _ (first-unused _ c.requires) (first-given _ c.requires) i.3 _ _ _ _ w n c.in-Ok-answer_line.ensures.state f c.in-Ok-write_all.ensures.ok.1 bad refused,
+    let refused = rw c.in-Ok-answer_line.ensures.refused at c.with_mark-refused.ensures in
+    let kept = c.put.ensures.kept in
+    let given = ap (λ l. l.input.bytes.given) kept in (
+      ap (λ l. l.fault) kept ∙ c.in-Ok-next.ensures.good,
+      omega (arith, takes_byte _ _ _ n.0 _ _ n.3, n.1.passed.count, i.1, given),
+      omega (arith, c.in-Ok-next.ensures.most, given),
+      so_far_written _ _ _ kept (progress _ _ _ _ c.next.new.self.input _ _ _ _ _ _ _ _ (first-unused _ c.requires) (first-given _ c.requires) i.3 _ _ _ _ w n c.in-Ok-answer_line.ensures.state f.0 f.1 bad refused),
+      ap (λ l. l.input.bytes.source.beside.writer) kept ∙ ap (λ x. x.writer) n.1.beside ∙ i.4,
     )
 
 pub lines-smaller : goal.lines-smaller
 lines-smaller g c =
     let n = rw c.in-Some.is at c.in-Ok-next.ensures.ok in
-    omega (arith, takes_byte _ _ _ n.0 _ _ n.3, n.1.passed.count, c.in-Ok-next.ensures.most)
+    omega (arith, takes_byte _ _ _ n.0 _ _ n.3, n.1.passed.count, c.in-Ok-next.ensures.most, ap (λ l. l.input.bytes.given) c.put.ensures.kept)
+
+pub returns-in-Err-put_some-clause-same : goal.returns-in-Err-put_some-clause-same
+returns-in-Err-put_some-clause-same g c = ap (λ l. l.input.bytes.source.identity) c.put_some.ensures.kept
 
 pub returns-in-Err-next-clause-same : goal.returns-in-Err-next-clause-same
 returns-in-Err-next-clause-same g c =
     let i = c.lines.invariant in
-    (c.in-Err-next.ensures.err i.0).1.passed.same ∙ i.3.took.passed.same
+    (c.in-Err-next.ensures.err i.0).1.passed.same ∙ i.3.passed.same
 
 pub returns-in-None-clause-same : goal.returns-in-None-clause-same
 returns-in-None-clause-same g c =
     let n = rw c.in-None.is at c.in-Ok-next.ensures.ok in
-    n.1.passed.same ∙ c.lines.invariant.3.took.passed.same
+    ap (λ l. l.input.bytes.source.identity) c.put_some-in-None.ensures.kept ∙ n.1.passed.same ∙ c.lines.invariant.3.passed.same
 
-pub returns-in-Err-write_some-2-clause-same : goal.returns-in-Err-write_some-2-clause-same
-returns-in-Err-write_some-2-clause-same g c =
+pub returns-in-Err-put_some-2-clause-same : goal.returns-in-Err-put_some-2-clause-same
+returns-in-Err-put_some-2-clause-same g c =
     let n = rw c.in-None.is at c.in-Ok-next.ensures.ok in
-    n.1.passed.same ∙ c.lines.invariant.3.took.passed.same
+    ap (λ l. l.input.bytes.source.identity) c.put_some-in-None.ensures.kept ∙ n.1.passed.same ∙ c.lines.invariant.3.passed.same
 
 pub returns-in-Err-answer_line-clause-same : goal.returns-in-Err-answer_line-clause-same
 returns-in-Err-answer_line-clause-same g c =
     let n = rw c.in-Some.is at c.in-Ok-next.ensures.ok in
-    n.1.passed.same ∙ c.lines.invariant.3.took.passed.same
+    n.1.passed.same ∙ c.lines.invariant.3.passed.same
 
-pub returns-in-Err-write_all-clause-same : goal.returns-in-Err-write_all-clause-same
-returns-in-Err-write_all-clause-same g c =
+pub returns-in-Err-put-clause-same : goal.returns-in-Err-put-clause-same
+returns-in-Err-put-clause-same g c =
     let n = rw c.in-Some.is at c.in-Ok-next.ensures.ok in
-    n.1.passed.same ∙ c.lines.invariant.3.took.passed.same
+    ap (λ l. l.input.bytes.source.identity) c.put.ensures.kept ∙ n.1.passed.same ∙ c.lines.invariant.3.passed.same
+
+pub returns-in-Err-put_some-clause-writer : goal.returns-in-Err-put_some-clause-writer
+returns-in-Err-put_some-clause-writer g c = ap (λ l. l.input.bytes.source.beside.writer) c.put_some.ensures.kept
+
+pub returns-in-Err-next-clause-writer : goal.returns-in-Err-next-clause-writer
+returns-in-Err-next-clause-writer g c =
+    let i = c.lines.invariant in
+    ap (λ x. x.writer) (c.in-Err-next.ensures.err i.0).1.beside ∙ i.4
+
+pub returns-in-None-clause-writer : goal.returns-in-None-clause-writer
+returns-in-None-clause-writer g c =
+    let n = rw c.in-None.is at c.in-Ok-next.ensures.ok in
+    ap (λ l. l.input.bytes.source.beside.writer) c.put_some-in-None.ensures.kept ∙ ap (λ x. x.writer) n.1.beside ∙ c.lines.invariant.4
+
+pub returns-in-Err-put_some-2-clause-writer : goal.returns-in-Err-put_some-2-clause-writer
+returns-in-Err-put_some-2-clause-writer g c =
+    let n = rw c.in-None.is at c.in-Ok-next.ensures.ok in
+    ap (λ l. l.input.bytes.source.beside.writer) c.put_some-in-None.ensures.kept ∙ ap (λ x. x.writer) n.1.beside ∙ c.lines.invariant.4
+
+pub returns-in-Err-answer_line-clause-writer : goal.returns-in-Err-answer_line-clause-writer
+returns-in-Err-answer_line-clause-writer g c =
+    let n = rw c.in-Some.is at c.in-Ok-next.ensures.ok in
+    ap (λ x. x.writer) n.1.beside ∙ c.lines.invariant.4
+
+pub returns-in-Err-put-clause-writer : goal.returns-in-Err-put-clause-writer
+returns-in-Err-put-clause-writer g c =
+    let n = rw c.in-Some.is at c.in-Ok-next.ensures.ok in
+    ap (λ l. l.input.bytes.source.beside.writer) c.put.ensures.kept ∙ ap (λ x. x.writer) n.1.beside ∙ c.lines.invariant.4

@@ -8,7 +8,7 @@ returns-in_default-clause-err g c = nothing_read _ _ _ _ _
 pub returns-clause-ok : goal.returns-clause-ok
 returns-clause-ok g c =
     let l = rw c.of-lines.ensures at c.in-Ok-ended.ensures.ok in
-    let m = rw (← c.into_source-reader.ensures) at l in
-    let t = left_told (g.S.Source.told c.args.reader.now) (g.S.Source.told c.into_source-reader.result.now) _ _ m in
+    let m = rw (← c.into_source-streams.ensures) at l in
+    let t = left_told (g.X.Source.told c.args.streams.now) (g.X.Source.told c.into_source-streams.result.now) _ _ m in
     let n = rw c.new-bookmarks.ensures at t in
     search rules

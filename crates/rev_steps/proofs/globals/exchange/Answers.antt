@@ -1,7 +1,7 @@
 use Rattle.std.proofs.Common.{subst, sym}
 use Rattle.rev_model.specs.Move.{LeadsBack}
 use Rattle.rev_model.proofs.Undo.{leads_none}
-use Rattle.rev_changes.specs.Record.{PlainRecord}
+use Rattle.rev_inverse.specs.Record.{PlainRecord}
 use Rattle.rev_steps.proofs.globals.exchange.Goals as goal
 
 pub returns-clause-leads : goal.returns-clause-leads

@@ -1,4 +1,4 @@
-use Rattle.rev_changes.specs.Record.{plain_change}
+use Rattle.rev_inverse.specs.Record.{plain_change}
 use Rattle.rev_tree.proofs.Named.{grows_more, so_far_more}
 use Rattle.rev_tree.proofs.naming.mention_record.Goals as goal
 

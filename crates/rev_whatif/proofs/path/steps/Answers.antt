@@ -1,6 +1,6 @@
 use Rattle.std.proofs.Common.{◌∷◌, [], refl, sym, ◌∙◌, ap, subst, arith, length, map}
 use Rattle.std.proofs.lemmas.List.{map-append, length-map}
-use Rattle.rev_changes.proofs.Lists.{map-reverse}
+use Rattle.rev_inverse.proofs.Lists.{map-reverse}
 use Rattle.rev_requests.specs.Plain.{plain_step}
 use Rattle.rev_tree.specs.Machine.{lineage}
 use Rattle.rev_explain.proofs.Climbs.{above_root}

@@ -10,14 +10,14 @@ loop-step-init g c = record {
   counted = count_starts (λ step. plain_step step.now) c.args.store.now no_counts c.args.steps.now (record { hits = omega arith; misses = omega arith; stores = omega arith; evictions = omega arith });
 }
 
-pub count_step-requires-clause-room : goal.count_step-requires-clause-room
-count_step-requires-clause-room g c = has_room c.loop-step.counts c.loop-step.step-index (length c.args.steps.now) c.loop-step.invariant.counted.few (omega (arith, c.loop-step-test.true)) c.requires.few
+pub try_step-requires-clause-room : goal.try_step-requires-clause-room
+try_step-requires-clause-room g c = has_room c.loop-step.counts c.loop-step.step-index (length c.args.steps.now) c.loop-step.invariant.counted.few (omega (arith, c.loop-step-test.true)) c.requires.few
 
 pub loop-step-preserved : goal.loop-step-preserved
 loop-step-preserved g c = record {
-  sound = c.in_ok-count_step.ensures.sound;
-  counted = count_more (λ step. plain_step step.now) c.args.store.now no_counts c.args.steps.now c.loop-step.step-index c.step-item.result c.loop-step.store c.count_step.new.store c.loop-step.counts c.count_step.new.counts
-      c.loop-step.invariant.counted (omega (arith, c.loop-step-test.true)) c.step-item.is c.in_ok-count_step.ensures.state c.in_ok-count_step.ensures.counts c.in_ok-count_step.ensures.few;
+  sound = c.in_ok-try_step.ensures.sound;
+  counted = count_more (λ step. plain_step step.now) c.args.store.now no_counts c.args.steps.now c.loop-step.step-index c.step-item.result c.loop-step.store c.try_step.new.store c.loop-step.counts c.try_step.new.counts
+      c.loop-step.invariant.counted (omega (arith, c.loop-step-test.true)) c.step-item.is c.in_ok-try_step.ensures.state c.in_ok-try_step.ensures.counts c.in_ok-try_step.ensures.few;
 }
 
 pub returns : goal.returns

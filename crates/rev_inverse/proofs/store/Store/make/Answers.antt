@@ -1,6 +1,6 @@
 use Rattle.rev_model.proofs.Undo.{turned_well}
-use Rattle.rev_changes.specs.Seen.{plain_moves}
-use Rattle.rev_changes.proofs.Turning.{leads_played}
+use Rattle.rev_inverse.specs.Seen.{plain_moves}
+use Rattle.rev_inverse.proofs.TurningRecord.{leads_played}
 use Rattle.rev_inverse.proofs.store.Store.make.Goals as goal
 
 pub returns-clause-well : goal.returns-clause-well

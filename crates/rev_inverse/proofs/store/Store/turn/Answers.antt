@@ -1,7 +1,7 @@
 use Rattle.std.proofs.Common.{ap, sym, subst, ◌∙◌, ◌≡◌, arith, length}
 use Rattle.rev_model.specs.Move.{Fits}
-use Rattle.rev_changes.specs.Record.{plain_change, moves_in}
-use Rattle.rev_changes.proofs.Turning.{next, ended}
+use Rattle.rev_inverse.specs.Record.{plain_change, moves_in}
+use Rattle.rev_inverse.proofs.TurningRecord.{next, ended}
 use Rattle.rev_inverse.proofs.store.Store.turn.Goals as goal
 
 pub turn_change-requires-clause-well : goal.turn_change-requires-clause-well

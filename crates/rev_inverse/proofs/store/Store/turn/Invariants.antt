@@ -1,5 +1,5 @@
 use Rattle.std.proofs.Common.{◌≡◌, ◌+◌, length}
-use Rattle.rev_changes.proofs.Turning.{IsTurnedFrom}
+use Rattle.rev_inverse.proofs.TurningRecord.{IsTurnedFrom}
 use Rattle.rev_inverse.proofs.store.Store.turn.Given as goal
 
 abbrev pub invariant-loop-place : goal.invariant-loop-place

@@ -1,9 +1,9 @@
 use Rattle.std.proofs.Common.{◌≡◌, ◌-◌, ◌<◌, Bool, List, length, map, slice_index_or, arith, ap, subst, sym, ◌∙◌, refl}
 use Rattle.std.proofs.lemmas.List.{length-map, length-set}
-use Rattle.rev_changes.specs.declared.changes.Change.{Change}
-use Rattle.rev_changes.proofs.Lists.{length-in_order, turned-over, shown, written}
-use Rattle.rev_changes.specs.Record.{plain_change, in_order, place_in, moves_in, notes_in}
-use Rattle.rev_changes.proofs.Turning.{IsTurnedFrom, next, ended, turned_none}
+use Rattle.rev_inverse.specs.declared.changes.Change.{Change}
+use Rattle.rev_inverse.proofs.Lists.{length-in_order, turned-over, shown, written}
+use Rattle.rev_inverse.specs.Record.{plain_change, in_order, place_in, moves_in, notes_in}
+use Rattle.rev_inverse.proofs.TurningRecord.{IsTurnedFrom, next, ended, turned_none}
 use Rattle.rev_inverse.proofs.store.Store.turn_changes.Goals as goal
 
 long : {A : Type 0} (b : Bool) (ms : List (Change A)) → length (in_order b (map plain_change ms)) ≡ length ms

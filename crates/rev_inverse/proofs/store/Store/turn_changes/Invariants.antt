@@ -1,6 +1,6 @@
 use Rattle.std.proofs.Common.{◌≡◌, length, map}
-use Rattle.rev_changes.specs.Record.{plain_change, in_order}
-use Rattle.rev_changes.proofs.Turning.{IsTurnedFrom}
+use Rattle.rev_inverse.specs.Record.{plain_change, in_order}
+use Rattle.rev_inverse.proofs.TurningRecord.{IsTurnedFrom}
 use Rattle.rev_inverse.proofs.store.Store.turn_changes.Given as goal
 
 abbrev pub invariant-loop-place : goal.invariant-loop-place

@@ -17,4 +17,5 @@ returns-clause-taken g c =
         same = refl;
       };
       steady = refl;
+      beside = refl;
     })

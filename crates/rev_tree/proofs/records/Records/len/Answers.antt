@@ -1,5 +1,5 @@
 use Rattle.std.proofs.Common.{rules, ◌≡◌, ◌<◌, length, map, sym, ◌∙◌, subst}
-use Rattle.rev_changes.specs.Record.{plain_change}
+use Rattle.rev_inverse.specs.Record.{plain_change}
 use Rattle.rev_tree.proofs.Cuts.{length-cut}
 use Rattle.rev_tree.proofs.records.Records.len.Goals as goal
 

@@ -1,6 +1,6 @@
 use Rattle.std.proofs.Common.{rules, ◌≡◌, ◌+◌, ◌++◌, ◌∷◌, [], false, length, map, ap, refl, subst, arith}
 use Rattle.std.proofs.lemmas.List.{length-map, length-append}
-use Rattle.rev_changes.specs.Record.{plain_change}
+use Rattle.rev_inverse.specs.Record.{plain_change}
 use Rattle.rev_tree.specs.declared.records.Extent.{Extent}
 use Rattle.rev_tree.specs.Cuts.{Tiles}
 use Rattle.rev_tree.proofs.Cuts.{tiles_more, pushed}

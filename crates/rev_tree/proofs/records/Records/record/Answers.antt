@@ -1,6 +1,6 @@
 use Rattle.std.proofs.Common.{rules, ◌<◌, length, map, take, drop, get_or, ap, sym, subst, ◌∙◌, arith}
 use Rattle.std.proofs.lemmas.List.{length-map}
-use Rattle.rev_changes.specs.Record.{plain_change, in_order, whole, no_record}
+use Rattle.rev_inverse.specs.Record.{plain_change, in_order, whole, no_record}
 use Rattle.rev_tree.specs.declared.records.Extent.{Extent}
 use Rattle.rev_tree.proofs.Cuts.{length-cut, found, part_of}
 use Rattle.rev_tree.proofs.records.Records.record.Goals as goal

@@ -1,6 +1,6 @@
 use Rattle.std.proofs.Common.{rules, ◌≡◌, ◌+◌, ◌<◌, ◌≤◌, length, map, take, get_or, sym, subst, arith}
 use Rattle.std.proofs.lemmas.List.{length-map, length-take, take-map, take_all}
-use Rattle.rev_changes.specs.Record.{plain_change}
+use Rattle.rev_inverse.specs.Record.{plain_change}
 use Rattle.rev_tree.specs.declared.records.Extent.{Extent}
 use Rattle.rev_tree.specs.Cuts.{cut_by, Tiles}
 use Rattle.rev_tree.proofs.Cuts.{length-cut, tiles_top, tiles_take, cut_take, found}

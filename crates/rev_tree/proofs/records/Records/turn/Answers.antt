@@ -1,8 +1,8 @@
 use Rattle.std.proofs.Common.{rules, ◌≡◌, ◌<◌, ◌≤◌, ◌+◌, length, map, set, get_or, reverse, ap, sym, subst, ◌∙◌, arith}
 use Rattle.std.proofs.lemmas.List.{length-map, with_items_is}
 use Rattle.rev_model.specs.Move.{Fits, turned}
-use Rattle.rev_changes.specs.Record.{PlainRecord, plain_change, in_order, moves_in, notes_in, no_record}
-use Rattle.rev_changes.proofs.Turning.{length-turned}
+use Rattle.rev_inverse.specs.Record.{PlainRecord, plain_change, in_order, moves_in, notes_in, no_record}
+use Rattle.rev_inverse.proofs.TurningRecord.{length-turned}
 use Rattle.rev_tree.specs.declared.records.Extent.{Extent}
 use Rattle.rev_tree.specs.Cuts.{cut_by}
 use Rattle.rev_tree.proofs.Cuts.{length-cut, found, there, long_part, turns}

@@ -1,5 +1,5 @@
 use Rattle.std.proofs.Common.{ap, sym, ◌∙◌}
-use Rattle.rev_changes.specs.Record.{flat}
+use Rattle.rev_inverse.specs.Record.{flat}
 use Rattle.rev_tree.proofs.Runs.{in_records, undo_seen}
 use Rattle.rev_tree.proofs.run.Run.record.Goals as goal
 

@@ -1,5 +1,5 @@
 use Rattle.std.proofs.Common.{get_or, ap, sym, ◌∙◌}
-use Rattle.rev_changes.specs.Record.{no_record}
+use Rattle.rev_inverse.specs.Record.{no_record}
 use Rattle.rev_tree.specs.Steps.{turned}
 use Rattle.rev_tree.proofs.Turns.{fits_well, fits_flat, turned_state}
 use Rattle.rev_tree.proofs.Runs.{in_records, undo_seen, turned_run}

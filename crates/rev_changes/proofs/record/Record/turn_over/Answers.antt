@@ -1,7 +1,0 @@
-use Rattle.std.proofs.Common.{map}
-use Rattle.rev_changes.proofs.Lists.{turned-over}
-use Rattle.rev_changes.specs.Record.{plain_change}
-use Rattle.rev_changes.proofs.record.Record.turn_over.Goals as goal
-
-pub returns-clause-changes : goal.returns-clause-changes
-returns-clause-changes g c = rw (← c.self.view_is) (turned-over c.self.inside.is_turned (map plain_change c.self.inside.moves.items))

@@ -1,6 +1,0 @@
-pub mod Record
-pub mod Seen
-pub mod Leads
-pub mod Telling
-pub mod Lending
-mod Shelves

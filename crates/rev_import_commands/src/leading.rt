@@ -1,0 +1,115 @@
+//! What a command needs whose replay a server's logs lead: the server's settings, as far as the rules cover them, and why
+//! nothing more is played of the logs.
+ghost use Rattle.std.specs.Prelude.{IfOk};
+ghost use Rattle.rev_classes.specs.Limits.{IsWithinLimits};
+
+use crate::import::{copied, settings_of, setup_by};
+use crate::state::bad_file;
+use rev_choices::Factor;
+use rev_import::setup::Setup;
+use rev_intake::report::put_unfollowed;
+use rev_messages::Stop;
+use rev_replay::fault::ReplayFault;
+use rev_watch::obstacles::{Obstacle, obstacles};
+use rev_watch::settings::Settings;
+use std::alloc::{AllocError, Global};
+use std::rt::Files;
+
+// A line for each obstacle, which begins with this text.
+fn lines_of(
+    alloc: Global,
+    front: &str,
+    obstacles: &[Option<Obstacle>],
+) -> Result<String, AllocError> {
+    let mut lines = String::new(alloc);
+    for obstacle in obstacles {
+        if let Some(obstacle) = obstacle {
+            lines.push_str(front)?;
+            lines.push_str(format!(in alloc; "{obstacle}\n")?.as_str())?;
+        }
+    }
+    Ok(lines)
+}
+
+// Why logs of a server with these obstacles are not read, where the file of this name tells of them.
+fn refusal(alloc: Global, name: &str, obstacles: &[Option<Obstacle>]) -> Result<Stop, AllocError> {
+    let front = format!(in alloc; "lrudb: {name}: ")?;
+    let mut lines = lines_of(alloc, front.as_str(), obstacles)?;
+    lines.push_str("lrudb: with --anyway the logs are read all the same\n")?;
+    Ok(Stop::BadImport(lines))
+}
+
+// Sees whether the rules cover these settings, of a file of this name. Where one is an obstacle, the logs are refused, or
+// it is noted where they are to be read anyway.
+fn see_obstacles(
+    alloc: Global,
+    name: &str,
+    settings: &Settings,
+    anyway: bool,
+    notes: &mut Vec<u8>,
+) -> Result<(), Stop> {
+    let met = obstacles(settings);
+    if anyway {
+        let lines = lines_of(alloc, "settings: ", &met)?;
+        notes.extend_from_slice(lines.as_bytes())?;
+        return Ok(());
+    }
+    if met.iter().all(|obstacle| obstacle.is_none()) {
+        return Ok(());
+    }
+    match refusal(alloc, name, &met) {
+        Ok(stop) => Err(stop),
+        Err(_) => Err(Stop::Memory),
+    }
+}
+
+/// What lrudb is opened with in the place of the server whose settings the file of this name has, where its logs are to
+/// lead. Behind `notes` goes what the rules do not cover of these settings.
+///
+/// Err: memory was refused; the file can't be read, or is no text of settings; or the server has a setting under which
+/// other keys leave than the rules say, unless the logs are to be read `anyway`.
+pub fn leading_setup<R: Files + AllocGlobal>(
+    rt: &R,
+    name: &str,
+    factor: Option<Factor>,
+    anyway: bool,
+    notes: &mut Vec<u8>,
+) -> Result<Setup, Stop>
+    ensures { IfOk result (λ setup. IsWithinLimits setup.config) }
+{
+    let settings = settings_of(rt, name)?;
+    see_obstacles(rt.alloc(), name, &settings, anyway, notes)?;
+    let setup = setup_by(&settings, factor)?;
+    put_unfollowed(notes, &setup.unfollowed)?;
+    Ok(setup)
+}
+
+// Why there is nothing to tell of a life of the server that was not there.
+fn no_life(alloc: Global, log: &str, lives: u64) -> Stop {
+    match format!(in alloc; "no such life of the server: the logs have {lives}") {
+        Ok(what) => bad_file(alloc, log, what.as_str()),
+        Err(_) => Stop::Memory,
+    }
+}
+
+/// Why nothing more is played of logs, at a log of this name.
+pub fn stop_of_replay(alloc: Global, fault: ReplayFault, log: &str) -> Stop {
+    let named = match copied(alloc, log) {
+        Ok(named) => named,
+        Err(stop) => return stop,
+    };
+    match fault {
+        ReplayFault::Memory => Stop::Memory,
+        ReplayFault::Read => Stop::CannotOpen(named),
+        ReplayFault::Line { line, fault } => Stop::BadLine {
+            log: named,
+            line,
+            fault,
+        },
+        ReplayFault::TooLong => Stop::TooLong,
+        ReplayFault::Write => Stop::CannotWrite,
+        ReplayFault::NoEvent => Stop::NoEvent(named),
+        ReplayFault::NoLife { lives } => no_life(alloc, log, lives),
+        ReplayFault::TooManySteps => bad_file(alloc, log, "too many steps for an event"),
+    }
+}

@@ -1,0 +1,4 @@
+pub mod Faults
+pub mod Notes
+pub mod Replayed
+pub mod Turns

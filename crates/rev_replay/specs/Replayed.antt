@@ -1,0 +1,35 @@
+-- What a contract sees of a replay.
+-- Rule of this project: its stage and what is kept of it, what was counted, and how far it came.
+use Rattle.std.specs.Prelude.{ℕ, ◌+◌, nat_lt, if◌then◌else◌, Option}
+use Rattle.rev_lead.specs.declared.tally.Tally.{Tally}
+use Rattle.rev_replay.specs.declared.counts.LineCounts.{LineCounts}
+use Rattle.rev_replay.specs.declared.keeping.Place.{Place}
+use Rattle.rev_replay.specs.declared.run.Replay.{Replay}
+use Rattle.rev_replay.specs.Turns.{ReplayState}
+
+-- its stage
+abbrev pub state_of : {A : Type 0} → Replay A → ReplayState
+state_of r = record { keeping = r.keeping; config = r.setup.now.config; stage = r.stage }
+
+-- what became of the lines
+abbrev pub counts_of : {A : Type 0} → Replay A → LineCounts
+counts_of r = r.counts
+
+-- the lines that came too late, and those with the number of another
+abbrev pub late_of : {A : Type 0} → Replay A → ℕ
+late_of r = r.order.late
+
+abbrev pub repeated_of : {A : Type 0} → Replay A → ℕ
+repeated_of r = r.order.repeated
+
+-- what its driver counted
+abbrev pub tally_of : {A : Type 0} → Replay A → Tally
+tally_of r = r.driver
+
+-- where there was no room for what follows
+abbrev pub full_of : {A : Type 0} → Replay A → Option Place
+full_of r = r.full
+
+-- the number of the server's life that the lines are of
+abbrev pub life_of : {A : Type 0} → Replay A → ℕ
+life_of r = if nat_lt r.counts.restarts 18446744073709551615 then r.counts.restarts + 1 else 18446744073709551615
