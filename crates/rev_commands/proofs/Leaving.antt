@@ -1,25 +1,21 @@
--- What a lookup found leaves, is evicted, is hit, or stays.
+-- What a lookup found leaves, is hit, or stays.
 use Rattle.std.specs.Prelude.{ℕ, ℤ, ◌≡◌, List, [], ◌++◌, Option, None, Some, length}
 use Rattle.std.proofs.Common.{sym, ◌∙◌, ap}
 use Rattle.rev_items.specs.Plain.{PlainItem}
 use Rattle.rev_items.specs.Rules.{moment}
 use Rattle.rev_model.specs.State.{State, item_at, owner_of}
-use Rattle.rev_model.specs.Words.{counted, dropped, queue_with}
-use Rattle.rev_model.specs.Client.{lookup, removed, hit, get, get_found, touch, touch_found, until, delete, delete_found, evict, evict_found}
+use Rattle.rev_model.specs.Words.{dropped, queue_with}
+use Rattle.rev_model.specs.Client.{lookup, removed, hit, get, get_found, touch, touch_found, until, delete, delete_found}
 use Rattle.rev_model.specs.Causes.{look_removals, found_removals, clear_removals}
 use Rattle.rev_model.specs.Track.{removal}
 use Rattle.rev_model.specs.declared.Cause.{Cause}
 use Rattle.rev_model.specs.declared.ChunkRef.{ChunkRef}
-use Rattle.rev_model.specs.declared.Counter.TheVariants as counter
 use Rattle.rev_model.specs.declared.Outcome.{Outcome}
-use Rattle.rev_model.specs.declared.Outcome.TheVariants.{Deleted, Evicted, Hit, Touched}
+use Rattle.rev_model.specs.declared.Outcome.TheVariants.{Deleted, Hit, Touched}
 use Rattle.rev_commands.proofs.Looking.{Live, found_is}
 
 abbrev pub dropped_at : State → ChunkRef → PlainItem → State
 dropped_at s x i = dropped (owner_of s x.page) (queue_with s (owner_of s x.page) x) x i s
-
-abbrev pub evicted_at : State → ChunkRef → PlainItem → State
-evicted_at s x i = counted (owner_of s x.page) counter.Evicted (removed (Some (x, i)) s)
 
 -- ---- what is done to the chunk that a lookup found
 
@@ -39,10 +35,6 @@ module _ (s t u : State) (k : List ℕ) (x : ChunkRef) (l : Live s k x) (e : t �
 
   pub deleted_by : ((i : PlainItem) → item_at t x ≡ Some i → u ≡ dropped_at t x i) → (u, Deleted) ≡ delete s k
   deleted_by h = ap (λ v. (v, Deleted)) (gone h) ∙ sym (ap delete_found (found_is s k x l))
-
-  -- it was evicted
-  pub evicted_by : ((i : PlainItem) → item_at t x ≡ Some i → u ≡ evicted_at t x i) → (u, Evicted) ≡ evict s k
-  evicted_by h = ap (λ v. (v, Evicted)) (h l.item there ∙ ap (λ v. evicted_at v x l.item) same) ∙ sym (ap evict_found (found_is s k x l))
 
   -- it was hit
   pub got_by : (r : Outcome) → ((i : PlainItem) → item_at t x ≡ Some i → u ≡ hit t x i) → ((i : PlainItem) → item_at t x ≡ Some i → r ≡ Hit (length i.value) i.cas) → (u, r) ≡ get s k

@@ -8,7 +8,7 @@ use Rattle.rev_model.specs.State.{State, item_at, find}
 use Rattle.rev_model.specs.declared.ChunkRef.{ChunkRef}
 use Rattle.rev_model.specs.Words.{is_dead}
 use Rattle.rev_model.specs.Client.{lookup, looked_at, looked_item, removed}
-use Rattle.rev_commands.specs.Looking.{dead_need, looked_need, look_need, found_need, removal_need, evicted_need, eviction_need}
+use Rattle.rev_commands.specs.Looking.{dead_need, looked_need, look_need, found_need, removal_need, evicted_need}
 
 dead_most : (s : State) (o : Option PlainItem) → dead_need s.globals o ≤ 4
 dead_most s None = omega arith
@@ -28,14 +28,6 @@ removal_most (Some x) = omega arith
 pub eviction_most : (o : Option ChunkRef) → evicted_need o ≤ 5
 eviction_most None = omega arith
 eviction_most (Some x) = omega arith
-
-evicted_more : (o : Option ChunkRef) → found_need o ≤ evicted_need o
-evicted_more None = omega arith
-evicted_more (Some x) = omega arith
-
--- an eviction takes no fewer moves than the lookup
-pub look_evicts : (s : State) (k : List ℕ) → look_need s k ≤ eviction_need s k
-look_evicts s k = omega (arith, look_most s k, evicted_more (find s k))
 
 abbrev pub chunk_of : Option (ChunkRef × PlainItem) → Option ChunkRef
 chunk_of o = option_map (λ f. f.0) o
@@ -76,9 +68,6 @@ found_look s k x l = rw (l.leads, l.there, l.alive) refl
 
 pub found_removal : (s : State) (k : List ℕ) (x : ChunkRef) → Live s k x → removal_need s k ≡ 4
 found_removal s k x l = rw l.leads refl
-
-pub found_eviction : (s : State) (k : List ℕ) (x : ChunkRef) → Live s k x → eviction_need s k ≡ 5
-found_eviction s k x l = rw l.leads refl
 
 pub found_none : (o : Option (ChunkRef × PlainItem)) (s : State) → chunk_of o ≡ None → removed o s ≡ s
 found_none None s e = refl

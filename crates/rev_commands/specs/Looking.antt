@@ -30,11 +30,7 @@ found_need (Some x) = 4
 abbrev pub removal_need : State → List ℕ → ℕ
 removal_need s k = found_need (find s k)
 
--- five moves where the key has an item that is evicted: it leaves, and is counted
+-- five moves where the key leads to an item: it leaves, and is counted
 abbrev pub evicted_need : Option ChunkRef → ℕ
 evicted_need None = 0
 evicted_need (Some x) = 5
-
--- of a lookup and of what is evicted by it
-abbrev pub eviction_need : State → List ℕ → ℕ
-eviction_need s k = evicted_need (find s k)

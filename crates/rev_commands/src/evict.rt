@@ -3,7 +3,8 @@ ghost use Rattle.std.specs.Prelude.{◌≡◌, ◌+◌, ◌≤◌, length, Some,
 ghost use Rattle.rev_items.specs.Plain.{PlainItem};
 ghost use Rattle.rev_model.specs.State.{item_at, find, owner_of};
 ghost use Rattle.rev_model.specs.Words.{counted};
-ghost use Rattle.rev_model.specs.Client.{removed, evict as evict_of};
+ghost use Rattle.rev_model.specs.Client.{removed, item_led_to, evict_found as evict_led, evict as evict_of};
+ghost use Rattle.rev_model.specs.declared.ChunkRef.{ChunkRef as ChunkRefOf};
 ghost use Rattle.rev_model.specs.Sound.{Sound};
 ghost use Rattle.rev_model.specs.Move.{LeadsBack};
 ghost use Rattle.rev_model.specs.Track.{removal};
@@ -11,10 +12,9 @@ ghost use Rattle.rev_inverse.specs.Leads.{Leads};
 ghost use Rattle.rev_model.specs.declared.Cause.TheVariants as causes;
 ghost use Rattle.rev_model.specs.declared.Counter.TheVariants as counters;
 ghost use Rattle.rev_inverse.specs.Telling.{Tells, TellsAll};
-ghost use Rattle.rev_model.specs.Causes.{clear_removals};
-ghost use Rattle.rev_commands.specs.Looking.{evicted_need, eviction_need};
+ghost use Rattle.rev_model.specs.Causes.{found_removals};
+ghost use Rattle.rev_commands.specs.Looking.{evicted_need};
 
-use crate::look::lookup_at;
 use rev_edits::leave::discard;
 use rev_inverse::{Record, Store};
 use rev_items::Key;
@@ -24,7 +24,7 @@ use std::alloc::{AllocError, Allocator};
 /// How many moves it takes that an item is evicted: it leaves, and is counted.
 const EVICTION_MOVES: usize = 5;
 
-/// How many moves it takes that the item is evicted which a key leads to: five, or none where there is no item.
+/// How many moves it takes to evict the item of the chunk that a key leads to: five, or none where there is none.
 fn eviction_moves_at(found: Option<ChunkRef>) -> usize
     ensures { result ≡ evicted_need found }
 {
@@ -59,24 +59,23 @@ fn evict_item<A: Allocator>(store: &mut Store<A>, chunk: ChunkRef, undo: &mut Re
     );
 }
 
-/// The key's item is evicted: five moves, four for a dead one, which is only removed, or none.
+/// The item of the chunk that a key leads to is evicted: five moves, or none.
 fn evict_found<A: Allocator>(
     store: &mut Store<A>,
-    key: &Key<A>,
     found: Option<ChunkRef>,
     undo: &mut Record<A>,
 ) -> Outcome
     requires sound { Sound store.old }
-    requires led { found ≡ find store.old key.now }
-    requires room { length undo.old.moves + eviction_need store.old key.now ≤ undo.old.room }
-    ensures done { (store.new, result) ≡ evict_of store.old key.now }
+    requires item { (x : ChunkRefOf) → found ≡ Some x → (i : PlainItem) × (item_at store.old x ≡ Some i) }
+    requires room { length undo.old.moves + evicted_need found ≤ undo.old.room }
+    ensures done { (store.new, result) ≡ evict_led (store.old, item_led_to store.old found) }
     ensures sound { Sound store.new }
     ensures leads { Leads undo.old store.old undo.new store.new }
     ensures room { undo.new.room ≡ undo.old.room }
-    ensures made { length undo.new.moves ≤ length undo.old.moves + eviction_need store.old key.now }
-    ensures told { Tells undo.old store.old undo.new store.new (clear_removals (Some causes.Evicted) store.old key.now) }
+    ensures made { length undo.new.moves ≡ length undo.old.moves + evicted_need found }
+    ensures told { Tells undo.old store.old undo.new store.new (found_removals (Some causes.Evicted) (item_led_to store.old found)) }
 {
-    match lookup_at(store, key, found, undo) {
+    match found {
         None => Outcome::NotFound,
         Some(chunk) => {
             evict_item(store, chunk, undo);
@@ -85,8 +84,8 @@ fn evict_found<A: Allocator>(
     }
 }
 
-/// Evicts the key's item, if it is alive: it leaves as one that a pull of COLD evicts. It is counted as an eviction of
-/// its class, and its chunk is in front of the class's free list. A dead one is removed, and the answer is NotFound.
+/// Evicts the key's item, alive or dead: it leaves as one that a pull of COLD evicts. It is counted as an eviction of
+/// its class, and its chunk is in front of the class's free list. NotFound if the key leads to no item.
 ///
 /// Err: a growth was refused, and the store is as it was.
 pub fn evict<A: Allocator + Clone>(
@@ -99,10 +98,10 @@ pub fn evict<A: Allocator + Clone>(
     ensures leads { IfOk result (λ p. LeadsBack p.1.moves store.new store.old) }
     ensures few { IfOk result (λ p. length p.1.moves ≤ 64) }
     ensures err { OnErr result (store.new ≡ store.old) }
-    ensures told { IfOk result (λ p. TellsAll p.1 store.new (clear_removals (Some causes.Evicted) store.old key.now)) }
+    ensures told { IfOk result (λ p. TellsAll p.1 store.new (found_removals (Some causes.Evicted) (item_led_to store.old (find store.old key.now)))) }
 {
     let found = store.find(key);
     let mut undo = Record::with_room(store.alloc()?, eviction_moves_at(found))?;
-    let outcome = evict_found(store, key, found, &mut undo);
+    let outcome = evict_found(store, found, &mut undo);
     Ok((outcome, undo))
 }

@@ -12,7 +12,7 @@ use Rattle.rev_model.specs.Lists.{has, before, without}
 use Rattle.rev_model.specs.State.{State, item_at, find, owner_of, queue_of, free_of, per_page, last_class}
 use Rattle.rev_model.specs.Words.{is_dead, tail, over, idle, dropped, counted, headed, with_item, queue_with, unlinked}
 use Rattle.rev_model.specs.Pull.{evicts, takes_all, warmed, cooled, pull, pull_tail, pull_item, pull_live, page_of, fronted, carved, or_carved, given, squeezed, squeezed_by, taken_or, room_by, room, lowest_page}
-use Rattle.rev_model.specs.Client.{ClientStep, Stores, Joins, Gets, Touches, Deletes, Evicts, Flushes, Counts, Verb, Sets, Adds, Replaces, Cases, Side, Sum, Payload, Bytes, bytes_of, looked_item, looked_at, lookup, removed, hit, hit_again, class_for, joined, is_number, digits_from, summed, refusal, failed, settled_by, stored_room, stored_class, rewritten_old, rewritten_room, rewritten_class, rewritten, join_found, count_as, count_found, get_found, until, touch_found, delete_found, evict_found, flush_at, flush_moment, client}
+use Rattle.rev_model.specs.Client.{ClientStep, Stores, Joins, Gets, Touches, Deletes, Evicts, Flushes, Counts, Verb, Sets, Adds, Replaces, Cases, Side, Sum, Payload, Bytes, bytes_of, looked_item, looked_at, lookup, item_led_to, removed, hit, hit_again, class_for, joined, is_number, digits_from, summed, refusal, failed, settled_by, stored_room, stored_class, rewritten_old, rewritten_room, rewritten_class, rewritten, join_found, count_as, count_found, get_found, until, touch_found, delete_found, evict_found, flush_at, flush_moment, client}
 use Rattle.rev_model.specs.Actor.{Step, Client, Pull, Bump, CrawlStart, Crawl, Schedule, Advance, Clock, Tune, TempTtl, step, bump_item, bump_from, is_busy, passed, crawl_item, crawl_entry, owned_pages, scheduled, spare, rescued, cleared, next_slot, handed, advance_of, with_globals, at_clock, is_due}
 use Rattle.rev_model.specs.Move as moves
 use Rattle.rev_model.specs.Move.{Move, moved, turned, is_class, names, names_other, marked, falling, laid, lifted, bound, unbound}
@@ -222,7 +222,7 @@ client_keeps s (Joins side k p) = join_keeps side p (lookup s k).0 (lookup s k).
 client_keeps s (Gets k) = get_keeps (lookup s k).0 (lookup s k).1 ∙ look_keeps s k
 client_keeps s (Touches k e) = touch_keeps e (lookup s k).0 (lookup s k).1 ∙ look_keeps s k
 client_keeps s (Deletes k) = delete_keeps (lookup s k).0 (lookup s k).1 ∙ look_keeps s k
-client_keeps s (Evicts k) = evict_keeps (lookup s k).0 (lookup s k).1 ∙ look_keeps s k
+client_keeps s (Evicts k) = evict_keeps s (item_led_to s (find s k))
 client_keeps s (Flushes n) = flush_keeps s (flush_moment s.globals.clock n)
 client_keeps s (Counts side k n) = count_keeps side n (lookup s k).0 (lookup s k).1 ∙ look_keeps s k
 

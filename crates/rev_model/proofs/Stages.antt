@@ -43,7 +43,7 @@ pub record Found (s : State) (l : List ℕ) (x : ChunkRef) (i : PlainItem) : Typ
 one_item : (i j : PlainItem) → Some i ≡ Some j → i ≡ j
 one_item i j e = cc
 
-some_pair : (p q : ChunkRef × PlainItem) → Some p ≡ Some q → p ≡ q
+pub some_pair : (p q : ChunkRef × PlainItem) → Some p ≡ Some q → p ≡ q
 some_pair p q e = cc
 
 module _ (s : State) (l : List ℕ) (d : Indexed s) (x : ChunkRef) (i : PlainItem) where

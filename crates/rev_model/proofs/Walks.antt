@@ -6,6 +6,7 @@ use Rattle.std.proofs.lemmas.Bool.{false≢true}
 use Rattle.std.proofs.lemmas.List.{append-nil}
 use Rattle.std.specs.Fmt.{decimal}
 use Rattle.std.specs.FinMap as map
+use Rattle.std.specs.Option.{option_map}
 use Rattle.rev_items.specs.Plain.{PlainItem}
 use Rattle.rev_items.specs.Rules.{moment}
 use Rattle.rev_model.specs.Chunk.{same_chunk, same_entry}
@@ -15,16 +16,16 @@ use Rattle.rev_model.specs.State.{State, WellFormed, item_at, find, owner_of, qu
 use Rattle.rev_model.specs.Words.{is_dead, dropped, unlinked, counted, headed, queue_with, with_item}
 use Rattle.rev_model.specs.Sound.{Sound}
 use Rattle.rev_model.specs.Pull.{pull, room, lowest_page}
-use Rattle.rev_model.specs.Client.{ClientStep, Stores, Joins, Gets, Touches, Deletes, Evicts, Flushes, Counts, Verb, Sets, Adds, Replaces, Cases, Side, Sum, Payload, Bytes, bytes_of, lookup, removed, hit, hit_again, renewed, class_for, joined, is_number, digits_from, summed, refusal, failed, settled_by, stored_room, stored_class, rewritten_old, rewritten_room, rewritten_class, rewritten, join_found, count_as, count_found, get_found, until, touch_found, delete_found, evict_found, flush_at, flush_moment, client}
+use Rattle.rev_model.specs.Client.{ClientStep, Stores, Joins, Gets, Touches, Deletes, Evicts, Flushes, Counts, Verb, Sets, Adds, Replaces, Cases, Side, Sum, Payload, Bytes, bytes_of, lookup, item_led_to, removed, hit, hit_again, renewed, class_for, joined, is_number, digits_from, summed, refusal, failed, settled_by, stored_room, stored_class, rewritten_old, rewritten_room, rewritten_class, rewritten, join_found, count_as, count_found, get_found, until, touch_found, delete_found, evict_found, flush_at, flush_moment, client}
 use Rattle.rev_model.specs.Actor.{Step, Client, Pull, Bump, CrawlStart, Crawl, Schedule, Advance, Clock, Tune, TempTtl, step, bump_item, bump_from, is_busy, passed, crawl_item, crawl_entry, owned_pages, scheduled, spare, rescued, cleared, next_slot, handed, advance_of, with_globals, at_clock}
 use Rattle.rev_model.proofs.Undo.{tells_chunk}
 use Rattle.rev_model.specs.Track.{held, same_key, Removal, removal}
 use Rattle.rev_model.proofs.Track.{first_removal, key_removals, key_removals-first}
 use Rattle.rev_model.specs.Causes.{look_removals, found_removals, clear_removals, failed_removals, settled_removals, after_room, store_in_removals, stored_removals, after_rewrite, rewrite_in_removals, rewritten_removals, rewrite_removals, join_found_removals, count_found_removals, client_removals, pull_removals, pull_step_removals, crawl_item_removals, crawl_entry_removals, crawl_removals, rescue_removals, cleared_removals, advance_removals_of, advance_removals, step_removals, room_removals}
-use Rattle.rev_model.specs.Events.{Part, ByRoom, ByLookup, ByDelete, ByFailedSet, ByEvict, ByPull, ByCrawl, ByAdvance, Stage, then, clear_stages, lookup_stages, failed_stages, room_stages, store_in_stages, store_stages, rewrite_room_stages, rewrite_in_stages, rewrite_class_stages, rewrite_stages, join_found_stages, count_found_stages, client_stages, stages, cause_by, cause_of, alive, is_key, key_to_store, is_stored, stores}
+use Rattle.rev_model.specs.Events.{Part, ByRoom, ByLookup, ByDelete, ByFailedSet, ByEvict, ByPull, ByCrawl, ByAdvance, then, clear_stages, lookup_stages, failed_stages, room_stages, store_in_stages, store_stages, rewrite_room_stages, rewrite_in_stages, rewrite_class_stages, rewrite_stages, join_found_stages, count_found_stages, client_stages, stages, cause_by, cause_of, alive, is_key, key_to_store, is_stored, stores}
 use Rattle.rev_model.proofs.Fates.{Indexed, indexed_sound, fate-alive, Stays, stays, key_removed, key_inserted}
 use Rattle.rev_model.proofs.Leaving.{Goes, goes_stays, goes_drops, goes_carries, goes_cond, pull_goes, room_goes}
-use Rattle.rev_model.proofs.Stages.{look_goes, found_is, cleared_goes, Ends, Walked, Leaves, stays_so, leaves, walked_leaves}
+use Rattle.rev_model.proofs.Stages.{look_goes, found_is, some_pair, cleared_goes, Ends, Walked, Leaves, stays_so, leaves, walked_leaves}
 use Rattle.rev_model.proofs.Storing.{stored_held}
 use Rattle.rev_model.specs.declared.ChunkRef.{ChunkRef}
 use Rattle.rev_model.specs.declared.Cause.{Cause}
@@ -225,6 +226,18 @@ evict_index : (s : State) (o : Option (ChunkRef × PlainItem)) → (evict_found 
 evict_index s None = refl
 evict_index s (Some (x, i)) = refl
 
+-- where a key leads, the item stands
+led_there : (s : State) (o : Option ChunkRef) (x : ChunkRef) (i : PlainItem) → item_led_to s o ≡ Some (x, i) → item_at s x ≡ Some i
+led_there s None x i e = absurd (false≢true (ap is_some e))
+led_there s (Some y) x i e = go (item_at s y) refl e where
+  go : (o : Option PlainItem) → item_at s y ≡ o → option_map (λ j. (y, j)) o ≡ Some (x, i) → item_at s x ≡ Some i
+  go None f h = absurd (false≢true (ap is_some h))
+  go (Some j) f h = subst (λ (p : ChunkRef × PlainItem). item_at s p.0 ≡ Some p.1) (some_pair (y, j) (x, i) h) f
+
+evict_walk : (k : List ℕ) (s : State) → Indexed s → (o : Option (ChunkRef × PlainItem)) → ((x : ChunkRef) (i : PlainItem) → o ≡ Some (x, i) → item_at s x ≡ Some i)
+    → Walked k false s (then ByEvict (removed o s) []) (found_removals (Some Evicted) o) (evict_found (s, o))
+evict_walk k s d o there = one_part k false ByEvict s (removed o s) (found_removals (Some Evicted) o) (evict_found (s, o)) (cleared_goes (cause_by ByEvict) Evicted k s d (λ a. refl) o there) (evict_index s o)
+
 flush_index : (s : State) (m : ℕ) → (flush_at s m).index ≡ s.index
 flush_index s m = go (nat_le m s.globals.clock) where
   go : (b : Bool) → (cond b (record s { globals = record s.globals { flush_limit = s.globals.last_cas; flush = None } }) (record s { globals = record s.globals { flush = Some m } })).index ≡ s.index
@@ -239,7 +252,7 @@ client_walk k s d (Joins side l p) =
 client_walk k s d (Gets l) = look_walk k s d l (get_found (lookup s l)) (get_index (lookup s l).0 (lookup s l).1)
 client_walk k s d (Touches l e) = look_walk k s d l (touch_found e (lookup s l)) (touch_index e (lookup s l).0 (lookup s l).1)
 client_walk k s d (Deletes l) = clear_walk k false s d ByDelete Deleted (λ a. refl) l (delete_found (lookup s l)) (delete_index (lookup s l).0 (lookup s l).1)
-client_walk k s d (Evicts l) = clear_walk k false s d ByEvict Evicted (λ a. refl) l (evict_found (lookup s l)) (evict_index (lookup s l).0 (lookup s l).1)
+client_walk k s d (Evicts l) = evict_walk k s d (item_led_to s (find s l)) (led_there s (find s l))
 client_walk k s d (Flushes n) = ends_same k false s (client s (Flushes n)) (flush_index s (flush_moment s.globals.clock n))
 client_walk k s d (Counts side l n) =
     let look = look_goes k s d l in

@@ -9,7 +9,7 @@ use Rattle.rev_model.specs.Move.{is_class}
 use Rattle.rev_model.specs.State.{State, free_of, queue_of, item_at, find, per_page}
 use Rattle.rev_model.specs.Words.{is_dead, tail}
 use Rattle.rev_model.specs.Pull.{evicts, given, squeezed, room}
-use Rattle.rev_model.specs.Client.{ClientStep, Stores, Joins, Gets, Touches, Deletes, Evicts, Flushes, Counts, Verb, Sets, Adds, Replaces, Cases, Side, Sum, Payload, Bytes, lookup, refusal, class_for, joined, is_number, digits_from, summed}
+use Rattle.rev_model.specs.Client.{ClientStep, Stores, Joins, Gets, Touches, Deletes, Evicts, Flushes, Counts, Verb, Sets, Adds, Replaces, Cases, Side, Sum, Payload, Bytes, lookup, item_led_to, refusal, class_for, joined, is_number, digits_from, summed}
 use Rattle.rev_model.specs.Actor.{Step, Client, Pull, Bump, CrawlStart, Crawl, Schedule, Advance, Clock, Tune, TempTtl, spare}
 use Rattle.rev_model.specs.Track.{Removal, removal}
 use Rattle.rev_model.specs.declared.Cause.{Cause}
@@ -86,7 +86,7 @@ looked_removals s (Some x) = dead_removals s (item_at s x)
 abbrev pub look_removals : State → List ℕ → List Removal
 look_removals s k = looked_removals s (find s k)
 
--- of what a lookup found, where it goes for this cause
+-- of an item that goes for this cause
 abbrev pub found_removals : Option Cause → Option (ChunkRef × PlainItem) → List Removal
 found_removals cause None = []
 found_removals cause (Some (x, i)) = removal (Some i) cause
@@ -172,7 +172,7 @@ client_removals s (Joins side k d) = join_removals s side k d
 client_removals s (Gets k) = look_removals s k
 client_removals s (Touches k e) = look_removals s k
 client_removals s (Deletes k) = clear_removals (Some Deleted) s k
-client_removals s (Evicts k) = clear_removals (Some Evicted) s k
+client_removals s (Evicts k) = found_removals (Some Evicted) (item_led_to s (find s k))
 client_removals s (Flushes d) = []
 client_removals s (Counts side k d) = count_removals s side k d
 

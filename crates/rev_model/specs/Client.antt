@@ -4,6 +4,7 @@
 -- Rule of this project: the order of look-up, room and link within a step, and what `~evict` does.
 use Rattle.std.specs.Prelude.{ℕ, ℤ, pos, negsuc, ◌+◌, ◌-◌, ◌*◌, ◌%◌, ◌^◌, Bool, true, cond, ◌&&◌, List, [], ◌∷◌, ◌++◌, Option, None, Some, length, nat_eq, nat_lt, nat_le}
 use Rattle.std.specs.List.{list_all}
+use Rattle.std.specs.Option.{option_map}
 use Rattle.std.specs.Fmt.{decimal}
 use Rattle.rev_items.specs.Plain.{PlainItem}
 use Rattle.rev_model.specs.State.{State, owner_of, item_at, find}
@@ -241,15 +242,20 @@ delete_found (s, Some f) = (removed (Some f) s, Deleted)
 abbrev pub delete : State → List ℕ → State × Outcome
 delete s k = delete_found (lookup s k)
 
--- the item that was found leaves as one that a pull of COLD evicts does: it is counted as an eviction of its class, and
--- its chunk comes to the front of the class's free list
+-- the item that a key leads to, alive or dead
+abbrev pub item_led_to : State → Option ChunkRef → Option (ChunkRef × PlainItem)
+item_led_to s None = None
+item_led_to s (Some x) = option_map (λ i. (x, i)) (item_at s x)
+
+-- the item leaves as one that a pull of COLD evicts does: it is counted as an eviction of its class, and its chunk comes
+-- to the front of the class's free list
 abbrev pub evict_found : State × Option (ChunkRef × PlainItem) → State × Outcome
 evict_found (s, None) = (s, NotFound)
 evict_found (s, Some (x, i)) = (counted (owner_of s x.page) counter.Evicted (removed (Some (x, i)) s), Evicted)
 
--- ~evict: a dead item is removed as by any look-up
+-- ~evict: nothing is asked of the item's lifetime, since a pull takes an item as alive in the second of its end
 abbrev pub evict : State → List ℕ → State × Outcome
-evict s k = evict_found (lookup s k)
+evict s k = evict_found (s, item_led_to s (find s k))
 
 -- the moment of a flush; 0 is at once
 abbrev pub flush_moment : ℕ → Option ℤ → ℕ

@@ -6,7 +6,7 @@ use Rattle.rev_items.specs.Plain.{PlainItem}
 use Rattle.rev_model.specs.State.{State, item_at, find, queue_number}
 use Rattle.rev_model.specs.Words.{is_dead}
 use Rattle.rev_model.specs.Pull.{room}
-use Rattle.rev_model.specs.Client.{ClientStep, Stores, Joins, Gets, Touches, Deletes, Evicts, Flushes, Counts, Verb, Sets, Adds, Replaces, Cases, Side, Sum, Payload, Bytes, lookup, removed, class_for, joined, is_number, digits_from, summed}
+use Rattle.rev_model.specs.Client.{ClientStep, Stores, Joins, Gets, Touches, Deletes, Evicts, Flushes, Counts, Verb, Sets, Adds, Replaces, Cases, Side, Sum, Payload, Bytes, lookup, item_led_to, removed, class_for, joined, is_number, digits_from, summed}
 use Rattle.rev_model.specs.Actor.{Step, Client, Pull, Bump, CrawlStart, Crawl, Schedule, Advance, Clock, Tune, TempTtl, step}
 use Rattle.rev_model.specs.Track.{held, same_key, key_place_of, class_queue_of}
 use Rattle.std.specs.Fmt.{decimal}
@@ -31,7 +31,7 @@ pub data Part : Type 0 where
   -- what the lookup found goes, in a delete, and in a set that stores nothing
   ByDelete : Part
   ByFailedSet : Part
-  -- what the lookup found goes, by a word of the log's
+  -- the key's item goes, alive or dead, by a word of the log's
   ByEvict : Part
   -- all that an actor's step does
   ByPull : Part
@@ -111,7 +111,7 @@ client_stages s (Joins side k d) = then ByLookup (lookup s k).0 (join_found_stag
 client_stages s (Gets k) = lookup_stages s k
 client_stages s (Touches k e) = lookup_stages s k
 client_stages s (Deletes k) = clear_stages ByDelete s k
-client_stages s (Evicts k) = clear_stages ByEvict s k
+client_stages s (Evicts k) = then ByEvict (removed (item_led_to s (find s k)) s) []
 client_stages s (Flushes d) = []
 client_stages s (Counts side k d) = then ByLookup (lookup s k).0 (count_found_stages side d (lookup s k))
 
