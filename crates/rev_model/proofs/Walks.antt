@@ -230,7 +230,7 @@ evict_index s (Some (x, i)) = refl
 led_there : (s : State) (o : Option ChunkRef) (x : ChunkRef) (i : PlainItem) → item_led_to s o ≡ Some (x, i) → item_at s x ≡ Some i
 led_there s None x i e = absurd (false≢true (ap is_some e))
 led_there s (Some y) x i e = go (item_at s y) refl e where
-  go : (o : Option PlainItem) → item_at s y ≡ o → option_map (λ j. (y, j)) o ≡ Some (x, i) → item_at s x ≡ Some i
+  go : (o : Option PlainItem) → item_at s y ≡ o → option_map {U = ChunkRef × PlainItem} (λ j. (y, j)) o ≡ Some (x, i) → item_at s x ≡ Some i
   go None f h = absurd (false≢true (ap is_some h))
   go (Some j) f h = subst (λ (p : ChunkRef × PlainItem). item_at s p.0 ≡ Some p.1) (some_pair (y, j) (x, i) h) f
 
