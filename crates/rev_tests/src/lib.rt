@@ -19,8 +19,6 @@ mod owned;
 #[cfg(test)]
 mod players;
 #[cfg(test)]
-mod programs;
-#[cfg(test)]
 mod recorder;
 #[cfg(test)]
 mod scripts;

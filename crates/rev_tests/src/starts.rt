@@ -6,14 +6,12 @@ use rev_output::ToWrite;
 use rev_plays::begin::open_session;
 use rev_plays::quiet::TraceFault;
 use rev_plays::start::play_start;
-use rev_program::program::program;
 use rev_script::dialect::Dialect;
 use rev_script::duplex::Apart;
 use rev_script::source::FromRead;
 use rev_shell::run::{Prompts, run_session};
 use rev_undotree::Session;
 use std::alloc::{Allocator, Global};
-use std::io;
 use std::process::Abort;
 
 // Lines that make steps, each with what it is answered.
@@ -219,86 +217,4 @@ fn heaps(rt: HostRuntime) {
         }
     }
     assert!(rt; 0 < refused && refused < 512, "{refused}");
-}
-
-const NOT_A_STEP: &str = "lrudb: /proc/version: line 1: not a step\n";
-
-const NO_FILE: &str = "lrudb: no such file: cannot read\n";
-
-// Words, the status, and what is told: the answers where that is 0, and else the fault.
-// A file without a byte, a folder, which can be opened and not read, and a file of lines that are no steps.
-static CASES: [(&[&str], u8, &str); 9] = [
-    (
-        &["run", "--start", "/dev/null", "--start=/dev/null"],
-        0,
-        "NODE 0\r\n",
-    ),
-    (
-        &["record", "--start", "/dev/null", "/dev/null"],
-        0,
-        "END\r\n",
-    ),
-    (
-        &["run", "--start", "/dev/null", "--start", "/proc/version"],
-        5,
-        NOT_A_STEP,
-    ),
-    (
-        &["record", "--start", "/proc/version", "/dev/null"],
-        5,
-        NOT_A_STEP,
-    ),
-    (
-        &["run", "--start", "/", "--start", "/proc/version"],
-        4,
-        "lrudb: /: cannot read\n",
-    ),
-    // All files are opened before one is read.
-    (
-        &["run", "--start", "/proc/version", "--start", "no such file"],
-        4,
-        NO_FILE,
-    ),
-    (
-        &["record", "--start", "/proc/version", "no such file"],
-        4,
-        NO_FILE,
-    ),
-    // The configuration is looked at before a file is opened.
-    (
-        &["run", "--page-size", "1001", "--start", "no such file"],
-        2,
-        "lrudb: bad configuration: page\n--page-size: Bytes of a slab page: 256 to 1048576, a multiple of 8\n",
-    ),
-    (
-        &["run", "--heap", "4096", "--start", "/dev/null"],
-        3,
-        "lrudb: out of memory\n",
-    ),
-];
-
-#[test]
-fn words(rt: HostRuntime) {
-    for (words, wanted, told) in &CASES {
-        let (answers, fault) = if *wanted == 0 {
-            (*told, "")
-        } else {
-            ("", *told)
-        };
-        let mut output: Vec<u8> = Vec::new(rt.alloc());
-        let mut errors: Vec<u8> = Vec::new(rt.alloc());
-        let status = program(
-            &rt,
-            *words,
-            b":at\r\n".as_slice(),
-            &mut output,
-            &mut ToWrite::new(&mut errors),
-            &mut io::sink(),
-        );
-        let told = std::str::from_utf8(errors.as_slice()).unwrap_or("");
-        assert!(rt;
-            status == *wanted && output.as_slice() == answers.as_bytes() && told == fault,
-            "{words:?}: {status} {told}"
-        );
-    }
 }

@@ -1,15 +1,12 @@
 //! From files to files, and no half file; and what is told meanwhile.
-use crate::classes::SMALL_PAGES;
 use crate::imports::disk::{Disk, Room};
 use crate::imports::{LOG, SETTINGS};
 use crate::streams::Stutter;
 use rev_choices::{Rhythm, Sample};
 use rev_import_commands::import::import_watch;
 use rev_messages::progress::Progress;
-use rev_options::{CsvOpening, Leader, Manner, WatchImport, WatchOpening};
+use rev_options::{Leader, WatchImport};
 use rev_output::ToWrite;
-use rev_program::direct::{open_csv, open_watch};
-use rev_script::dialect::Dialect;
 use std::alloc::Global;
 use std::cell::Cell;
 use std::io;
@@ -119,100 +116,6 @@ fn fail_in_turn(rt: &impl Abort, alloc: Global, split: Option<u32>, whole: usize
 fn each_call_fails(rt: HostRuntime) {
     fail_in_turn(&rt, rt.alloc(), None, 5);
     fail_in_turn(&rt, rt.alloc(), Some(102), 6);
-}
-
-const MANNER: Manner = Manner {
-    dialect: Dialect::CrLf,
-    has_prompt: false,
-    json: false,
-};
-
-const TABLE: &[u8] = b"5,k,1,1,1,set,0\n5,k,1,1,1,get,0\n";
-
-// A list of this name.
-fn named(rt: &impl Abort, alloc: Global, name: &str) -> Vec<String> {
-    let mut names = Vec::new(alloc);
-    names.push(text(rt, alloc, name)).expect(rt, "no memory");
-    names
-}
-
-// A session on the log, behind a start.
-fn on_log(rt: &impl Abort, alloc: Global) -> WatchOpening {
-    WatchOpening {
-        manner: MANNER,
-        starts: named(rt, alloc, "start"),
-        logs: named(rt, alloc, "log"),
-        settings: text(rt, alloc, "settings"),
-        factor: None,
-        leader: Leader::Rules(Rhythm::Lean),
-        life: None,
-    }
-}
-
-// The same on the table.
-fn on_table(rt: &impl Abort, alloc: Global) -> CsvOpening {
-    CsvOpening {
-        config: SMALL_PAGES,
-        manner: MANNER,
-        starts: named(rt, alloc, "start"),
-        traces: named(rt, alloc, "table"),
-        rhythm: Rhythm::None,
-        sample: Sample { one_of: 1 },
-    }
-}
-
-// The status of a session in a room, on the log or on the table, behind a start.
-fn opened(
-    rt: &impl Abort,
-    alloc: Global,
-    is_log: bool,
-    room: &Room,
-    output: &mut Vec<u8>,
-    errors: &mut Vec<u8>,
-) -> u8 {
-    let disk = Disk { room };
-    let script = Stutter::new(b":at\n");
-    let mut errors = ToWrite::new(errors);
-    let progress = Progress::<Seconds, ToWrite<Vec<u8>>>::hidden();
-    if is_log {
-        let asked = on_log(rt, alloc);
-        open_watch(&disk, asked, script, output, &mut errors, &progress)
-    } else {
-        let asked = on_table(rt, alloc);
-        open_csv(&disk, asked, script, output, &mut errors, &progress)
-    }
-}
-
-// A session behind each call on a file that fails in turn: it is told, and nothing is answered. Else this is answered.
-fn fail_open_in_turn(rt: &impl Abort, alloc: Global, is_log: bool, answer: &str) {
-    for turn in 1..20 {
-        let room = room(rt, alloc, turn);
-        room.put("start", b"set s 0 0 1\r\nx\r\n")
-            .expect(rt, "no memory");
-        room.put("table", TABLE).expect(rt, "no memory");
-        let mut output: Vec<u8> = Vec::new(alloc);
-        let mut errors: Vec<u8> = Vec::new(alloc);
-        let status = opened(rt, alloc, is_log, &room, &mut output, &mut errors);
-        let told = std::str::from_utf8(errors.as_slice()).unwrap_or("");
-        if room.waits() {
-            assert!(rt;
-                turn > 6 && status == 0 && output.as_slice() == answer.as_bytes(),
-                "{turn}: {status} {told}"
-            );
-            return;
-        }
-        assert!(rt;
-            status == 4 && output.is_empty() && told.ends_with(": cannot read\n"),
-            "{turn}: {status} {told}"
-        );
-    }
-    panic!(rt; "there was always one call more")
-}
-
-#[test]
-fn each_call_of_open_fails(rt: HostRuntime) {
-    fail_open_in_turn(&rt, rt.alloc(), true, "NODE 22\r\n");
-    fail_open_in_turn(&rt, rt.alloc(), false, "NODE 3\r\n");
 }
 
 // How far an import has come is told with each read of its log, and then it is taken off the terminal.
