@@ -6,6 +6,7 @@ ghost use Rattle.rev_lead.specs.Counts.{no_tally};
 ghost use Rattle.rev_lead.specs.declared.agreeing.Agreement.{Agreement as AgreementOf};
 
 mod evicting;
+mod flushing;
 mod looking;
 mod moving;
 mod storing;
@@ -14,6 +15,7 @@ mod wants;
 use crate::agreeing::Agreement;
 use crate::candidates::Candidates;
 use crate::fill::Fill;
+use crate::flushes::Flushes;
 use crate::others::Others;
 use crate::role::Role;
 use crate::stage::{LeadFault, Stage};
@@ -54,8 +56,7 @@ pub struct Driver<A: Allocator> {
     others: Others<A>,
     // of each class the second at which it lost a page last
     moved: [u32; 64],
-    // items stored up to this cas number are known to be flushed
-    flushed: u64,
+    flushes: Flushes,
     since_bump: u32,
     // when the event's line was made that is played
     time: Timestamp,
@@ -89,7 +90,7 @@ impl<A: Allocator + Copy> Driver<A> {
             candidates: Candidates::new(alloc)?,
             others: Others::new(alloc),
             moved: [0; 64],
-            flushed: 0,
+            flushes: Flushes::none(),
             since_bump: 0,
             time: Timestamp {
                 seconds: 0,
@@ -154,7 +155,7 @@ impl<A: Allocator + Copy> Driver<A> {
         self.candidates = Candidates::new(self.alloc)?;
         self.others = Others::new(self.alloc);
         self.moved = [0; 64];
-        self.flushed = 0;
+        self.flushes = Flushes::none();
         Ok(())
     }
 

@@ -9,6 +9,7 @@ mod agreeing;
 mod candidates;
 mod driver;
 mod fill;
+mod flushes;
 mod holding;
 mod others;
 mod role;

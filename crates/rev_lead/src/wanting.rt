@@ -2,6 +2,7 @@
 ghost use Rattle.rev_model.specs.Sound.{Sound};
 
 use crate::candidates::Candidates;
+use crate::flushes::Flushes;
 use crate::holding::{before_of, holding_of, tail_of};
 use crate::waiting::Waiting;
 use rev_inverse::Store;
@@ -164,6 +165,49 @@ impl<'a, A: Allocator + Copy> Wanted<'a, A> {
         match next_of(self.ahead.first_of(item.key())) {
             Next::Nothing | Next::NotFound if !self.is_spared(item.key()) => Some(item),
             _ => None,
+        }
+    }
+
+    /// The first key, from the tails of COLD, WARM, HOT and TEMP on, whose item is known to be flushed, and that no later
+    /// line finds, evicts or meets.
+    ///
+    /// Err: memory was refused.
+    pub fn flushed(&self, flushes: &Flushes, alloc: A) -> Result<Option<Key<A>>, AllocError>
+        requires { Sound self.now.store.now }
+    {
+        for queue in [Queue::Cold, Queue::Warm, Queue::Hot, Queue::Temp] {
+            if let Some(item) = self.flushed_in(queue, flushes) {
+                return Ok(Some(item.key().copy(alloc)?));
+            }
+        }
+        Ok(None)
+    }
+
+    fn flushed_in(&self, queue: Queue, flushes: &Flushes) -> Option<&'a Item<A>>
+        requires { Sound self.now.store.now }
+    {
+        let mut entry = Entry::Chunk(tail_of(self.store, self.class, queue)?);
+        for _ in 0..MOST_LOOKED_AT {
+            if let Entry::Chunk(chunk) = entry {
+                if let Some(item) = self.flushed_at(chunk, flushes) {
+                    return Some(item);
+                }
+            }
+            entry = before_of(self.store, self.class, queue, entry)?;
+        }
+        None
+    }
+
+    fn flushed_at(&self, chunk: ChunkRef, flushes: &Flushes) -> Option<&'a Item<A>> {
+        let header = self.store.header(chunk)?;
+        if !flushes.has(header.cas) || is_dead(self.store.globals(), header) {
+            return None;
+        }
+        let item = self.store.content(chunk)?;
+        match next_of(self.ahead.first_of(item.key())) {
+            Next::Found | Next::Expired | Next::Flushed | Next::Evicted => None,
+            _ if self.is_spared(item.key()) => None,
+            _ => Some(item),
         }
     }
 

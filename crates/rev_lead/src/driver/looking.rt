@@ -5,6 +5,7 @@ ghost use Rattle.rev_lead.specs.declared.agreeing.Agreement.{Agreement as Agreem
 ghost use Rattle.rev_lead.specs.Acts.{Led};
 
 use super::Driver;
+use super::flushing::ends_flushed;
 use crate::agreeing::{Agreement, Disagreement, agrees_if, is_found, is_held_alive};
 use crate::holding::{Holding, holding_of};
 use crate::role::Role;
@@ -17,9 +18,6 @@ use rev_log::foresight::{Coming, Foresight};
 use rev_model::Outcome;
 use rev_watch::event::{Event, LookUpOutcome};
 use std::alloc::Allocator;
-
-/// How many misses of a key are looked through for a flush.
-const MOST_MISSES: u32 = 64;
 
 impl<A: Allocator + Copy> Driver<A> {
     // A look-up.
@@ -124,9 +122,12 @@ impl<A: Allocator + Copy> Driver<A> {
         let second = ahead.seconds().second_of(next.line.time);
         let lives_on = end == 0 || end > u64::from(second);
         match next_of(Some(next)) {
-            Next::NotFound if lives_on && !ends_flushed(Some(next), ahead) => self.delete_or_get(
-                key, held, next, ahead, stage,
-            ),
+            Next::NotFound if lives_on && !self.is_flushed_before(held, next, ahead) =>
+                self.delete_or_get(key, held, next, ahead, stage),
+            Next::Flushed => {
+                self.expect_flush(held, next, stage);
+                self.get(key, stage)
+            }
             Next::Expired if lives_on => self.touch(key, exptime_at(u64::from(second)), stage),
             Next::Found if !lives_on => {
                 let exptime = lengthened(held, second, stage.store().globals().clock);
@@ -243,9 +244,9 @@ impl<A: Allocator + Copy> Driver<A> {
             return Ok(());
         }
         if outcome == LookUpOutcome::Flushed || ends_flushed(ahead.first_of(key), ahead) {
-            self.flushed = self.flushed.max(held.header.cas);
+            self.flushes.note(held.header.cas);
         }
-        if held.header.cas <= self.flushed {
+        if self.flushes.has(held.header.cas) {
             self.tally.adjust(Adjustment::Flushed);
             stage.play(touch(self.alloc, key, -1)?, Role::Flush)?;
             return Ok(());
@@ -261,22 +262,6 @@ fn moves_before<A: Allocator + Copy>(class: usize, next: &Coming<A>, ahead: &For
         Ok(class) => ahead.moves_before(class, next.number),
         Err(_) => false,
     }
-}
-
-// Whether the misses of a key, from this event on, end in one that says that it was flushed.
-fn ends_flushed<A: Allocator + Copy>(first: Option<&Coming<A>>, ahead: &Foresight<A>) -> bool {
-    let mut next = first;
-    for _ in 0..MOST_MISSES {
-        let Some(coming) = next else {
-            return false;
-        };
-        match next_of(next) {
-            Next::Flushed => return true,
-            Next::NotFound => next = ahead.behind(coming),
-            _ => return false,
-        }
-    }
-    false
 }
 
 // The expiry time of an item that is found when its lifetime is over: the lifetime once more, if that is enough, or

@@ -30,6 +30,9 @@ impl<A: Allocator + Copy> Driver<A> {
         if has_free(stage.store(), class) {
             return Ok(());
         }
+        if let Some(key) = self.flushed(class, own, ahead, stage)? {
+            return self.flush(&key, stage);
+        }
         if let Some((key, shown)) = self.deleted(class, own, ahead, stage)? {
             return self.let_go(&key, class, Adjustment::Wanted, shown, stage);
         }
@@ -99,7 +102,7 @@ impl<A: Allocator + Copy> Driver<A> {
         }
     }
 
-    // The key's item goes, as a later line of this time shows.
+    // The key's item goes: it was flushed, or a later line of this time shows it.
     #[tactic(auto, using(crate::proofs::Leading::led_more, crate::proofs::Leading::led_same))]
     pub(super) fn let_go(
         &mut self,
@@ -111,8 +114,11 @@ impl<A: Allocator + Copy> Driver<A> {
     ) -> Result<(), LeadFault>
         ensures led { Led stage.old stage.new }
     {
-        self.tally.adjust(adjustment);
         self.candidates.forget(class, key);
+        if self.is_flushed(key, stage) {
+            return self.flush(key, stage);
+        }
+        self.tally.adjust(adjustment);
         let moved = self.has_moved(key, stage);
         stage.play(delete(self.alloc, key)?, Role::Inferred { shown, moved })?;
         Ok(())

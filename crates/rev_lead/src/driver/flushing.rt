@@ -1,0 +1,89 @@
+//! Flushes: the log does not show them, but what they let go.
+ghost use Rattle.rev_lead.specs.Acts.{Led};
+
+use super::Driver;
+use crate::holding::{Holding, has_page_to_come, holding_of};
+use crate::role::Role;
+use crate::stage::{LeadFault, Stage};
+use crate::steps::{get, touch};
+use crate::tally::Adjustment;
+use crate::wanting::{Next, next_of};
+use rev_items::Key;
+use rev_log::foresight::{Coming, Foresight};
+use std::alloc::Allocator;
+
+/// How many misses of a key are looked through for a flush.
+const MOST_MISSES: u32 = 64;
+
+// Whether the misses of a key, from this event on, end in one that says that it was flushed.
+pub(super) fn ends_flushed<A: Allocator + Copy>(
+    first: Option<&Coming<A>>,
+    ahead: &Foresight<A>,
+) -> bool {
+    let mut next = first;
+    for _ in 0..MOST_MISSES {
+        let Some(coming) = next else {
+            return false;
+        };
+        match next_of(next) {
+            Next::Flushed => return true,
+            Next::NotFound => next = ahead.behind(coming),
+            _ => return false,
+        }
+    }
+    false
+}
+
+impl<A: Allocator + Copy> Driver<A> {
+    // Whether the item of a hit is flushed before the event that misses its key.
+    pub(super) fn is_flushed_before(
+        &self,
+        held: Holding,
+        next: &Coming<A>,
+        ahead: &Foresight<A>,
+    ) -> bool {
+        self.flushes.comes_before(held.header.cas, next.number) || ends_flushed(Some(next), ahead)
+    }
+
+    // The item is found, and the next event of its key says that it was flushed.
+    pub(super) fn expect_flush(&mut self, held: Holding, next: &Coming<A>, stage: &Stage<A>) {
+        let stored = stage.store().globals().last_cas;
+        self.flushes.expect(held.header.cas, stored, next.number);
+    }
+
+    // Whether the key's item is known to be flushed.
+    pub(super) fn is_flushed(&self, key: &Key<A>, stage: &Stage<A>) -> bool {
+        match holding_of(stage.store(), key) {
+            Some(held) => held.alive && self.flushes.has(held.header.cas),
+            None => false,
+        }
+    }
+
+    // The key's item was flushed, and its chunk was used: no line shows that.
+    #[tactic(auto, using(crate::proofs::Leading::led_more, crate::proofs::Leading::led_same))]
+    pub(super) fn flush(&mut self, key: &Key<A>, stage: &mut Stage<A>) -> Result<(), LeadFault>
+        ensures led { Led stage.old stage.new }
+    {
+        self.tally.adjust(Adjustment::Flushed);
+        stage.play(touch(self.alloc, key, -1)?, Role::Flush)?;
+        stage.play(get(self.alloc, key)?, Role::Flush)?;
+        Ok(())
+    }
+
+    // An item of the class that is known to be flushed, and that no later line finds, unless a page comes.
+    pub(super) fn flushed(
+        &self,
+        class: usize,
+        own: &Key<A>,
+        ahead: &Foresight<A>,
+        stage: &Stage<A>,
+    ) -> Result<Option<Key<A>>, LeadFault> {
+        if !self.flushes.is_any() || has_page_to_come(stage.store(), class) {
+            return Ok(None);
+        }
+        let found = self
+            .wanted(class, own, ahead, stage)
+            .flushed(&self.flushes, self.alloc)?;
+        Ok(found)
+    }
+}
