@@ -156,6 +156,7 @@ impl<A: Allocator + Copy> Driver<A> {
         self.others = Others::new(self.alloc);
         self.moved = [0; 64];
         self.flushes = Flushes::none();
+        self.since_bump = 0;
         Ok(())
     }
 

@@ -63,14 +63,18 @@ pub fn store<A: Allocator + Copy>(
     }))
 }
 
-/// The store of data that are too large for any page, so that nothing is stored.
-pub fn failed_set<A: Allocator + Copy>(alloc: A, key: &Key<A>) -> Result<Step<A>, AllocError> {
+/// The store of these data, which are too large for any page, so that nothing is stored.
+pub fn failed_set<A: Allocator + Copy>(
+    alloc: A,
+    key: &Key<A>,
+    data: Data<A>,
+) -> Result<Step<A>, AllocError> {
     Ok(Step::Client(ClientStep::Store {
         verb: StoreVerb::Set,
         key: key.copy(alloc)?,
         flags: 0,
         exptime: 0,
-        data: Payload::Skipped(u32::MAX),
+        data: Payload::Bytes(data),
     }))
 }
 

@@ -6,6 +6,7 @@ ghost use Rattle.rev_lead.specs.Acts.{Led};
 
 use super::Driver;
 use super::flushing::ends_flushed;
+use super::storing::MOST_DATA;
 use crate::agreeing::{Agreement, Disagreement, agrees_if, is_found, is_held_alive};
 use crate::holding::{Holding, holding_of};
 use crate::role::Role;
@@ -76,7 +77,8 @@ impl<A: Allocator + Copy> Driver<A> {
         ensures led { Led stage.old stage.new }
     {
         if self.failing.take(key) {
-            stage.play(failed_set(self.alloc, key)?, Role::Event)?;
+            let data = self.fill.data(MOST_DATA)?;
+            stage.play(failed_set(self.alloc, key, data)?, Role::Event)?;
             return Ok(());
         }
         if coming.own {
