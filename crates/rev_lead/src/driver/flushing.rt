@@ -2,6 +2,7 @@
 ghost use Rattle.rev_lead.specs.Acts.{Led};
 
 use super::Driver;
+use crate::agreeing::is_found;
 use crate::holding::{Holding, has_page_to_come, holding_of};
 use crate::role::Role;
 use crate::stage::{LeadFault, Stage};
@@ -57,6 +58,12 @@ impl<A: Allocator + Copy> Driver<A> {
             Some(held) => held.alive && self.flushes.has(held.header.cas),
             None => false,
         }
+    }
+
+    // Whether a look-up finds the key in the class, as an item that may be: one that was flushed was stored anew by a line
+    // that is missing.
+    pub(super) fn holds(&self, key: &Key<A>, class: usize, stage: &Stage<A>) -> bool {
+        is_found(stage, key, class) && !self.is_flushed(key, stage)
     }
 
     // The key's item was flushed, and its chunk was used: no line shows that.

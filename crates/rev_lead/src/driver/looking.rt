@@ -59,7 +59,14 @@ impl<A: Allocator + Copy> Driver<A> {
         ensures led { Led stage.old stage.new }
         ensures agrees { IfOk result (λ agreement. agreement ≡ AgreementOf.Agrees → Found stage.old stage.new key.now class) }
     {
-        self.restore_unless(is_found(stage, key, class), key, class, size, ahead, stage)?;
+        self.restore_unless(
+            self.holds(key, class, stage),
+            key,
+            class,
+            size,
+            ahead,
+            stage,
+        )?;
         let is_there = is_found(stage, key, class);
         self.play_found(coming, key, ahead, stage)?;
         Ok(agrees_if(is_there, Disagreement::OtherAnswer))
