@@ -346,12 +346,7 @@ fn remove_parts<R: Files>(rt: &R, files: &Names) {
 }
 
 // Writes the words, and gives all files their names.
-fn finish_files<R: Files>(
-    rt: &R,
-    alloc: Global,
-    files: &Names,
-    words: &[u8],
-) -> Result<(), Stop> {
+fn finish_files<R: Files>(rt: &R, alloc: Global, files: &Names, words: &[u8]) -> Result<(), Stop> {
     match fs::write(rt, files.options.part.as_str(), words) {
         Err(_) => Err(cannot_write(alloc, files.options.part.as_str())),
         Ok(()) => rename_all(rt, alloc, files),

@@ -5,7 +5,9 @@ ghost use Rattle.rev_intake.specs.Report.{behind, stats_parts};
 ghost use Rattle.rev_import_commands.specs.Importing.{TellsLed, led_notes, written};
 
 use crate::files::{Making, send, send_with_start};
-use crate::import::{Prepared, add_run, add_words, all_opened, name_in, prepared, setup_lines, stats_if};
+use crate::import::{
+    Prepared, add_run, add_words, all_opened, name_in, prepared, setup_lines, stats_if,
+};
 use crate::leading::{leading_setup, stop_of_replay};
 use crate::state::bad_file;
 use rev_import::setup::Setup;
@@ -128,11 +130,7 @@ impl<'a, F: Read + Drop> Making for LedLogs<'a, F> {
         let LedLogs { setup, asked, logs } = self;
         let alloc = *logs.allocator();
         match opened(alloc, setup, asked) {
-            Err(fault) => Err(stop_of_replay(
-                alloc,
-                fault,
-                name_in(asked.logs.as_slice(), 0),
-            )),
+            Err(fault) => Err(stop_of_replay(alloc, fault, name_in(asked.logs.as_slice(), 0))),
             Ok(opened) => {
                 let mut replay = ManuallyDrop::new(opened);
                 match send_led(&mut *replay, setup, asked, logs, sink) {
