@@ -108,7 +108,7 @@ pub trait Making {
 }
 
 // What is told of a script that was made so, where what could not be written is this file.
-fn made_in<T>(alloc: Global, made: Result<T, Stop>, target: &str) -> Result<T, Stop> {
+fn made_in<T: Drop>(alloc: Global, made: Result<T, Stop>, target: &str) -> Result<T, Stop> {
     match made {
         Err(Stop::CannotWrite) => Err(cannot_write(alloc, target)),
         made => made,
