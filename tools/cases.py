@@ -28,7 +28,8 @@ All others are the files that the program is run beside. Two names stand for wha
                 Of words, all stand on one line.
 
 A log of an import, or its trace, is a word that names a file and stands behind no option. Each case is run on its
-files, and with the script on the standard output. What is read from the standard input comes at once and byte by byte.
+files, and with the script on the standard output, unless that can't be: where the script has a start, or one life of
+several is written and none was asked for. What is read from the standard input comes at once and byte by byte.
 An import of a single log also gets it from there: at once, byte by byte and in pieces of some other sizes, to files and
 to the standard output, and at status 0 with a read that fails at its end. At status 2 a read that fails at once changes
 nothing, since none is made. At status 0 a write to the standard output that fails is told, with status 4: behind what
@@ -173,8 +174,10 @@ class Case:
         self.prefix = next((b for a, b in zip(words, words[1:]) if a == "--out" and words[0] == "import"), None)
         logs = [b for a, b in zip(words, words[1:]) if b in files and not a.startswith("--")]
         self.log = logs[0] if len(logs) == 1 and words[0] == "import" else None
-        self.has_start = self.start is not None or "--split" in words
-        if self.status == 0 and self.prefix and self.script is None and not self.has_start:
+        has_start = self.start is not None or "--split" in words
+        has_lives = b"\nlife: " in self.err and "--life" not in words
+        self.is_in_files = has_start or has_lives
+        if self.status == 0 and self.prefix and self.script is None and not has_start:
             raise ValueError(f"{name}: no script is wanted")
 
     def run(self, runner, log=None, size=None, out=None, fails=False, output=None):
@@ -249,7 +252,7 @@ class Case:
         fault = self.fault_of_writes(runner)
         if fault:
             return f"where a write fails: {fault}"
-        if not self.prefix or self.has_start:
+        if not self.prefix or self.is_in_files:
             return None
         fault = self.run(runner, out=STANDARD).difference(self.wanted(out=STANDARD))
         return f"with --out -: {fault}" if fault else None
@@ -281,7 +284,7 @@ class Case:
 
     def fault_of_writes(self, runner):
         """What is wrong where the standard output takes nothing."""
-        out = STANDARD if self.prefix and not self.has_start else None
+        out = STANDARD if self.prefix and not self.is_in_files else None
         if self.status or not (out or self.output or self.end or self.like):
             return None
         with open("/dev/full", "wb") as full:
@@ -295,7 +298,7 @@ class Case:
 
     def fault_on_input(self, runner):
         log = self.files[self.log]
-        for out in filter(None, (self.prefix, STANDARD if self.prefix and not self.has_start else None)):
+        for out in filter(None, (self.prefix, STANDARD if self.prefix and not self.is_in_files else None)):
             for size in (None, *SIZES):
                 fault = self.run(runner, log, size, out).difference(self.wanted(True, out))
                 if fault:
@@ -340,14 +343,17 @@ class Case:
             return ended.difference(cut.wanted()) or ended
         if ended.status or not script.endswith(b"\r\n"):
             return f"status {ended.status}, {ended.err}, and the script ends with {script[-20:]}"
-        if not ended.err.startswith(b"read: %d lines, " % lines) or b", 0 cut off at an end, " not in ended.err:
+        is_none_cut = b", 0 cut off at an end, " in ended.err or b"left out: " not in ended.err
+        if not ended.err.startswith(b"read: %d lines, " % lines) or not is_none_cut:
             return f"{lines} whole lines are told as {ended.err}"
         return ended
 
     @staticmethod
     def told_of_cut(err, lines):
-        """What is told where a line more was read, which was cut off."""
+        """What is told where a line more was read, which was cut off. (Where the log leads, nothing else is left out.)"""
         err = err.replace(b"read: %d lines, " % lines, b"read: %d lines, " % (lines + 1), 1)
+        if b"left out: " not in err:
+            return err.replace(b" events\n", b" events\nleft out: 1 cut off at an end\n", 1)
         return err.replace(b", 0 cut off at an end, ", b", 1 cut off at an end, ", 1)
 
 

@@ -4,25 +4,41 @@ use Rattle.std.proofs.lemmas.Bool.{false≢true}
 use Rattle.rev_import.specs.declared.figures.Figures.{Figures}
 use Rattle.rev_intake.specs.declared.counts.LineCounts.{LineCounts}
 use Rattle.rev_options.specs.declared.import.WatchImport.{WatchImport}
-use Rattle.rev_import_commands.specs.Importing.{Reports, TellsLogs, counted, run_notes}
+use Rattle.std.specs.declared.alloc.Global.{Global}
+use Rattle.rev_import_commands.specs.Importing.{Reports, TellsLed, TellsLogs, counted, led_notes, run_notes}
 use Rattle.rev_messages.specs.Telling.{Told}
 use Rattle.rev_messages.specs.declared.stop.Stop.{Stop}
+use Rattle.rev_replay.specs.declared.run.Replay.{Replay}
 use Rattle.rev_watch.specs.declared.settings.LogStats.{LogStats}
 
-pub tells_logs : (asked : WatchImport) (stats : Option LogStats) (front now third after : List ℕ)
+pub tells_logs : (asked : WatchImport) (stats : Option LogStats) (front now third after : List ℕ) (start script : ℕ)
     → (counts : LineCounts) × (figures : Figures) × (now ≡ counted asked.sample.one_of front counts figures stats)
     → (checked : List ℕ) × (third ≡ now ++ checked)
-    → (start : ℕ) × (script : ℕ) × (after ≡ run_notes (string_bytes asked.out) asked.split third start script)
+    → after ≡ run_notes (string_bytes asked.out) asked.split third start script
     → TellsLogs asked after
-tells_logs asked stats front now third after p q r = record {
+tells_logs asked stats front now third after start script p q r = record {
   front = front;
   counts = p.0;
   figures = p.1;
   stats = stats;
   checked = q.0;
-  start = r.0;
-  script = r.1;
-  are = r.2 ∙ ap (λ l. run_notes (string_bytes asked.out) asked.split l r.0 r.1) (q.1 ∙ ap (λ l. l ++ q.0) p.2);
+  start = start;
+  script = script;
+  are = r ∙ ap (λ l. run_notes (string_bytes asked.out) asked.split l start script) (q.1 ∙ ap (λ l. l ++ q.0) p.2);
+}
+
+pub tells_led : (asked : WatchImport) (replay : Replay Global) (stats : Option LogStats) (steps start script : ℕ) (front now after : List ℕ)
+    → now ≡ led_notes front replay stats steps asked.life
+    → after ≡ run_notes (string_bytes asked.out) asked.split now start script
+    → TellsLed asked after
+tells_led asked replay stats steps start script front now after p q = record {
+  front = front;
+  replay = replay;
+  stats = stats;
+  steps = steps;
+  start = start;
+  script = script;
+  are = q ∙ ap (λ l. run_notes (string_bytes asked.out) asked.split l start script) p;
 }
 
 -- an import that went well, of which the notes were told

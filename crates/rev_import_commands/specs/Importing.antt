@@ -1,15 +1,21 @@
 -- What is told of an import that went well.
 -- Rule of this project: it is told what was read and what was written, and how the script is run where it is in files.
-use Rattle.std.specs.Prelude.{◌≡◌, ℕ, Bool, cond, nat_lt, List, ◌++◌, Option, None, Some, codes, string_bytes}
+use Rattle.std.specs.Prelude.{◌≡◌, ℕ, Bool, true, false, not, ◌&&◌, cond, nat_lt, List, [], ◌∷◌, ◌++◌, Option, None, Some, codes, string_bytes}
 use Rattle.std.specs.Str.{bytes_eq}
+use Rattle.std.specs.declared.alloc.Global.{Global}
 use Rattle.rev_import.specs.declared.figures.Figures.{Figures}
-use Rattle.rev_intake.specs.Report.{behind, report_text, run_parts}
+use Rattle.rev_intake.specs.Report.{behind, part, report_text, run_parts, stats_parts}
 use Rattle.rev_intake.specs.RowReport.{row_report_text}
 use Rattle.rev_intake.specs.Told.{sample_parts, split_parts, run_behind_parts}
 use Rattle.rev_intake.specs.declared.counts.LineCounts.{LineCounts}
 use Rattle.rev_intake.specs.declared.row_counts.RowCounts.{RowCounts}
 use Rattle.rev_options.specs.declared.csv.CsvImport.{CsvImport}
 use Rattle.rev_options.specs.declared.import.WatchImport.{WatchImport}
+use Rattle.rev_options.specs.declared.leader.Leader.{Leader}
+use Rattle.rev_options.specs.declared.leader.Leader.TheVariants.{Log, Rules}
+use Rattle.rev_replay.specs.Notes.{with_life, with_notes}
+use Rattle.rev_replay.specs.Replayed.{life_of}
+use Rattle.rev_replay.specs.declared.run.Replay.{Replay}
 use Rattle.rev_messages.specs.Telling.{Told}
 use Rattle.rev_watch.specs.declared.settings.LogStats.{LogStats}
 
@@ -59,3 +65,45 @@ pub record TellsLogs (asked : WatchImport) (notes : List ℕ) : Type 0 where
   pub start : ℕ
   pub script : ℕ
   pub are : notes ≡ run_notes (string_bytes asked.out) asked.split (counted asked.sample.one_of front counts figures stats ++ checked) start script
+
+-- the number of the server's life that is written, of so many: the one that is asked for, or the last
+abbrev pub written : Option ℕ → ℕ → ℕ
+written None lives = lives
+written (Some life) lives = life
+
+-- how many steps were written
+abbrev pub wrote_text : ℕ → List ℕ
+wrote_text steps = part (codes "wrote: ") steps (codes " steps\n")
+
+-- of logs that led: what became of their lines and how far the replay agrees with them, what the server did not log, how
+-- many steps were written, and of which life of the server
+abbrev pub led_notes : {A : Type 0} → List ℕ → Replay A → Option LogStats → (steps : ℕ) → Option ℕ → List ℕ
+led_notes front replay stats steps life =
+    with_life (behind (with_notes front replay) (stats_parts stats) ++ wrote_text steps) (written life (life_of replay)) (life_of replay)
+
+-- these are such notes
+pub record TellsLed (asked : WatchImport) (notes : List ℕ) : Type 0 where
+  pub front : List ℕ
+  pub replay : Replay Global
+  pub stats : Option LogStats
+  pub steps : ℕ
+  pub start : ℕ
+  pub script : ℕ
+  pub are : notes ≡ run_notes (string_bytes asked.out) asked.split (led_notes front replay stats steps asked.life) start script
+
+-- the log leads, unless the rules are said to
+abbrev pub is_led : Leader → Bool
+is_led (Log anyway) = true
+is_led (Rules rhythm) = false
+
+-- the log leads: the rules are not said to, and neither a sample nor a comparison is asked for, which are of their script
+abbrev pub leads : WatchImport → Bool
+leads asked = is_led asked.leader && (not (nat_lt 1 asked.sample.one_of) && not asked.check)
+
+-- these are the notes of logs, where they lead or do not
+abbrev pub TellsBy : Bool → WatchImport → List ℕ → Type 0
+TellsBy true = TellsLed
+TellsBy false = TellsLogs
+
+abbrev pub Tells : WatchImport → List ℕ → Type 0
+Tells asked = TellsBy (leads asked) asked

@@ -1,7 +1,7 @@
 //! `lrudb import watch --check`: the script is played as it is made, and compared with what the log says.
 ghost use Rattle.std.specs.Prelude.{◌≡◌, ◌++◌, ℕ, List, OnOk};
 
-use crate::import::Making;
+use crate::files::Making;
 use crate::imported::stop_in;
 use indexmap::IndexMap;
 use rev_classes::{Config, fault_of};
@@ -23,6 +23,7 @@ use rev_script::line::Line;
 use rev_script::lines::Lines;
 use rev_script::source::{FromRead, Source};
 use rev_script::steps::get_step;
+use rev_transcript::transcript::ScriptOutlet;
 use rev_undotree::Session;
 use rev_watch::event::{Event, LogLine, LookUpOutcome, StoreOutcome};
 use std::alloc::{AllocError, Global};
@@ -579,7 +580,9 @@ fn made_or_stopped(
 }
 
 impl<'a, F: Read + Drop> Making for CheckedLogs<'a, F> {
-    fn make<K: Sink>(self, sink: &mut K) -> Result<(), Stop> {
+    type Made = ();
+
+    fn make<K: ScriptOutlet>(self, sink: &mut K) -> Result<(), Stop> {
         let CheckedLogs {
             intake,
             names,

@@ -5,10 +5,12 @@ ghost use Rattle.rev_import.specs.declared.figures.Figures.{Figures};
 ghost use Rattle.rev_intake.specs.declared.counts.LineCounts.{LineCounts};
 ghost use Rattle.rev_messages.specs.Ends.{IsStatus, StopsBy};
 ghost use Rattle.rev_messages.specs.declared.stop.Stop.{Stop};
-ghost use Rattle.rev_import_commands.specs.Importing.{Reports, TellsLogs, counted, run_notes, sampled};
+ghost use Rattle.rev_import_commands.specs.Importing.{Reports, Tells, TellsLogs, counted, leads, run_notes, sampled};
 
 use crate::check::{Check, CheckedLogs};
 use crate::ending::end_import;
+use crate::files::{Making, copied, send, send_with_start};
+use crate::led::import_led;
 use either::Either;
 use rev_choices::{Factor, LEAST_PAGE, Rhythm, Sample};
 use rev_classes::{ClassTable, Config};
@@ -18,7 +20,6 @@ use rev_intake::counts::LineCounts;
 use rev_intake::fault::IntakeFault;
 use rev_intake::intake::{Intake, Range};
 use rev_intake::logs::make_script;
-use rev_intake::outlet::{Outlet, StartAndScript};
 use rev_intake::report::{put_report, put_run, put_unfollowed};
 use rev_intake::row_report::put_thin;
 use rev_intake::told::{put_run_behind, put_sample, put_split};
@@ -26,7 +27,8 @@ use rev_intake::words::put_options;
 use rev_messages::Stop;
 use rev_messages::progress::{Progress, ToldFile};
 use rev_options::{Leader, STANDARD, WatchImport};
-use rev_output::{Sink, ToWrite};
+use rev_output::Sink;
+use rev_transcript::transcript::ScriptOutlet;
 use rev_watch::settings::{LogStats, Settings, StatFault, read_log_stats, read_settings};
 use std::alloc::{AllocError, Global};
 use std::io::{Read, Write};
@@ -34,95 +36,9 @@ use std::mem::ManuallyDrop;
 use std::rt::{Clock, Files};
 use std::{fs, io};
 
-// The name of a file that is written, also as it is called until it is whole.
-#[derive(Drop)]
-pub(crate) struct FileName {
-    pub(crate) whole: String,
-    pub(crate) part: String,
-}
-
-// The names of the files that are written.
-#[derive(Drop)]
-pub(crate) struct Names {
-    pub(crate) script: FileName,
-    pub(crate) options: FileName,
-    // of the start in front of the script
-    start: Option<FileName>,
-}
-
-/// A text and an end.
-pub fn with_end(alloc: Global, prefix: &str, end: &str) -> Result<String, AllocError> {
-    let mut name = String::from_str(alloc, prefix)?;
-    name.push_str(end)?;
-    Ok(name)
-}
-
-impl FileName {
-    // Its name is a prefix and an end.
-    fn new(alloc: Global, prefix: &str, end: &str) -> Result<FileName, AllocError> {
-        let whole = with_end(alloc, prefix, end)?;
-        match with_end(alloc, whole.as_str(), ".part") {
-            Ok(part) => Ok(FileName { whole, part }),
-            Err(refused) => Err(refused),
-        }
-    }
-}
-
-impl Names {
-    // Those of a prefix, where the first one has this end.
-    fn with(alloc: Global, prefix: &str, end: &str) -> Result<Names, AllocError> {
-        let script = FileName::new(alloc, prefix, end)?;
-        match FileName::new(alloc, prefix, ".options") {
-            Ok(options) => Ok(Names {
-                script,
-                options,
-                start: None,
-            }),
-            Err(refused) => Err(refused),
-        }
-    }
-
-    pub(crate) fn of(alloc: Global, prefix: &str) -> Result<Names, AllocError> {
-        Names::with(alloc, prefix, ".script")
-    }
-
-    // The same with a start in front of the script.
-    fn with_start(alloc: Global, prefix: &str) -> Result<Names, AllocError> {
-        let start = FileName::new(alloc, prefix, ".start")?;
-        match Names::of(alloc, prefix) {
-            Ok(names) => Ok(Names {
-                start: Some(start),
-                ..names
-            }),
-            Err(refused) => Err(refused),
-        }
-    }
-
-    /// The same for a start in the place of a script.
-    pub(crate) fn of_start(alloc: Global, prefix: &str) -> Result<Names, AllocError> {
-        Names::with(alloc, prefix, ".start")
-    }
-}
-
-/// A copy of a name.
-pub fn copied(alloc: Global, name: &str) -> Result<String, Stop> {
-    match String::from_str(alloc, name) {
-        Ok(name) => Ok(name),
-        Err(_) => Err(Stop::Memory),
-    }
-}
-
 fn cannot_open(alloc: Global, name: &str) -> Stop {
     match copied(alloc, name) {
         Ok(name) => Stop::CannotOpen(name),
-        Err(stop) => stop,
-    }
-}
-
-/// What is told of a file of this name that cannot be written.
-pub fn cannot_write(alloc: Global, name: &str) -> Stop {
-    match copied(alloc, name) {
-        Ok(name) => Stop::CannotWriteFile(name),
         Err(stop) => stop,
     }
 }
@@ -168,8 +84,8 @@ fn stats_of<R: Files + AllocGlobal>(rt: &R, name: &str) -> Result<LogStats, Stop
     }
 }
 
-// The same, where a name is given.
-fn stats_if<R: Files + AllocGlobal>(
+/// What the server did not log by the file of this name, where one is given.
+pub(crate) fn stats_if<R: Files + AllocGlobal>(
     rt: &R,
     name: &Option<String>,
 ) -> Result<Option<LogStats>, Stop> {
@@ -286,12 +202,6 @@ pub fn name_in(names: &[String], place: usize) -> &str {
     }
 }
 
-/// What a script is made of.
-pub trait Making {
-    /// Makes the script, and sends it to the sink.
-    fn make<K: Outlet>(self, sink: &mut K) -> Result<(), Stop>;
-}
-
 // Logs of these names, and what takes them in.
 #[derive(Drop)]
 struct Logs<'a, F> {
@@ -301,7 +211,9 @@ struct Logs<'a, F> {
 }
 
 impl<'a, F: Read + Drop> Making for Logs<'a, F> {
-    fn make<K: Outlet>(self, sink: &mut K) -> Result<(), Stop> {
+    type Made = ();
+
+    fn make<K: ScriptOutlet>(self, sink: &mut K) -> Result<(), Stop> {
         let Logs {
             intake,
             names,
@@ -315,195 +227,6 @@ impl<'a, F: Read + Drop> Making for Logs<'a, F> {
                 Err(stop) => Err(stop),
             },
         }
-    }
-}
-
-// What is told of a script that was made so, where what could not be written is this file.
-fn made_in(alloc: Global, made: Result<(), Stop>, target: &str) -> Result<(), Stop> {
-    match made {
-        Err(Stop::CannotWrite) => Err(cannot_write(alloc, target)),
-        made => made,
-    }
-}
-
-// A file of this name, emptied.
-fn created<R: Files>(rt: &R, alloc: Global, target: &str) -> Result<R::File, Stop> {
-    match fs::create(rt, target) {
-        Ok(file) => Ok(file),
-        Err(_) => Err(cannot_write(alloc, target)),
-    }
-}
-
-// Makes the script in a file of this name.
-fn make_file<R: Files, M: Making + Drop>(
-    rt: &R,
-    alloc: Global,
-    target: &str,
-    making: M,
-) -> Result<(), Stop> {
-    match created(rt, alloc, target) {
-        Err(stop) => Err(stop),
-        Ok(file) => made_in(alloc, making.make(&mut ToWrite::new(file)), target),
-    }
-}
-
-// The files of a start and of what stands behind it, emptied.
-fn both_created<R: Files>(
-    rt: &R,
-    alloc: Global,
-    start: &str,
-    script: &str,
-) -> Result<StartAndScript<R::File>, Stop> {
-    let first = created(rt, alloc, start)?;
-    match created(rt, alloc, script) {
-        Ok(second) => Ok(StartAndScript::new(first, second)),
-        Err(stop) => Err(stop),
-    }
-}
-
-// Makes the script in two files, of which one has its start.
-fn make_two_files<R: Files, M: Making + Drop>(
-    rt: &R,
-    alloc: Global,
-    start: &str,
-    script: &str,
-    making: M,
-) -> Result<(), Stop> {
-    match both_created(rt, alloc, start, script) {
-        Err(stop) => Err(stop),
-        Ok(files) => {
-            let mut sink = files;
-            let made = making.make(&mut sink);
-            let target = if sink.is_behind() { script } else { start };
-            made_in(alloc, made, target)
-        }
-    }
-}
-
-// Makes the script in its file, or in two where it has a start.
-fn make_script_files<R: Files, M: Making + Drop>(
-    rt: &R,
-    alloc: Global,
-    files: &Names,
-    making: M,
-) -> Result<(), Stop> {
-    let script = files.script.part.as_str();
-    match &files.start {
-        None => make_file(rt, alloc, script, making),
-        Some(names) => make_two_files(rt, alloc, names.part.as_str(), script, making),
-    }
-}
-
-/// Gives a file that is whole its name.
-pub fn rename<R: Files>(rt: &R, alloc: Global, part: &str, name: &str) -> Result<(), Stop> {
-    match fs::rename(rt, part, name) {
-        Ok(()) => Ok(()),
-        Err(_) => Err(cannot_write(alloc, name)),
-    }
-}
-
-fn rename_file<R: Files>(rt: &R, alloc: Global, file: &FileName) -> Result<(), Stop> {
-    rename(rt, alloc, file.part.as_str(), file.whole.as_str())
-}
-
-// Gives both files their names, or the first one's is taken away again.
-pub(crate) fn rename_both<R: Files>(rt: &R, alloc: Global, files: &Names) -> Result<(), Stop> {
-    rename_file(rt, alloc, &files.script)?;
-    match rename_file(rt, alloc, &files.options) {
-        Ok(()) => Ok(()),
-        Err(stop) => {
-            let _ = fs::remove_file(rt, files.script.whole.as_str());
-            Err(stop)
-        }
-    }
-}
-
-// Gives all files their names, or those that have theirs are taken away again.
-fn rename_all<R: Files>(rt: &R, alloc: Global, files: &Names) -> Result<(), Stop> {
-    let start = match &files.start {
-        None => return rename_both(rt, alloc, files),
-        Some(start) => start,
-    };
-    rename_file(rt, alloc, start)?;
-    match rename_both(rt, alloc, files) {
-        Ok(()) => Ok(()),
-        Err(stop) => {
-            let _ = fs::remove_file(rt, start.whole.as_str());
-            Err(stop)
-        }
-    }
-}
-
-// Takes away what is there of files that are not whole.
-fn remove_parts<R: Files>(rt: &R, files: &Names) {
-    // A file that is not there cannot be removed.
-    if let Some(start) = &files.start {
-        let _ = fs::remove_file(rt, start.part.as_str());
-    }
-    let _ = fs::remove_file(rt, files.script.part.as_str());
-    let _ = fs::remove_file(rt, files.options.part.as_str());
-}
-
-// Writes script and options to files, each under another name until all are whole.
-fn try_files<R: Files, M: Making + Drop>(
-    rt: &R,
-    alloc: Global,
-    files: &Names,
-    words: &[u8],
-    making: M,
-) -> Result<(), Stop> {
-    make_script_files(rt, alloc, files, making)?;
-    match fs::write(rt, files.options.part.as_str(), words) {
-        Err(_) => Err(cannot_write(alloc, files.options.part.as_str())),
-        Ok(()) => rename_all(rt, alloc, files),
-    }
-}
-
-// Writes script and options to files. Where that fails, nothing is left of them.
-fn to_files<R: Files, M: Making + Drop>(
-    rt: &R,
-    alloc: Global,
-    files: &Names,
-    words: &[u8],
-    making: M,
-) -> Result<(), Stop> {
-    match try_files(rt, alloc, files, words, making) {
-        Ok(()) => Ok(()),
-        Err(stop) => {
-            remove_parts(rt, files);
-            Err(stop)
-        }
-    }
-}
-
-/// Makes a script where it is asked for: in the files of this prefix, with the words for a run of it, or, where the
-/// prefix is `-`, on the standard output.
-pub(crate) fn send<R: Files + AllocGlobal, M: Making + Drop, O: Write>(
-    rt: &R,
-    prefix: &str,
-    words: &[u8],
-    making: M,
-    writer: &mut O,
-) -> Result<(), Stop> {
-    if prefix == STANDARD {
-        return making.make(&mut ToWrite::new(writer));
-    }
-    match Names::of(rt.alloc(), prefix) {
-        Ok(files) => to_files(rt, rt.alloc(), &files, words, making),
-        Err(_) => Err(Stop::Memory),
-    }
-}
-
-// Makes a script with its start in the files of this prefix, with the words for a run of it.
-fn send_with_start<R: Files + AllocGlobal, M: Making + Drop>(
-    rt: &R,
-    prefix: &str,
-    words: &[u8],
-    making: M,
-) -> Result<(), Stop> {
-    match Names::with_start(rt.alloc(), prefix) {
-        Ok(files) => to_files(rt, rt.alloc(), &files, words, making),
-        Err(_) => Err(Stop::Memory),
     }
 }
 
@@ -530,8 +253,8 @@ fn sampled(setup: Setup, sample: Sample, notes: &mut Vec<u8>) -> Result<Setup, S
     }
 }
 
-// How many lines a setup asks for.
-fn setup_lines(setup: &Setup) -> u64 {
+/// How many lines a setup asks for.
+pub(crate) fn setup_lines(setup: &Setup) -> u64 {
     u64::from(setup.tune.is_some()) + u64::from(setup.temp_ttl.is_some())
 }
 
@@ -648,8 +371,12 @@ fn import_logs<R: Files + AllocGlobal, I: Read + Drop, O: Write, C: Clock, W: Si
     send_logs(rt, asked, words, intake, check, logs, writer)
 }
 
-// Adds the words for a run of the script, where it goes to the standard output.
-fn add_words(notes: &mut Vec<u8>, asked: &WatchImport, words: &[u8]) -> Result<(), AllocError> {
+/// Adds the words for a run of the script, where it goes to the standard output.
+pub(crate) fn add_words(
+    notes: &mut Vec<u8>,
+    asked: &WatchImport,
+    words: &[u8],
+) -> Result<(), AllocError> {
     if asked.out.as_str() == STANDARD {
         notes.extend_from_slice(words)
     } else {
@@ -700,15 +427,14 @@ fn add_check(notes: &mut Vec<u8>, check: &Option<Check>) -> Result<(), AllocErro
     }
 }
 
-// Adds how the script in files is run: with its start, where it has one, of which so many steps were written of the
-// setup.
-fn add_run(
+/// Adds how the script in files is run: with its start, where it has one, and of how many steps either is then.
+pub(crate) fn add_run(
     notes: &mut Vec<u8>,
     asked: &WatchImport,
-    intake: &Intake<Global>,
-    setup_lines: u64,
+    start: u64,
+    script: u64,
 ) -> Result<(), AllocError>
-    ensures { OnOk result ((start : ℕ) × (script : ℕ) × (notes.new.items ≡ run_notes (string_bytes asked.now.out) asked.now.split notes.old.items start script)) }
+    ensures { OnOk result (notes.new.items ≡ run_notes (string_bytes asked.now.out) asked.now.split notes.old.items start script) }
 {
     if asked.out.as_str() == STANDARD {
         return Ok(());
@@ -716,10 +442,31 @@ fn add_run(
     if asked.split.is_none() {
         return put_run(notes, asked.out.as_bytes());
     }
-    let start = intake.start_lines();
-    let script = intake.figures().lines.saturating_sub(start);
-    put_split(notes, start.saturating_add(setup_lines), script)?;
+    put_split(notes, start, script)?;
     put_run_behind(notes, asked.out.as_bytes())
+}
+
+// The option by which the rules lead, where it is not said that they do.
+fn implying(asked: &WatchImport) -> Option<&'static str> {
+    if asked.free {
+        return None;
+    }
+    match asked.leader {
+        Leader::Rules(_) => Some("--steps"),
+        Leader::Log { .. } if asked.sample.one_of > 1 => Some("--sample"),
+        Leader::Log { .. } if asked.check => Some("--check"),
+        Leader::Log { .. } => None,
+    }
+}
+
+// Adds by which option the rules lead, where it is not said that they do.
+fn add_implied(notes: &mut Vec<u8>, asked: &WatchImport) -> Result<(), AllocError> {
+    let Some(option) = implying(asked) else {
+        return Ok(());
+    };
+    notes.extend_from_slice(b"free: the rules alone lead, as ")?;
+    notes.extend_from_slice(option.as_bytes())?;
+    notes.extend_from_slice(b" implies\n")
 }
 
 // Adds what is told of an import that went well: what was counted and compared, and how its script is run.
@@ -735,9 +482,12 @@ fn add_report(
     ensures { OnOk result (TellsLogs asked.now notes.new.items) }
 {
     add_words(notes, asked, words)?;
+    add_implied(notes, asked)?;
     add_counts(notes, asked, intake, stats)?;
     add_check(notes, check)?;
-    match add_run(notes, asked, intake, setup_lines) {
+    let start = intake.start_lines();
+    let script = intake.figures().lines.saturating_sub(start);
+    match add_run(notes, asked, start.saturating_add(setup_lines), script) {
         Ok(()) => Ok(()),
         Err(error) => Err(error),
     }
@@ -819,33 +569,26 @@ fn import_into<R: Files + AllocGlobal, I: Read + Drop, O: Write, C: Clock, W: Si
     }
 }
 
-// The words of the options for a run.
-fn words_of(alloc: Global, config: &Config) -> Result<Vec<u8>, AllocError> {
-    let mut words = Vec::new(alloc);
-    match put_options(&mut words, config) {
-        Ok(()) => Ok(words),
-        Err(refused) => Err(refused),
-    }
+/// What is read before any log is.
+#[derive(Drop)]
+pub(crate) struct Prepared {
+    pub(crate) stats: Option<LogStats>,
+    pub(crate) setup: Setup,
+    // the words of the options for a run
+    pub(crate) words: Vec<u8>,
 }
 
-// What is read before any log is.
-#[derive(Drop)]
-struct Prepared {
+/// All of it, with the words of the options for a run.
+pub(crate) fn prepared(
+    alloc: Global,
     stats: Option<LogStats>,
     setup: Setup,
-    // the words of the options for a run
-    words: Vec<u8>,
-}
-
-fn prepare<R: Files + AllocGlobal>(
-    rt: &R,
-    asked: &WatchImport,
-    notes: &mut Vec<u8>,
-) -> Result<Prepared, Stop> {
-    let stats = stats_if(rt, &asked.stats)?;
-    let setup = setup_asked(rt, asked, notes)?;
-    match words_of(rt.alloc(), &setup.config) {
-        Ok(words) => Ok(Prepared {
+) -> Result<Prepared, Stop>
+    ensures { IfOk result (λ prepared. prepared.setup ≡ setup) }
+{
+    let mut words = Vec::new(alloc);
+    match put_options(&mut words, &setup.config) {
+        Ok(()) => Ok(Prepared {
             stats,
             setup,
             words,
@@ -857,19 +600,29 @@ fn prepare<R: Files + AllocGlobal>(
     }
 }
 
-// Why no life of the server is chosen for an import.
+fn prepare<R: Files + AllocGlobal>(
+    rt: &R,
+    asked: &WatchImport,
+    notes: &mut Vec<u8>,
+) -> Result<Prepared, Stop> {
+    let stats = stats_if(rt, &asked.stats)?;
+    let setup = setup_asked(rt, asked, notes)?;
+    prepared(rt.alloc(), stats, setup)
+}
+
+// Why no life of the server is chosen where the rules lead.
 fn no_lives(alloc: Global) -> Stop {
     match String::from_str(
         alloc,
-        "lrudb: --life: the rules alone lead an import, and they do not tell the lives of a server apart; open --watch does\n",
+        "lrudb: --life: with --free, --steps, --sample or --check the rules alone lead, and they do not tell the lives of a server apart\n",
     ) {
         Ok(text) => Stop::BadImport(text),
         Err(_) => Stop::Memory,
     }
 }
 
-// Makes the script that is asked for, and adds what is told of it to the notes.
-fn import<R: Files + AllocGlobal, I: Read + Drop, O: Write, C: Clock, W: Sink>(
+// Makes the script that is asked for by the rules alone, and adds what is told of it to the notes.
+fn import_free<R: Files + AllocGlobal, I: Read + Drop, O: Write, C: Clock, W: Sink>(
     rt: &R,
     asked: &WatchImport,
     reader: I,
@@ -905,8 +658,37 @@ fn import<R: Files + AllocGlobal, I: Read + Drop, O: Write, C: Clock, W: Sink>(
     }
 }
 
-/// Makes the script that is asked for. Answers the exit status, 0, 3, 4 or 5. At status 0 what the import tells of
-/// itself goes to `errors`, at any other the text of the reason, whole where no write to it has failed.
+// Whether the log leads: a sample and a comparison are of a script that the rules lead.
+fn leads(asked: &WatchImport) -> bool
+    ensures { result ≡ leads asked.now }
+{
+    match asked.leader {
+        Leader::Rules(_) => false,
+        Leader::Log { .. } => asked.sample.one_of <= 1 && !asked.check,
+    }
+}
+
+// Makes the script that is asked for, and adds what is told of it to the notes.
+fn import<R: Files + AllocGlobal, I: Read + Drop, O: Write, C: Clock, W: Sink>(
+    rt: &R,
+    asked: &WatchImport,
+    reader: I,
+    writer: &mut O,
+    notes: &mut Vec<u8>,
+    progress: &Progress<C, W>,
+) -> Result<(), Stop>
+    ensures { OnOk result (Tells asked.now notes.new.items) }
+{
+    if leads(asked) {
+        import_led(rt, asked, reader, writer, notes, progress)
+    } else {
+        import_free(rt, asked, reader, writer, notes, progress)
+    }
+}
+
+/// Makes the script that is asked for: the steps of a replay that the logs lead, or those that an import by the rules
+/// alone makes. Answers the exit status, 0, 3, 4 or 5. At status 0 what the import tells of itself goes to `errors`, at
+/// any other the text of the reason, whole where no write to it has failed.
 pub fn import_watch<R: Files + AllocGlobal, I: Read + Drop, O: Write, E: Sink, C: Clock, W: Sink>(
     rt: &R,
     asked: WatchImport,
@@ -916,7 +698,7 @@ pub fn import_watch<R: Files + AllocGlobal, I: Read + Drop, O: Write, E: Sink, C
     progress: &Progress<C, W>,
 ) -> u8
     ensures status { IsStatus result }
-    ensures done { result ≡ 0 → Reports (E.contents errors.old) (E.contents errors.new) (E.failures errors.old) (E.failures errors.new) (TellsLogs asked) }
+    ensures done { result ≡ 0 → Reports (E.contents errors.old) (E.contents errors.new) (E.failures errors.old) (E.failures errors.new) (Tells asked) }
     ensures early { result ≢ 0 → (s : Stop) × StopsBy (E.contents errors.old) (E.contents errors.new) (E.failures errors.old) (E.failures errors.new) result s }
 {
     let mut notes = Vec::new(rt.alloc());

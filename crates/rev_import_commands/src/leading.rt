@@ -3,7 +3,8 @@
 ghost use Rattle.std.specs.Prelude.{IfOk};
 ghost use Rattle.rev_classes.specs.Limits.{IsWithinLimits};
 
-use crate::import::{copied, settings_of, setup_by};
+use crate::files::copied;
+use crate::import::{settings_of, setup_by};
 use crate::state::bad_file;
 use rev_choices::Factor;
 use rev_import::setup::Setup;

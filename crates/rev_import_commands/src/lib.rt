@@ -4,8 +4,10 @@
 
 pub mod check;
 mod ending;
+pub mod files;
 pub mod import;
 pub mod imported;
 pub mod leading;
+mod led;
 pub mod state;
 pub mod traces;

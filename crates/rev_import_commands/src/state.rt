@@ -3,7 +3,8 @@ ghost use Rattle.std.specs.Prelude.{◌≡◌, ◌≢◌};
 ghost use Rattle.rev_messages.specs.Ends.{IsStatus, StopsBy};
 ghost use Rattle.rev_messages.specs.declared.stop.Stop.{Stop};
 
-use crate::import::{Names, cannot_write, rename_both, setup_of, text_of};
+use crate::files::{Names, cannot_write, rename_both};
+use crate::import::{setup_of, text_of};
 use rev_import::setup::Setup;
 use rev_intake::report::put_unfollowed;
 use rev_intake::words::put_options;

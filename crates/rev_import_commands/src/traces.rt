@@ -5,11 +5,11 @@ ghost use Rattle.rev_messages.specs.declared.stop.Stop.{Stop};
 ghost use Rattle.rev_import_commands.specs.Importing.{Reports, TellsRows};
 
 use crate::ending::end_import;
-use crate::import::{Making, all_opened, copied, name_in, send};
+use crate::files::{Making, copied, send};
+use crate::import::{all_opened, name_in};
 use rev_choices::{LEAST_PAGE, Rhythm, Sample};
 use rev_classes::{ClassTable, Config, fault_of};
 use rev_intake::fault::RowsFault;
-use rev_intake::outlet::Outlet;
 use rev_intake::report::put_run;
 use rev_intake::row_report::{put_row_report, put_thin};
 use rev_intake::rows::RowIntake;
@@ -19,6 +19,7 @@ use rev_messages::Stop;
 use rev_messages::progress::Progress;
 use rev_options::{CsvImport, STANDARD};
 use rev_output::Sink;
+use rev_transcript::transcript::ScriptOutlet;
 use std::alloc::{AllocError, Global};
 use std::io::{Read, Write};
 use std::rt::{Clock, Files};
@@ -48,7 +49,9 @@ struct Traces<'a, F> {
 }
 
 impl<'a, F: Read + Drop> Making for Traces<'a, F> {
-    fn make<K: Outlet>(self, sink: &mut K) -> Result<(), Stop> {
+    type Made = ();
+
+    fn make<K: ScriptOutlet>(self, sink: &mut K) -> Result<(), Stop> {
         let Traces {
             intake,
             names,

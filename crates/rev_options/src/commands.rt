@@ -154,18 +154,18 @@ static WATCH: [OptionSpec; 6] = [
 static LEADING: [OptionSpec; 3] = [
     OptionSpec {
         name: "free",
-        help: "Changes nothing: the rules alone lead an import, and not the log",
+        help: "The rules alone lead, and not the log",
         ..FLAG
     },
     OptionSpec {
         name: "steps",
         unit: "WHICH",
-        help: "Steps of the LRU maintainer: lean, none, or every:N lines of clients [without it: lean]",
+        help: "Implies --free: steps of the LRU maintainer: lean, none, or every:N lines of clients [without it: lean]",
         ..TEXT
     },
     OptionSpec {
         name: "anyway",
-        help: "Changes nothing: an import goes on where the server has a setting that the rules do not cover",
+        help: "Goes on where the server has a setting that the rules do not cover",
         excludes: Some(&["free", "steps"]),
         ..FLAG
     },
@@ -191,7 +191,10 @@ static WATCHED: [OptionSpec; 5] = [
         default: Some(&["4294967295"]),
         ..NUMBER
     },
-    SAMPLE,
+    OptionSpec {
+        help: "Implies --free, but for 1/1: takes one key of N, and makes pages N times smaller",
+        ..SAMPLE
+    },
     OptionSpec {
         name: "split",
         unit: "SECONDS",
@@ -200,7 +203,7 @@ static WATCHED: [OptionSpec; 5] = [
     },
     OptionSpec {
         name: "check",
-        help: "Also plays the script, and tells how many gets and evictions are as logged",
+        help: "Implies --free: also plays the script, and tells how many gets and evictions are as logged",
         ..FLAG
     },
 ];
@@ -209,11 +212,11 @@ fn watched() -> &'static [OptionSpec] {
     &WATCHED
 }
 
-// Which life of the server it tells.
+// Which life of the server it tells, where the log leads.
 static LIVED: [OptionSpec; 1] = [OptionSpec {
     name: "life",
     unit: "N",
-    help: "Is refused: 1 to 4294967295; the rules alone lead an import, and do not tell the lives of a server apart",
+    help: "Writes the server's life of this number: 1 to 4294967295, the first is 1, and each start of the server begins one [without it: the last]",
     values: ValueParser::Signed(1, 4294967295),
     excludes: Some(&["free", "steps", "check"]),
     ..TEXT

@@ -11,7 +11,7 @@ use crate::trials::what_ifs;
 use rev_classes::{ClassTable, Config, ConfigFault, fault_of};
 use rev_comparisons::agreement::Agreement;
 use rev_comparisons::what_if::WhatIf;
-use rev_import_commands::import::{cannot_write, rename, with_end};
+use rev_import_commands::files::{cannot_write, rename, with_end};
 use rev_intake::report::put_part;
 use rev_intake::words::put_all_options;
 use rev_items::{Key, KeyFault};

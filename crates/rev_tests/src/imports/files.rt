@@ -14,6 +14,12 @@ use std::process::Abort;
 use std::rt::Clock;
 use std::time::Duration;
 
+// A log in which the server is started anew.
+const RESTART: &[u8] =
+    b"ts=100.1 gid=3 type=item_store key=a status=stored cmd=set ttl=0 clsid=1 cfd=1 size=1
+ts=102.1 gid=1 type=item_store key=b status=stored cmd=set ttl=0 clsid=1 cfd=1 size=1
+";
+
 const STATS: &[u8] = b"STAT log_worker_dropped 3\r\nSTAT log_watcher_skipped 9\r\nEND\r\n";
 
 /// A clock that goes on by a second each time it is read.
@@ -38,8 +44,8 @@ fn text(rt: &impl Abort, alloc: Global, text: &str) -> String {
     String::from_str(alloc, text).expect(rt, "no memory")
 }
 
-// What is asked for, with a start in front of this second, if any.
-fn asked(rt: &impl Abort, alloc: Global, split: Option<u32>) -> WatchImport {
+// What is asked for, with a start in front of this second, if any. The log leads, or the rules alone.
+fn asked(rt: &impl Abort, alloc: Global, split: Option<u32>, leads: bool) -> WatchImport {
     let mut logs = Vec::new(alloc);
     logs.push(text(rt, alloc, "log")).expect(rt, "no memory");
     WatchImport {
@@ -47,8 +53,12 @@ fn asked(rt: &impl Abort, alloc: Global, split: Option<u32>) -> WatchImport {
         settings: text(rt, alloc, "settings"),
         stats: Some(text(rt, alloc, "stats")),
         factor: None,
-        leader: Leader::Rules(Rhythm::Lean),
-        free: true,
+        leader: if leads {
+            Leader::Log { anyway: false }
+        } else {
+            Leader::Rules(Rhythm::Lean)
+        },
+        free: !leads,
         life: None,
         first: 0,
         last: u32::MAX,
@@ -73,6 +83,7 @@ fn status_in(
     rt: &impl Abort,
     alloc: Global,
     split: Option<u32>,
+    leads: bool,
     room: &Room,
     output: &mut Vec<u8>,
     errors: &mut Vec<u8>,
@@ -80,7 +91,7 @@ fn status_in(
     let disk = Disk { room };
     import_watch(
         &disk,
-        asked(rt, alloc, split),
+        asked(rt, alloc, split, leads),
         Stutter::new(b""),
         output,
         &mut ToWrite::new(errors),
@@ -89,12 +100,15 @@ fn status_in(
 }
 
 // Each call on a file fails in turn: it is told, and nothing is left of the files. Where none fails, so many are there.
-fn fail_in_turn(rt: &impl Abort, alloc: Global, split: Option<u32>, whole: usize) {
+fn fail_in_turn(rt: &impl Abort, alloc: Global, split: Option<u32>, leads: bool, whole: usize) {
     for turn in 1..100 {
         let room = room(rt, alloc, turn);
+        if leads {
+            room.put("log", RESTART).expect(rt, "no memory");
+        }
         let mut output: Vec<u8> = Vec::new(alloc);
         let mut errors: Vec<u8> = Vec::new(alloc);
-        let status = status_in(rt, alloc, split, &room, &mut output, &mut errors);
+        let status = status_in(rt, alloc, split, leads, &room, &mut output, &mut errors);
         if room.waits() {
             assert!(rt;
                 turn > 10 && status == 0 && room.count_files() == whole,
@@ -114,8 +128,15 @@ fn fail_in_turn(rt: &impl Abort, alloc: Global, split: Option<u32>, whole: usize
 
 #[test]
 fn each_call_fails(rt: HostRuntime) {
-    fail_in_turn(&rt, rt.alloc(), None, 5);
-    fail_in_turn(&rt, rt.alloc(), Some(102), 6);
+    fail_in_turn(&rt, rt.alloc(), None, false, 5);
+    fail_in_turn(&rt, rt.alloc(), Some(102), false, 6);
+}
+
+// The same where the log leads, and the files are emptied for another life of the server.
+#[test]
+fn each_call_of_two_lives_fails(rt: HostRuntime) {
+    fail_in_turn(&rt, rt.alloc(), None, true, 5);
+    fail_in_turn(&rt, rt.alloc(), Some(102), true, 6);
 }
 
 // How far an import has come is told with each read of its log, and then it is taken off the terminal.
@@ -127,7 +148,7 @@ fn progress_by_the_second(rt: HostRuntime) {
     let mut output: Vec<u8> = Vec::new(rt.alloc());
     let status = import_watch(
         &Disk { room: &room },
-        asked(&rt, rt.alloc(), None),
+        asked(&rt, rt.alloc(), None, false),
         Stutter::new(b""),
         &mut output,
         &mut ToWrite::new(io::sink()),
