@@ -122,6 +122,7 @@ impl<A: Allocator + Copy> Driver<A> {
         ensures agrees { IfOk result (λ agreement. agreement ≡ AgreementOf.Agrees → Agreed coming.now.line.event stage.old stage.new) }
     {
         self.time = coming.line.time;
+        self.flushes.reach(coming.number);
         self.set_clock(ahead.seconds().second_of(coming.line.time), stage)?;
         let agreement = self.event(coming, ahead, stage)?;
         self.tally.count(agreement);

@@ -3,11 +3,11 @@
 /// A flush that comes: it is shown by an event that waits.
 #[derive(Clone, Copy)]
 struct Ahead {
-    // an item of this cas number was found before it
+    // an item of this cas number was held before it
     cas: u64,
     // items up to this cas number were stored before it
     stored: u64,
-    // the number of the event that says so
+    // the number of the event that says that the item was flushed
     shown: u64,
 }
 
@@ -38,33 +38,44 @@ impl Flushes {
         cas <= self.known
     }
 
-    /// An item of this cas number was flushed. Where the flush that comes is that one, all items are that were stored
-    /// before it.
-    pub fn note(&mut self, cas: u64) {
-        self.known = self.known.max(cas);
-        if let Some(ahead) = self.ahead {
-            if ahead.cas <= self.known {
-                self.known = self.known.max(ahead.stored);
-                self.ahead = None;
-            }
+    // The flush that was to come has come.
+    fn come(&mut self, ahead: Ahead) {
+        self.known = self.known.max(ahead.stored);
+        self.ahead = None;
+    }
+
+    /// The event of this number is played. Where it shows the flush that was to come, that has come.
+    pub fn reach(&mut self, number: u64) {
+        match self.ahead {
+            Some(ahead) if ahead.shown <= number => self.come(ahead),
+            _ => {}
         }
     }
 
-    /// An item of this cas number was found, where items up to `stored` were stored, and the event of the number `shown`
+    /// An item of this cas number was flushed. Where the flush that was to come let that one go, it has come.
+    pub fn note(&mut self, cas: u64) {
+        self.known = self.known.max(cas);
+        match self.ahead {
+            Some(ahead) if self.has(ahead.cas) => self.come(ahead),
+            _ => {}
+        }
+    }
+
+    /// An item of this cas number is held, where items up to `stored` were stored, and the event of the number `shown`
     /// is the next of its key, and says that it was flushed.
     pub fn expect(&mut self, cas: u64, stored: u64, shown: u64) {
-        if self.has(cas) {
-            return;
-        }
-        self.ahead = Some(match self.ahead {
+        match self.ahead {
+            None => self.ahead = Some(Ahead { cas, stored, shown }),
             // both items are held, so the same flush lets both go
-            Some(ahead) if cas <= ahead.stored => Ahead {
-                cas: cas.min(ahead.cas),
-                stored,
-                shown: shown.min(ahead.shown),
-            },
-            _ => Ahead { cas, stored, shown },
-        });
+            Some(ahead) if cas <= ahead.stored => {
+                self.ahead = Some(Ahead {
+                    cas: cas.min(ahead.cas),
+                    stored,
+                    shown: shown.min(ahead.shown),
+                });
+            }
+            _ => {}
+        }
     }
 
     /// Whether a flush comes that lets an item of this cas number go, and that an event in front of this one shows.

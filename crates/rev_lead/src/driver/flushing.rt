@@ -46,10 +46,18 @@ impl<A: Allocator + Copy> Driver<A> {
         self.flushes.comes_before(held.header.cas, next.number) || ends_flushed(Some(next), ahead)
     }
 
-    // The item is found, and the next event of its key says that it was flushed.
-    pub(super) fn expect_flush(&mut self, held: Holding, next: &Coming<A>, stage: &Stage<A>) {
-        let stored = stage.store().globals().last_cas;
-        self.flushes.expect(held.header.cas, stored, next.number);
+    // The key is held: where its next event says that it was flushed, a flush comes.
+    pub(super) fn expect_flush(&mut self, key: &Key<A>, ahead: &Foresight<A>, stage: &Stage<A>) {
+        let Some(next) = ahead.first_of(key) else {
+            return;
+        };
+        if next_of(Some(next)) != Next::Flushed {
+            return;
+        }
+        if let Some(held) = holding_of(stage.store(), key) {
+            let stored = stage.store().globals().last_cas;
+            self.flushes.expect(held.header.cas, stored, next.number);
+        }
     }
 
     // Whether the key's item is known to be flushed.
@@ -66,15 +74,41 @@ impl<A: Allocator + Copy> Driver<A> {
         is_found(stage, key, class) && !self.is_flushed(key, stage)
     }
 
-    // The key's item was flushed, and its chunk was used: no line shows that.
+    // The key's item was flushed: it is dead from here on.
     #[tactic(auto, using(crate::proofs::Leading::led_more, crate::proofs::Leading::led_same))]
-    pub(super) fn flush(&mut self, key: &Key<A>, stage: &mut Stage<A>) -> Result<(), LeadFault>
+    fn end_flushed(&mut self, key: &Key<A>, stage: &mut Stage<A>) -> Result<(), LeadFault>
         ensures led { Led stage.old stage.new }
     {
         self.tally.adjust(Adjustment::Flushed);
         stage.play(touch(self.alloc, key, -1)?, Role::Flush)?;
+        Ok(())
+    }
+
+    // The key's item was flushed, and it is gone: no client's look-up meets it.
+    #[tactic(auto, using(crate::proofs::Leading::led_more, crate::proofs::Leading::led_same))]
+    pub(super) fn flush(&mut self, key: &Key<A>, stage: &mut Stage<A>) -> Result<(), LeadFault>
+        ensures led { Led stage.old stage.new }
+    {
+        self.end_flushed(key, stage)?;
         stage.play(get(self.alloc, key)?, Role::Flush)?;
         Ok(())
+    }
+
+    // The key's item was flushed, and a look-up misses it: a client's, or another command's, which plays nothing.
+    #[tactic(auto, using(crate::proofs::Leading::led_more, crate::proofs::Leading::led_same))]
+    pub(super) fn lose_flushed(
+        &mut self,
+        is_other: bool,
+        key: &Key<A>,
+        stage: &mut Stage<A>,
+    ) -> Result<(), LeadFault>
+        ensures led { Led stage.old stage.new }
+    {
+        if is_other {
+            self.flush(key, stage)
+        } else {
+            self.end_flushed(key, stage)
+        }
     }
 
     // An item of the class that is known to be flushed, and that no later line finds, unless a page comes.

@@ -11,7 +11,7 @@ use crate::agreeing::{Agreement, Disagreement, agrees_if, is_found, is_held_aliv
 use crate::holding::{Holding, holding_of};
 use crate::role::Role;
 use crate::stage::{LeadFault, Stage};
-use crate::steps::{delete, exptime_at, failed_set, touch};
+use crate::steps::{delete, exptime_at, failed_set};
 use crate::tally::Adjustment;
 use crate::wanting::{Next, next_of};
 use rev_items::Key;
@@ -134,7 +134,7 @@ impl<A: Allocator + Copy> Driver<A> {
             Next::NotFound if lives_on && !self.is_flushed_before(held, next, ahead) =>
                 self.delete_or_get(key, held, next, ahead, stage),
             Next::Flushed => {
-                self.expect_flush(held, next, stage);
+                self.expect_flush(key, ahead, stage);
                 self.get(key, stage)
             }
             Next::Expired if lives_on => self.touch(key, exptime_at(u64::from(second)), stage),
@@ -256,9 +256,8 @@ impl<A: Allocator + Copy> Driver<A> {
             self.flushes.note(held.header.cas);
         }
         if self.flushes.has(held.header.cas) {
-            self.tally.adjust(Adjustment::Flushed);
-            stage.play(touch(self.alloc, key, -1)?, Role::Flush)?;
-            return Ok(());
+            let is_other = coming.own || self.failing.has(key);
+            return self.lose_flushed(is_other, key, stage);
         }
         let shown = coming.line.time;
         self.let_go(key, held.class, Adjustment::DeletedAtMiss, shown, stage)

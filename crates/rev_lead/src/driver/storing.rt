@@ -175,6 +175,7 @@ impl<A: Allocator + Copy> Driver<A> {
         let evicted = self.waiting.take_all_of(storing.class)?;
         let role = self.clear_way(key, evicted.as_slice(), storing.class, ahead, stage)?;
         let agreement = self.put_alone(key, storing, role, evicted.as_slice(), stage)?;
+        self.expect_flush(key, ahead, stage);
         self.juggle(storing.class, ahead, stage)?;
         Ok(agreement)
     }
