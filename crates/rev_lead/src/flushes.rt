@@ -61,6 +61,15 @@ impl Flushes {
         }
     }
 
+    /// An item of this cas number is found, where items up to `stored` were stored: a flush that is to let it go has not
+    /// come yet.
+    pub fn find(&mut self, cas: u64, stored: u64) {
+        match &mut self.ahead {
+            Some(ahead) if cas <= ahead.stored => ahead.stored = stored,
+            _ => {}
+        }
+    }
+
     /// An item of this cas number is held, where items up to `stored` were stored, and the event of the number `shown`
     /// is the next of its key, and says that it was flushed.
     pub fn expect(&mut self, cas: u64, stored: u64, shown: u64) {

@@ -46,6 +46,12 @@ impl<A: Allocator + Copy> Driver<A> {
         self.flushes.comes_before(held.header.cas, next.number) || ends_flushed(Some(next), ahead)
     }
 
+    // The item is found: no flush has let it go.
+    pub(super) fn find_unflushed(&mut self, held: Holding, stage: &Stage<A>) {
+        let stored = stage.store().globals().last_cas;
+        self.flushes.find(held.header.cas, stored);
+    }
+
     // The key is held: where its next event says that it was flushed, a flush comes.
     pub(super) fn expect_flush(&mut self, key: &Key<A>, ahead: &Foresight<A>, stage: &Stage<A>) {
         let Some(next) = ahead.first_of(key) else {

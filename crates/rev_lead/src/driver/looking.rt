@@ -107,10 +107,14 @@ impl<A: Allocator + Copy> Driver<A> {
     {
         match (holding_of(stage.store(), key), ahead.first_of(key)) {
             (Some(held), None) => {
+                self.find_unflushed(held, stage);
                 self.candidates.note(held.class, key)?;
                 self.get(key, stage)
             }
-            (Some(held), Some(next)) => self.hit_before(key, held, next, ahead, stage),
+            (Some(held), Some(next)) => {
+                self.find_unflushed(held, stage);
+                self.hit_before(key, held, next, ahead, stage)
+            }
             (None, _) => self.get(key, stage),
         }
     }
