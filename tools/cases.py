@@ -18,9 +18,13 @@ A case is a folder with these files:
     in.NAME   in place of it, lines, each of which stands in the file NAME. A page is then also well-formed, and has no
               script and no address
     cut       with the line `after each byte`, where the log is also cut after each byte
+    handles   a number: so many files the program may have open at once, its three streams too. No log is read from the
+              standard input then
 
-All others are the files that the program is run beside. Two names stand for what would be long, or many:
+All others are the files that the program is run beside. Some names stand for what is no file, would be long, or many:
 
+    NAME.folder stands for a folder NAME, in which nothing is.
+    NAME.link   stands for a symbolic link NAME. The name that it leads to is the line in it.
     NAME.rows   stands for NAME. A line `* N TEXT` of it is N lines TEXT, each with its number, from 1 on, in the place
                 of each `#` and an end of a line in that of each `\\r\\n`. A line `* N` is one of N `x`.
     NAME.each   has many files NAME, each a case. The lines behind `> ` are those of NAME, `>* N` is a line of N `x`,
@@ -29,11 +33,14 @@ All others are the files that the program is run beside. Two names stand for wha
 
 A log of an import, or its trace, is a word that names a file and stands behind no option. Each case is run on its
 files, and with the script on the standard output, unless that can't be: where the script has a start, or one life of
-several is written and none was asked for. What is read from the standard input comes at once and byte by byte.
+several is written and none was asked for, or a file of PREFIX can't be written. What is read from the standard input
+comes at once and byte by byte.
 An import of a single log also gets it from there: at once, byte by byte and in pieces of some other sizes, to files and
 to the standard output, and at status 0 with a read that fails at its end. At status 2 a read that fails at once changes
 nothing, since none is made. At status 0 a write to the standard output that fails is told, with status 4: behind what
 is told of the traces of `open`. No file is left but those that are named above, and these only at status 0.
+Folders and links are left too. But a link PREFIX.NAME.part is what the program writes to, and is gone where the status
+is not 0.
 
 Where a log is cut after whole lines, of which one tells an event, it becomes a script of whole lines, and the options
 are the same; where there is none, `no event` is told. What stands of a line behind them changes nothing but that a
@@ -42,17 +49,20 @@ line more was read, which was cut off. A cut log is read from its file, and byte
 import glob
 import os
 import re
+import shutil
 from functools import partial
 from xml.etree import ElementTree
 
 OUTPUTS = ("stdout", "most", "end", "like")
-RESERVED = ("words", "status", "stderr", "has", "stdin", *OUTPUTS, "script", "start", "options", "cut")
+RESERVED = ("words", "status", "stderr", "has", "stdin", *OUTPUTS, "script", "start", "options", "cut", "handles")
 STANDARD = "-"
 # The sizes of the pieces in which a log comes, and the longest log that is read in pieces.
 SIZES = (1, 2, 3, 5, 64, 4096)
 LONG = 65536
 # How lines begin that stand before the options, where an import tells these: of what was made of its settings.
 FIRST_TOLD = (b"settings: ", b"sample: pages of ")
+# What stands in the place of the bytes of a file where a folder is, or a link.
+FOLDER, LINK = "a folder", "a link to "
 # How names of files begin that say what is left, and what ends the name of a page.
 MADE, IN = "made.", "in."
 PAGE = ".html"
@@ -61,6 +71,34 @@ PAGE = ".html"
 def read(file):
     with open(file, "rb") as it:
         return it.read()
+
+
+def put(name, it):
+    """Makes a file of bytes, or a folder or a link."""
+    if it == FOLDER:
+        os.mkdir(name)
+    elif isinstance(it, str):
+        os.symlink(it.removeprefix(LINK), name)
+    else:
+        with open(name, "wb") as file:
+            file.write(it)
+
+
+def left(name):
+    """What is there: the bytes of a file, or the words for a folder or a link."""
+    if os.path.islink(name):
+        return LINK + os.readlink(name)
+    if os.path.isdir(name):
+        return " with ".join([FOLDER, *os.listdir(name)])
+    return read(name)
+
+
+def take_away(name):
+    """Takes away a file, a link, or a folder with all that is in it."""
+    if os.path.isdir(name) and not os.path.islink(name):
+        shutil.rmtree(name)
+    else:
+        os.remove(name)
 
 
 def rows(text):
@@ -152,6 +190,9 @@ def is_told(text, wanted):
 
 def first_difference(found, wanted):
     """The first line that is another."""
+    if isinstance(found, str) or isinstance(wanted, str):
+        found, wanted = (it if isinstance(it, str) else "a file" for it in (found, wanted))
+        return f"it is {found}, and {wanted} is wanted"
     found, wanted = found.split(b"\n"), wanted.split(b"\n")
     at = next((it for it, (is_so, should) in enumerate(zip(found, wanted)) if is_so != should), None)
     if at is None:
@@ -172,11 +213,13 @@ class Case:
         self.has = (known.get("has") or b"").splitlines()
         self.made, self.lines = (known.get(it, {}) for it in (MADE, IN))
         self.prefix = next((b for a, b in zip(words, words[1:]) if a == "--out" and words[0] == "import"), None)
-        logs = [b for a, b in zip(words, words[1:]) if b in files and not a.startswith("--")]
+        logs = [b for a, b in zip(words, words[1:]) if isinstance(files.get(b), bytes) and not a.startswith("--")]
         self.log = logs[0] if len(logs) == 1 and words[0] == "import" else None
         has_start = self.start is not None or "--split" in words
         has_lives = b"\nlife: " in self.err and "--life" not in words
-        self.is_in_files = has_start or has_lives
+        is_refused = self.prefix is not None and self.err.startswith(b"lrudb: %s." % self.prefix.encode())
+        self.is_in_files = has_start or has_lives or is_refused
+        self.handles = int(known["handles"]) if known.get("handles") else None
         if self.status == 0 and self.prefix and self.script is None and not has_start:
             raise ValueError(f"{name}: no script is wanted")
 
@@ -192,15 +235,16 @@ class Case:
         """Each word, behind the one before it."""
         return zip(["", *self.words], self.words)
 
-    @staticmethod
-    def started(runner, words, files, log, size=None, fails=False, output=None):
+    def started(self, runner, words, files, log, size=None, fails=False, output=None):
         for it in os.listdir():
-            os.remove(it)
-        for name, text in files.items():
-            with open(name, "wb") as it:
-                it.write(text)
-        ran = runner.in_pieces(words, log, size, fails) if size else runner.at_once(words, log, output)
-        return End(ran.status, ran.out, ran.err, {it: read(it) for it in os.listdir()})
+            take_away(it)
+        for name, it in files.items():
+            put(name, it)
+        if size:
+            ran = runner.in_pieces(words, log, size, fails)
+        else:
+            ran = runner.at_once(words, log, output, self.handles)
+        return End(ran.status, ran.out, ran.err, {it: left(it) for it in os.listdir()})
 
     def wanted(self, is_standard=False, out=None, err=None):
         """How it is to end."""
@@ -209,13 +253,20 @@ class Case:
         files = {name: it for name, it in self.files.items() if not is_standard or name != self.log}
         if is_standard and self.status:
             err = re.sub(rb"\Alrudb: %s: " % re.escape(self.log.encode()), b"lrudb: -: ", err)
-        if self.status or not out:
-            return End(self.status, self.output, err, files if self.status else {**files, **self.made})
+        if self.status:
+            return End(self.status, self.output, err, {name: it for name, it in files.items() if not self.is_part(name)})
+        if not out:
+            return End(0, self.output, err, {**files, **self.made})
         if out == STANDARD:
             return End(0, self.script, err if self.prefix == out else self.beside_script(err), files)
         made = {"start": self.start, "script": self.script, "options": self.options}
         texts = {f"{out}.{end}": text for end, text in made.items() if text is not None}
         return End(0, self.output, err, {**files, **texts})
+
+    def is_part(self, name):
+        """Whether this is a link that the program writes to."""
+        is_link = self.files[name] != FOLDER and isinstance(self.files[name], str)
+        return is_link and name.startswith(f"{self.prefix}.") and name.endswith(".part")
 
     def beside_script(self, err):
         """What is told where the script goes to the standard output: the options too, and no files."""
@@ -228,7 +279,7 @@ class Case:
     def tasks(self):
         """What is to be tried, each a function of a runner that returns what is wrong."""
         made = [self.fault_on_files]
-        if self.log and len(self.files[self.log]) <= LONG:
+        if self.log and len(self.files[self.log]) <= LONG and not self.handles:
             made.append(self.fault_on_input)
         if self.is_cut:
             log, at = self.files[self.log], 0
@@ -367,6 +418,10 @@ def cases_of(folder):
             files[base] = rows(text)
         elif end == "each":
             many[base] = each(text)
+        elif end == "folder":
+            files[base] = FOLDER
+        elif end == "link":
+            files[base] = LINK + text.decode().rstrip("\n")
         else:
             files[name] = text
     known = {name: files.pop(name, None) for name in RESERVED}

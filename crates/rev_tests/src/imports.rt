@@ -1,8 +1,5 @@
-//! Logs of a cache, taken in and made into scripts, where a read is interrupted, or a write or a file's call fails.
-//! What becomes of other logs, and of traces, stands in `worked/imports`.
-mod disk;
-mod files;
-
+//! Logs of a cache, taken in and made into scripts, where a read is interrupted, or a write fails. What becomes of
+//! other logs, of traces, and where a file can't be read or written, stands in `worked/imports`.
 use crate::streams::{Narrow, Stutter};
 use rev_choices::{Rhythm, Sample};
 use rev_import::setup::{Setup, follow};
@@ -18,8 +15,8 @@ use std::alloc::Global;
 use std::io::{Read, Write};
 use std::process::Abort;
 
-/// What a memcached 1.6.18 of 64 megabytes says of its settings, as far as it is read.
-pub const SETTINGS: &[u8] =
+// What a memcached 1.6.18 of 64 megabytes says of its settings, as far as it is read.
+const SETTINGS: &[u8] =
     b"STAT maxbytes 67108864\r\nSTAT growth_factor 1.25\r\nSTAT chunk_size 48\r\nSTAT item_size_max 1048576\r\nSTAT slab_chunk_max 524288\r\nSTAT hot_lru_pct 20\r\nSTAT warm_lru_pct 40\r\nSTAT hot_max_factor 0.20\r\nSTAT warm_max_factor 2.00\r\nSTAT temp_lru no\r\nSTAT temporary_ttl 61\r\nEND\r\n";
 
 /// A log with what may stand in one: an answer in front, lines out of the order of their numbers, one number twice, an

@@ -1,5 +1,5 @@
 //! The tests that cross crates: cut input, failing readers and writers, the class table, data blocks in each dialect,
-//! imports, want of memory, recordings on threads; and fast paths beside plain ones.
+//! imports, what is told as a file is read, want of memory, recordings on threads; and fast paths beside plain ones.
 #![tactic(auto)]
 
 #[cfg(test)]
@@ -18,6 +18,8 @@ mod mentions;
 mod owned;
 #[cfg(test)]
 mod players;
+#[cfg(test)]
+mod progress;
 #[cfg(test)]
 mod recorder;
 #[cfg(test)]
