@@ -4,7 +4,8 @@ use Rattle.std.specs.List.{slice_get}
 use Rattle.std.specs.Option.{option_map}
 use Rattle.std.proofs.lemmas.Option.{slice_get-map, slice_get-get_or}
 use Rattle.std.proofs.lemmas.List.{length-map, get_or_push}
-use Rattle.rev_lives.specs.Lives.{PlainKey, PlainEnded, is_unlogged, last_ended, is_doubtful, gone_on, reopened}
+use Rattle.rev_lives.specs.Lives.{PlainKey, PlainEnded, is_unlogged, last_ended, is_doubtful, gone_on, reopened, noted_of, noted}
+use Rattle.rev_lives.specs.Pushed.{PlainPushed}
 use Rattle.rev_lives.specs.Verdicts.{is_logged}
 
 pub last-map : {X Y : Type 0} (f : X → Y) (xs : List X) → slice_get (map f xs) (length (map f xs) - 1) ≡ option_map f (slice_get xs (length xs - 1))
@@ -32,3 +33,9 @@ reopened-push k ys e is d =
     ap (λ b. cond b (gone_on k (slice_get k.ended (length k.ended - 1))) k) d
     ∙ ap (gone_on k) (ap (λ xs. slice_get xs (length xs - 1)) is ∙ last-push ys e)
     ∙ ap (λ xs. record k { ended = xs; held = Some e.life }) (ap (λ xs. take (length xs - 1) xs) is ∙ others-push ys e)
+
+-- who pushed it out is noted at the last one
+pub noted-push : (p : PlainPushed) (k : PlainKey) (ys : List PlainEnded) (e : PlainEnded) → k.ended ≡ ys ++ e ∷ [] → noted p k ≡ record k { ended = ys ++ record e { pushed = Some p } ∷ [] }
+noted-push p k ys e is =
+    ap (noted_of p k) (ap (λ xs. slice_get xs (length xs - 1)) is ∙ last-push ys e)
+    ∙ ap (λ xs. record k { ended = xs ++ record e { pushed = Some p } ∷ [] }) (ap (λ xs. take (length xs - 1) xs) is ∙ others-push ys e)

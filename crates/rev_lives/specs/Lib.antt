@@ -3,6 +3,7 @@ pub mod Words
 pub mod Times
 pub mod Alive
 pub mod Heard
+pub mod Pushed
 pub mod Lives
 pub mod Blame
 pub mod Class
@@ -11,6 +12,9 @@ pub mod Told
 pub mod Leaving
 pub mod Pieces
 pub mod Parts
+pub mod Joins
+pub mod PushedTexts
+pub mod PushedLines
 pub mod Texts
 pub mod Lines
 pub mod Filter

@@ -3,9 +3,12 @@
 use Rattle.std.specs.Prelude.{ℕ, Bool, true, false, List, [], ◌∷◌, ◌++◌, Option, Some, None, decimal, codes, cond, length, ◌==◌}
 use Rattle.json.specs.Token.{Token, begin_object, end_object, begin_array, end_array, key, string, number, null}
 use Rattle.rev_watch.specs.declared.event.Timestamp.{Timestamp}
+pub use Rattle.rev_lives.specs.Joins.{behind}
 use Rattle.rev_lives.specs.Leaving.{PlainLeaving}
 use Rattle.rev_lives.specs.Lives.{PlainCulprit, PlainLeft, PlainLife, PlainEnded, plain_life, plain_ended, lived, idle}
 use Rattle.rev_lives.specs.Parts.{key_tokens, connection_token, class_token, seconds_token, time_token, with_line}
+use Rattle.rev_lives.specs.Pushed.{PlainPushed}
+use Rattle.rev_lives.specs.PushedLines.{with_pushed}
 use Rattle.rev_lives.specs.Times.{time_text, seconds_text}
 use Rattle.rev_lives.specs.Words.{reason_word, evidence_word, queue_word}
 use Rattle.rev_lives.specs.declared.life.Ended.{Ended}
@@ -13,11 +16,6 @@ use Rattle.rev_lives.specs.declared.life.KeyLives.{KeyLives}
 use Rattle.rev_lives.specs.declared.life.Life.{Life}
 use Rattle.rev_lives.specs.declared.life.Stored.{Stored}
 use Rattle.rev_lives.specs.declared.life.Moved.{Moved}
-
--- tokens behind tokens
-abbrev pub behind : List Token → List (List Token) → List Token
-behind old [] = old
-behind old (x ∷ xs) = behind (old ++ x) xs
 
 -- which step pushed a key out
 abbrev pub culprit_tokens : Option PlainCulprit → List Token
@@ -79,8 +77,9 @@ end_tokens l =
     ∷ key (codes "cause") ∷ string (reason_word l.verdict.reason) ∷ key (codes "evidence") ∷ string (evidence_word l.verdict.evidence)
     ∷ key (codes "after") ∷ time_token l.after ∷ key (codes "before") ∷ time_token l.before ∷ []
 
-abbrev pub left_parts : PlainLeft → List (List Token)
-left_parts l = end_tokens l ∷ culprit_tokens l.culprit ∷ (end_object ∷ []) ∷ []
+-- tokens with how it ended and who pushed the key out behind them
+abbrev pub with_left : List Token → PlainLeft → Option PlainPushed → List Token
+with_left old l p = with_pushed (behind old (end_tokens l ∷ culprit_tokens l.culprit ∷ [])) p ++ end_object ∷ []
 
 -- it has not ended
 abbrev pub held_tokens : List Token
@@ -92,7 +91,7 @@ spans_tokens lasted quiet = key (codes "lived") ∷ seconds_token lasted ∷ key
 
 -- the object of a life that has ended, and of one that has not
 abbrev pub ended_tokens : List ℕ → PlainEnded → List Token
-ended_tokens k e = behind (behind [] (life_parts k e.life)) (left_parts e.left) ++ spans_tokens (lived e.life.stored e.left.time) (idle e.life.used e.left.time)
+ended_tokens k e = with_left (behind [] (life_parts k e.life)) e.left e.pushed ++ spans_tokens (lived e.life.stored e.left.time) (idle e.life.used e.left.time)
 
 abbrev pub held_life_tokens : List ℕ → PlainLife → Timestamp → List Token
 held_life_tokens k l now = (behind [] (life_parts k l) ++ held_tokens) ++ spans_tokens (lived l.stored now) (idle l.used now)

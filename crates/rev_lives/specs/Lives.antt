@@ -1,9 +1,10 @@
 -- The lives of a key, and what becomes of them.
 -- Rule of this project: a store begins a life, and a look-up that finds the key or a move is part of it. It ends when
 -- the key leaves, or when new data are stored in its place.
-use Rattle.std.specs.Prelude.{ℕ, ℤ, ◌+◌, ◌-◌, ◌^◌, nat_le, min, Bool, false, cond, List, [], ◌∷◌, ◌++◌, length, drop, take, map, slice_get, not, Option, Some, None}
+use Rattle.std.specs.Prelude.{ℕ, ℤ, ◌+◌, ◌-◌, ◌^◌, ◌==◌, nat_le, min, Bool, true, false, ◌&&◌, is_some, cond, List, [], ◌∷◌, ◌++◌, length, drop, take, map, slice_get, not, Option, Some, None}
 use Rattle.std.specs.Option.{option_map}
 use Rattle.rev_watch.specs.declared.event.Timestamp.{Timestamp}
+use Rattle.rev_lives.specs.Pushed.{PlainPushed, plain_pushed}
 use Rattle.rev_lives.specs.Times.{between}
 use Rattle.rev_lives.specs.Verdicts.{is_logged}
 use Rattle.rev_lives.specs.declared.life.Stored.{Stored}
@@ -13,6 +14,8 @@ use Rattle.rev_lives.specs.declared.life.Left.{Left}
 use Rattle.rev_lives.specs.declared.life.Life.{Life}
 use Rattle.rev_lives.specs.declared.life.Ended.{Ended}
 use Rattle.rev_lives.specs.declared.life.KeyLives.{KeyLives}
+use Rattle.rev_lives.specs.declared.verdict.Reason.{Reason}
+use Rattle.rev_lives.specs.declared.verdict.Reason.TheVariants as reasons
 use Rattle.rev_lives.specs.declared.verdict.Verdict.{Verdict}
 
 -- ---- lives without an allocator
@@ -43,6 +46,7 @@ pub record PlainLife : Type 0 where
 pub record PlainEnded : Type 0 where
   pub life : PlainLife
   pub left : PlainLeft
+  pub pushed : Option PlainPushed
 
 pub record PlainKey : Type 0 where
   pub key : List ℕ
@@ -61,7 +65,7 @@ abbrev pub plain_life : {A : Type 0} → Life A → PlainLife
 plain_life l = record { number = l.number; stored = l.stored; over = l.over; hits = l.hits; used = l.used; moves = l.moves.items; moved = l.moved }
 
 abbrev pub plain_ended : {A : Type 0} → Ended A → PlainEnded
-plain_ended e = record { life = plain_life e.life; left = plain_left e.left }
+plain_ended e = record { life = plain_life e.life; left = plain_left e.left; pushed = option_map plain_pushed e.pushed }
 
 abbrev pub plain_key : {A : Type 0} → KeyLives A → PlainKey
 plain_key k = record { key = k.key; named = k.named; count = k.count; ended = map plain_ended k.ended.items; held = option_map plain_life k.held }
@@ -105,7 +109,7 @@ unknown k = record { key = k; named = None; count = 0; ended = []; held = None }
 -- the life, where there is one, ends
 abbrev pub closed : PlainLeft → PlainKey → Option PlainLife → PlainKey
 closed left k None = k
-closed left k (Some l) = record k { ended = k.ended ++ record { life = l; left = left } ∷ []; held = None }
+closed left k (Some l) = record k { ended = k.ended ++ record { life = l; left = left; pushed = None } ∷ []; held = None }
 
 -- the life that has not ended ends
 abbrev pub ended_by : PlainLeft → PlainKey → PlainKey
@@ -136,6 +140,29 @@ gone_on k (Some e) = record k { ended = take (length k.ended - 1) k.ended; held 
 -- it goes on, where it ended by what the log does not say
 abbrev pub reopened : PlainKey → PlainKey
 reopened k = cond (is_doubtful k) (gone_on k (slice_get k.ended (length k.ended - 1))) k
+
+-- a key that left so was evicted
+abbrev pub is_eviction : Reason → Bool
+is_eviction reasons.Evicted = true
+is_eviction reasons.EvictedByMover = true
+is_eviction r = false
+
+-- the life has this number and was evicted, and it is not known yet who pushed the key out
+abbrev pub wants : ℕ → Option PlainEnded → Bool
+wants n None = false
+wants n (Some e) = e.life.number == n && not (is_some e.pushed) && is_eviction e.left.verdict.reason
+
+-- the last life that has ended
+abbrev pub wants_pushed : ℕ → PlainKey → Bool
+wants_pushed n k = wants n (slice_get k.ended (length k.ended - 1))
+
+-- it is known who pushed the key out at the end of that life
+abbrev pub noted_of : PlainPushed → PlainKey → Option PlainEnded → PlainKey
+noted_of p k None = k
+noted_of p k (Some e) = record k { ended = take (length k.ended - 1) k.ended ++ record e { pushed = Some p } ∷ [] }
+
+abbrev pub noted : PlainPushed → PlainKey → PlainKey
+noted p k = noted_of p k (slice_get k.ended (length k.ended - 1))
 
 -- a look-up found the key
 abbrev pub hit : Timestamp → PlainKey → PlainKey

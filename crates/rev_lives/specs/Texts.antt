@@ -1,11 +1,13 @@
 -- What is told of keys, as text for people.
 -- Rule of this project: short lines. A key that left is a line; a life is a line, one for its moves where there were any,
--- and one for its end.
+-- one for its end, and those that tell who pushed the key out.
 use Rattle.std.specs.Prelude.{ℕ, Bool, ◌==◌, if◌then◌else◌, List, [], ◌∷◌, ◌++◌, Option, Some, None, decimal, codes, cond, length, ◌-◌, slice_get}
 use Rattle.rev_watch.specs.declared.event.Timestamp.{Timestamp}
+pub use Rattle.rev_lives.specs.Joins.{joined, behind}
 use Rattle.rev_lives.specs.Leaving.{PlainLeaving}
 use Rattle.rev_lives.specs.Lives.{PlainCulprit, PlainLeft, PlainLife, PlainEnded, plain_life, plain_ended, lived, idle}
 use Rattle.rev_lives.specs.Pieces.{connection_text, class_text}
+use Rattle.rev_lives.specs.PushedTexts.{with_pushed}
 use Rattle.rev_lives.specs.Times.{time_text, tenths_text}
 use Rattle.rev_lives.specs.Words.{reason_word, evidence_word, queue_word}
 use Rattle.rev_lives.specs.declared.life.Ended.{Ended}
@@ -13,16 +15,6 @@ use Rattle.rev_lives.specs.declared.life.KeyLives.{KeyLives}
 use Rattle.rev_lives.specs.declared.life.Life.{Life}
 use Rattle.rev_lives.specs.declared.life.Stored.{Stored}
 use Rattle.rev_lives.specs.declared.life.Moved.{Moved}
-
--- texts, one behind another
-abbrev pub joined : List (List ℕ) → List ℕ
-joined [] = []
-joined (x ∷ xs) = x ++ joined xs
-
--- texts behind a text
-abbrev pub behind : List ℕ → List (List ℕ) → List ℕ
-behind old [] = old
-behind old (x ∷ xs) = behind (old ++ x) xs
 
 -- a moment
 abbrev pub at : Timestamp → List ℕ
@@ -118,7 +110,7 @@ life_parts k l = stored_text k l ∷ moves_text l ∷ []
 
 -- a text with a life behind it that has ended, and with one that has not ended now
 abbrev pub with_ended : List ℕ → List ℕ → PlainEnded → List ℕ
-with_ended old k e = behind (with_left (behind old (life_parts k e.life)) e.left) (spans_parts e.life e.left.time)
+with_ended old k e = with_pushed (behind (with_left (behind old (life_parts k e.life)) e.left) (spans_parts e.life e.left.time)) e.life.stored e.pushed
 
 abbrev pub with_held : List ℕ → List ℕ → PlainLife → Timestamp → List ℕ
 with_held old k l now = behind (behind old (life_parts k l) ++ joined (codes "  held at the end " ∷ at now ∷ [])) (spans_parts l now)

@@ -2,9 +2,11 @@
 ghost use Rattle.std.specs.Prelude.{◌≡◌, IfOk, OnOk, OnErr};
 ghost use Rattle.rev_lives.specs.Lives as rule;
 ghost use Rattle.rev_lives.specs.Lives.{plain_life, plain_left, plain_key};
+ghost use Rattle.rev_lives.specs.Pushed.{plain_pushed};
 
+use crate::pushed::PushedBy;
 use crate::times::between;
-use crate::verdict::Verdict;
+use crate::verdict::{Reason, Verdict};
 use rev_items::Key;
 use rev_model::Queue;
 use rev_watch::event::Timestamp;
@@ -77,6 +79,8 @@ pub struct Life<A: Allocator> {
 pub struct Ended<A: Allocator> {
     pub life: Life<A>,
     pub left: Left<A>,
+    /// Who pushed the key out, where it was evicted and that is known.
+    pub pushed: Option<PushedBy<A>>,
 }
 
 /// What is known of a key that is asked for.
@@ -91,6 +95,16 @@ pub struct KeyLives<A: Allocator> {
     pub ended: Vec<Ended<A>, A>,
     /// Its life that has not.
     pub held: Option<Life<A>>,
+}
+
+// Whether a key that left so was evicted.
+fn is_eviction(reason: Reason) -> bool
+    ensures { result ≡ rule.is_eviction reason }
+{
+    match reason {
+        Reason::Evicted | Reason::EvictedByMover => true,
+        _ => false,
+    }
 }
 
 impl<A: Allocator> Life<A> {
@@ -176,7 +190,12 @@ impl<A: Allocator + Copy> KeyLives<A> {
     {
         match self.held.take() {
             Some(life) => {
-                self.ended.push(Ended { life, left })?;
+                let ended = Ended {
+                    life,
+                    left,
+                    pushed: None,
+                };
+                self.ended.push(ended)?;
                 Ok(())
             }
             None => {
@@ -220,11 +239,57 @@ impl<A: Allocator + Copy> KeyLives<A> {
             return;
         }
         match self.ended.pop() {
-            Some(Ended { life, left }) => {
+            Some(Ended { life, left, pushed }) => {
                 drop(left);
+                drop(pushed);
                 self.held = Some(life);
             }
             None => {}
+        }
+    }
+
+    /// Whether the last life that ended has this number and was evicted, and it is not known yet who pushed the key out.
+    pub fn wants_pushed(&self, number: u64) -> bool
+        ensures { result ≡ rule.wants_pushed number (plain_key self.now) }
+    {
+        match self.ended.last() {
+            Some(ended) => {
+                ended.life.number == number
+                    && ended.pushed.is_none()
+                    && is_eviction(ended.left.verdict.reason)
+            }
+            None => false,
+        }
+    }
+
+    /// Notes who pushed the key out at the end of the last life that has ended.
+    ///
+    /// Err: memory was refused.
+    pub fn note_pushed(&mut self, pushed: PushedBy<A>) -> Result<(), AllocError>
+        ensures key { OnOk result (plain_key self.new ≡ rule.noted (plain_pushed pushed) (plain_key self.old)) }
+        ensures same { self.new.key ≡ self.old.key }
+    {
+        match self.ended.pop() {
+            Some(
+                Ended {
+                    life,
+                    left,
+                    pushed: known,
+                },
+            ) => {
+                drop(known);
+                let noted = Ended {
+                    life,
+                    left,
+                    pushed: Some(pushed),
+                };
+                self.ended.push(noted)?;
+                Ok(())
+            }
+            None => {
+                drop(pushed);
+                Ok(())
+            }
         }
     }
 

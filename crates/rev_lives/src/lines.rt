@@ -5,10 +5,13 @@ ghost use Rattle.rev_lives.specs.Lines as rule;
 ghost use Rattle.rev_lives.specs.Leaving.{plain_leaving, plain_pusher};
 ghost use Rattle.rev_lives.specs.Lives.{plain_culprit, plain_left, plain_life, plain_ended};
 ghost use Rattle.rev_lives.specs.Parts.{with_line};
+ghost use Rattle.rev_lives.specs.Pushed.{plain_pushed};
 
 use crate::leaving::{Leaving, Pusher};
 use crate::life::{Culprit, Ended, KeyLives, Left, Life, Moved, Stored};
 use crate::parts::{Part, put_parts};
+use crate::pushed::PushedBy;
+use crate::pushed_lines::put_pushed;
 use crate::text::queue_word;
 use json::Writer;
 use rev_items::Key;
@@ -253,17 +256,19 @@ fn put_end<A: Allocator + Copy, B: Allocator>(
     )
 }
 
-// Puts how a life ended.
+// Puts how a life ended, and who pushed the key out.
 fn put_left<A: Allocator + Copy, B: Allocator>(
     alloc: A,
     out: &mut Writer<A>,
     left: &Left<B>,
+    pushed: Option<&PushedBy<B>>,
 ) -> Result<(), AllocError>
-    ensures tokens { OnOk result (out.new.tokens ≡ rule.behind out.old.tokens (rule.left_parts (plain_left left.now))) }
+    ensures tokens { OnOk result (out.new.tokens ≡ rule.with_left out.old.tokens (plain_left left.now) (option_map (λ p. plain_pushed p.now) pushed.entry)) }
     ensures before { OnOk result (out.new.before ≡ out.old.before) }
 {
     put_end(alloc, out, left)?;
     put_culprit(alloc, out, left.culprit.as_ref())?;
+    put_pushed(alloc, out, pushed)?;
     put_parts(alloc, out, &[Part::Close])
 }
 
@@ -359,7 +364,7 @@ fn ended_line<A: Allocator + Copy, B: Allocator>(
     let mut writer = Writer::new(out);
     let end = life.left.time;
     put_life(alloc, &mut writer, key, &life.life)?;
-    put_left(alloc, &mut writer, &life.left)?;
+    put_left(alloc, &mut writer, &life.left, life.pushed.as_ref())?;
     put_spans(
         alloc,
         &mut writer,

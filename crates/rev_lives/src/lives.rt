@@ -1,5 +1,6 @@
 //! The lives of the keys that are asked for, as events are heard.
 use crate::blame::key_of;
+use crate::counted::{ClassStart, Classes};
 use crate::follow::{follow, restart};
 use crate::heard::key_in;
 use crate::life::KeyLives;
@@ -18,11 +19,20 @@ use std::hash::{BuildHasherDefault, FoldHasher};
 /// figure).
 const FEW: usize = 16;
 
+/// A key that is asked for.
+#[derive(Drop)]
+pub struct Asked<A: Allocator> {
+    pub lives: KeyLives<A>,
+    // the number of its last life, and what was counted of the life's class when it began
+    begun: Option<(u64, ClassStart<A>)>,
+}
+
 /// The lives of the keys that are asked for.
 #[derive(Drop)]
 pub struct Lives<A: Allocator> {
     alloc: A,
-    keys: Vec<KeyLives<A>, A>,
+    keys: Vec<Asked<A>, A>,
+    classes: Classes<A>,
     // the place of each key
     places: IndexMap<HeldKey<A>, usize, BuildHasherDefault<FoldHasher>, A>,
     // the places of the keys that an event concerns
@@ -57,6 +67,56 @@ fn chunks_in<A: Allocator>(undo: &Change<A>) -> (Option<ChunkRef>, Option<ChunkR
     }
 }
 
+impl<A: Allocator + Copy> Asked<A> {
+    // Tells who pushed the key out, where its last life was evicted.
+    fn tell_pushed(&mut self, classes: &Classes<A>, now: Timestamp) -> Result<(), AllocError> {
+        let Some((number, start)) = &self.begun else {
+            return Ok(());
+        };
+        if !self.lives.wants_pushed(*number) {
+            return Ok(());
+        }
+        match classes.pushed(start, now)? {
+            Some(pushed) => self.lives.note_pushed(pushed),
+            None => Ok(()),
+        }
+    }
+
+    // Whether what was counted when its life began is known, if there is one that has not ended.
+    fn is_begun(&self) -> bool {
+        match (&self.lives.held, &self.begun) {
+            (Some(life), Some((number, _))) => life.number == *number,
+            (Some(_), None) => false,
+            (None, _) => true,
+        }
+    }
+
+    // Notes what was counted of its class when its life began.
+    fn begin(&mut self, classes: &Classes<A>) -> Result<(), AllocError> {
+        if self.is_begun() {
+            return Ok(());
+        }
+        match &self.lives.held {
+            Some(life) => self.begun = Some((life.number, classes.start(life.stored)?)),
+            None => {}
+        }
+        Ok(())
+    }
+
+    // Follows the key through an event that was counted.
+    fn follow(
+        &mut self,
+        alloc: A,
+        heard: &Heard<'_, A>,
+        classes: &Classes<A>,
+        last: bool,
+    ) -> Result<(), AllocError> {
+        follow(alloc, &mut self.lives, heard, last)?;
+        self.tell_pushed(classes, heard.time)?;
+        self.begin(classes)
+    }
+}
+
 impl<A: Allocator + Copy> Lives<A> {
     /// No key is asked for. With `last` only the last life of each is kept. With `asked` only events of this life of the
     /// server are looked at, from 1.
@@ -64,6 +124,7 @@ impl<A: Allocator + Copy> Lives<A> {
         Lives {
             alloc,
             keys: Vec::new(alloc),
+            classes: Classes::new(alloc),
             places: IndexMap::new(alloc),
             concerned: Vec::new(alloc),
             last,
@@ -86,13 +147,13 @@ impl<A: Allocator + Copy> Lives<A> {
         let held = HeldKey::copy_of(self.alloc, key)?;
         let lives = KeyLives::new(self.alloc, key.copy(self.alloc)?);
         let place = self.keys.len();
-        self.keys.push(lives)?;
+        self.keys.push(Asked { lives, begun: None })?;
         self.places.insert(held, place)?;
         Ok(())
     }
 
     /// The keys that were asked for, in the order in which they were first asked for.
-    pub fn keys(&self) -> &[KeyLives<A>] {
+    pub fn keys(&self) -> &[Asked<A>] {
         self.keys.as_slice()
     }
 
@@ -178,7 +239,7 @@ impl<A: Allocator + Copy> Lives<A> {
     // Follows each key.
     fn follow_all(&mut self, heard: &Heard<'_, A>) -> Result<(), AllocError> {
         for key in self.keys.iter_mut() {
-            follow(self.alloc, key, heard, self.last)?;
+            key.follow(self.alloc, heard, &self.classes, self.last)?;
         }
         Ok(())
     }
@@ -187,7 +248,7 @@ impl<A: Allocator + Copy> Lives<A> {
     fn follow_concerned(&mut self, heard: &Heard<'_, A>) -> Result<(), AllocError> {
         for place in self.concerned.iter() {
             match self.keys.get_mut(*place) {
-                Some(key) => follow(self.alloc, key, heard, self.last)?,
+                Some(key) => key.follow(self.alloc, heard, &self.classes, self.last)?,
                 None => {}
             }
         }
@@ -201,6 +262,12 @@ impl<A: Allocator + Copy> Listener<A> for Lives<A> {
             return Ok(());
         }
         self.now = heard.time;
+        match heard.event {
+            Some(event) => self
+                .classes
+                .count(event, heard.time, heard.session.store())?,
+            None => {}
+        }
         if self.keys.len() <= FEW {
             self.follow_all(heard)?;
         } else {
@@ -214,8 +281,10 @@ impl<A: Allocator + Copy> Listener<A> for Lives<A> {
         let now = self.now;
         if self.is_asked() {
             for key in self.keys.iter_mut() {
-                restart(key, now, at, steps)?;
+                restart(&mut key.lives, now, at, steps)?;
+                key.begun = None;
             }
+            self.classes.begin_life();
         }
         self.life = self.life.saturating_add(1);
         Ok(())

@@ -68,7 +68,8 @@ fn send_lives<A: Allocator + Copy, K: Sink>(
         all_seen: true,
     };
     let mut out = Vec::new(alloc);
-    for key in lives.keys() {
+    for asked in lives.keys() {
+        let key = &asked.lives;
         if as_json {
             out = lives_lines(
                 alloc,

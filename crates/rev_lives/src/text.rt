@@ -9,6 +9,7 @@ ghost use Rattle.rev_lives.specs.Lives.{plain_culprit, plain_left, plain_life, p
 use crate::leaving::{Leaving, Pusher};
 use crate::life::{Culprit, Ended, KeyLives, Left, Life, Stored};
 use crate::pieces::{Piece, put};
+use crate::pushed_text::put_pushed;
 use rev_items::Key;
 use rev_model::Queue;
 use rev_watch::event::Timestamp;
@@ -319,7 +320,8 @@ fn put_ended<A: Allocator + Copy, B: Allocator>(
     put_stored(alloc, out, key, &ended.life)?;
     put_moves(alloc, out, &ended.life)?;
     put_left(alloc, out, &ended.left)?;
-    put_spans(alloc, out, &ended.life, ended.left.time)
+    put_spans(alloc, out, &ended.life, ended.left.time)?;
+    put_pushed(alloc, out, ended.life.stored, ended.pushed.as_ref())
 }
 
 // Writes a life of a key that has not ended now.
