@@ -579,7 +579,7 @@ pub(crate) struct Prepared {
 }
 
 /// All of it, with the words of the options for a run.
-pub(crate) fn prepared(
+pub(crate) fn with_words(
     alloc: Global,
     stats: Option<LogStats>,
     setup: Setup,
@@ -607,7 +607,7 @@ fn prepare<R: Files + AllocGlobal>(
 ) -> Result<Prepared, Stop> {
     let stats = stats_if(rt, &asked.stats)?;
     let setup = setup_asked(rt, asked, notes)?;
-    prepared(rt.alloc(), stats, setup)
+    with_words(rt.alloc(), stats, setup)
 }
 
 // Why no life of the server is chosen where the rules lead.

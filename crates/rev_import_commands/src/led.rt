@@ -6,7 +6,7 @@ ghost use Rattle.rev_import_commands.specs.Importing.{TellsLed, led_notes, writt
 
 use crate::files::{Making, send, send_with_start};
 use crate::import::{
-    Prepared, add_run, add_words, all_opened, name_in, prepared, setup_lines, stats_if,
+    Prepared, add_run, add_words, all_opened, name_in, setup_lines, stats_if, with_words,
 };
 use crate::leading::{leading_setup, stop_of_replay};
 use crate::state::bad_file;
@@ -266,7 +266,7 @@ fn prepare<R: Files + AllocGlobal>(
     let stats = stats_if(rt, &asked.stats)?;
     let settings = asked.settings.as_str();
     let setup = leading_setup(rt, settings, asked.factor, is_anyway(asked.leader), notes)?;
-    prepared(rt.alloc(), stats, setup)
+    with_words(rt.alloc(), stats, setup)
 }
 
 /// Makes the script that is asked for, of the steps that the logs lead to, and adds what is told of it to the notes.
