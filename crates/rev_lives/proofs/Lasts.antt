@@ -1,5 +1,5 @@
 -- The last life of a key that has ended.
-use Rattle.std.proofs.Common.{◌≡◌, ◌-◌, true, cond, not, List, [], ◌∷◌, ◌++◌, length, take, map, Some, None, ap, ◌∙◌, refl, arith, take_at, length-append}
+use Rattle.std.proofs.Common.{◌≡◌, ◌-◌, true, false, cond, not, List, [], ◌∷◌, ◌++◌, length, take, map, Some, None, ap, ◌∙◌, refl, arith, take_at, length-append}
 use Rattle.std.specs.List.{slice_get}
 use Rattle.std.specs.Option.{option_map}
 use Rattle.std.proofs.lemmas.Option.{slice_get-map, slice_get-get_or}
@@ -14,6 +14,10 @@ last-map f xs = slice_get-map f xs (length (map f xs) - 1) ∙ ap (λ n. option_
 -- whether the last one ended by what the log does not say
 pub doubt : (k : PlainKey) (e : PlainEnded) → k.held ≡ None → slice_get k.ended (length k.ended - 1) ≡ Some e → is_doubtful k ≡ not (is_logged e.left.verdict.evidence)
 doubt k e h s = ap (λ o. is_unlogged (last_ended k o)) h ∙ ap is_unlogged s
+
+-- where there is none, it did not
+pub no_doubt : (k : PlainKey) → k.held ≡ None → slice_get k.ended (length k.ended - 1) ≡ None → is_doubtful k ≡ false
+no_doubt k h s = ap (λ o. is_unlogged (last_ended k o)) h ∙ ap is_unlogged s
 
 -- of a list with one more behind it
 before_last : {X : Type 0} (ys : List X) (x : X) → length (ys ++ x ∷ []) - 1 ≡ length ys

@@ -1,7 +1,7 @@
 -- The lives of a key, and what becomes of them.
 -- Rule of this project: a store begins a life, and a look-up that finds the key or a move is part of it. It ends when
 -- the key leaves, or when new data are stored in its place.
-use Rattle.std.specs.Prelude.{ℕ, ℤ, ◌+◌, ◌-◌, ◌^◌, ◌==◌, nat_le, min, Bool, true, false, ◌&&◌, is_some, cond, List, [], ◌∷◌, ◌++◌, length, drop, take, map, slice_get, not, Option, Some, None}
+use Rattle.std.specs.Prelude.{ℕ, ℤ, ◌+◌, ◌-◌, ◌^◌, ◌==◌, nat_le, min, Bool, true, false, cond, List, [], ◌∷◌, ◌++◌, length, drop, take, map, slice_get, not, Option, Some, None}
 use Rattle.std.specs.Option.{option_map}
 use Rattle.rev_watch.specs.declared.event.Timestamp.{Timestamp}
 use Rattle.rev_lives.specs.Pushed.{PlainPushed, plain_pushed}
@@ -147,14 +147,22 @@ is_eviction reasons.Evicted = true
 is_eviction reasons.EvictedByMover = true
 is_eviction r = false
 
--- the life has this number and was evicted, and it is not known yet who pushed the key out
-abbrev pub wants : ℕ → Option PlainEnded → Bool
-wants n None = false
-wants n (Some e) = e.life.number == n && not (is_some e.pushed) && is_eviction e.left.verdict.reason
+-- a key that left so was evicted, and it is not known yet who pushed it out
+abbrev pub is_open : Option PlainPushed → Reason → Bool
+is_open None r = is_eviction r
+is_open (Some p) r = false
 
--- the last life that has ended
+-- the same of a life of this number
+abbrev pub wants : ℕ → PlainEnded → Bool
+wants n e = cond (e.life.number == n) (is_open e.pushed e.left.verdict.reason) false
+
+-- the same of the last life that has ended
+abbrev pub wants_last : ℕ → Option PlainEnded → Bool
+wants_last n None = false
+wants_last n (Some e) = wants n e
+
 abbrev pub wants_pushed : ℕ → PlainKey → Bool
-wants_pushed n k = wants n (slice_get k.ended (length k.ended - 1))
+wants_pushed n k = wants_last n (slice_get k.ended (length k.ended - 1))
 
 -- it is known who pushed the key out at the end of that life
 abbrev pub noted_of : PlainPushed → PlainKey → Option PlainEnded → PlainKey

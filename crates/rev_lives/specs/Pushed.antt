@@ -1,7 +1,7 @@
 -- Who pushed a key out: what was stored into its class while it was held.
 -- Rule of this project: it is counted by prefix and by connection. A prefix is a key's bytes up to its first `:` and with
 -- it; keys without one have an empty prefix.
-use Rattle.std.specs.Prelude.{ℕ, ℤ, ◌+◌, ◌-◌, ◌^◌, ◌==◌, nat_lt, min, Bool, cond, List, [], length, map, take, Option, Some, None}
+use Rattle.std.specs.Prelude.{ℕ, ◌+◌, ◌-◌, ◌^◌, ◌==◌, nat_lt, min, Bool, cond, List, [], map, take, Option, Some, None}
 use Rattle.std.specs.List.{position}
 use Rattle.rev_lives.specs.declared.pushed.Amount.{Amount}
 use Rattle.rev_lives.specs.declared.pushed.ConnectionShare.{ConnectionShare}

@@ -2,10 +2,9 @@
 -- Rule of this project: an object whose names stand in this order. The prefix of keys without one is null, and what is not
 -- known is null.
 use Rattle.std.specs.Prelude.{ℕ, ◌==◌, if◌then◌else◌, List, [], ◌∷◌, ◌++◌, length, Option, Some, None, decimal, codes}
-use Rattle.std.specs.Fmt.{signed_decimal}
 use Rattle.json.specs.Token.{Token, begin_object, end_object, begin_array, end_array, key, number, null}
 pub use Rattle.rev_lives.specs.Joins.{behind}
-use Rattle.rev_lives.specs.Parts.{key_tokens, seconds_token}
+use Rattle.rev_lives.specs.Parts.{key_tokens, connection_token, seconds_token}
 use Rattle.rev_lives.specs.Pushed.{PlainShare, PlainPushed}
 use Rattle.rev_lives.specs.declared.pushed.Amount.{Amount}
 use Rattle.rev_lives.specs.declared.pushed.ConnectionShare.{ConnectionShare}
@@ -24,7 +23,7 @@ abbrev pub share_tokens : List ℕ → Amount → List Token
 share_tokens p a = begin_object ∷ key (codes "prefix") ∷ (prefix_tokens p ++ amount_tokens a)
 
 abbrev pub connection_tokens : ConnectionShare → List Token
-connection_tokens s = begin_object ∷ key (codes "connection") ∷ number (signed_decimal s.connection) ∷ amount_tokens s.amount
+connection_tokens s = begin_object ∷ key (codes "connection") ∷ connection_token s.connection ∷ amount_tokens s.amount
 
 abbrev pub shares_tokens : List PlainShare → List Token
 shares_tokens [] = []
@@ -55,13 +54,13 @@ abbrev pub lived_before : Option Earlier → Option ℕ
 lived_before None = None
 lived_before (Some e) = Some e.lived
 
-abbrev pub before : Option Earlier → Option ℕ
-before None = None
-before (Some e) = Some e.ago
+abbrev pub ago : Option Earlier → Option ℕ
+ago None = None
+ago (Some e) = Some e.ago
 
 abbrev pub lived_tokens : Option ℕ → Option Earlier → List Token
 lived_tokens n e =
-    key (codes "lived") ∷ seconds_token n ∷ key (codes "lived_before") ∷ seconds_token (lived_before e) ∷ key (codes "before") ∷ seconds_token (before e) ∷ []
+    key (codes "lived") ∷ seconds_token n ∷ key (codes "lived_before") ∷ seconds_token (lived_before e) ∷ key (codes "before") ∷ seconds_token (ago e) ∷ []
 
 -- the pages that came and went, and the end of the object
 abbrev pub pages_tokens : ℕ → ℕ → List Token

@@ -2,8 +2,8 @@
 -- Rule of this project: four short lines: what was stored by prefix and by connection, how long evicted items had lived,
 -- and the pages that came and went. What is not known is left out.
 use Rattle.std.specs.Prelude.{ℕ, ◌==◌, Bool, if◌then◌else◌, cond, List, [], ◌∷◌, ◌++◌, length, Option, Some, None, decimal, codes}
-use Rattle.std.specs.Fmt.{signed_decimal}
 pub use Rattle.rev_lives.specs.Joins.{joined, behind}
+use Rattle.rev_lives.specs.Pieces.{connection_text}
 use Rattle.rev_lives.specs.Pushed.{PlainShare, PlainPushed}
 use Rattle.rev_lives.specs.Times.{tenths_text}
 use Rattle.rev_lives.specs.declared.life.Stored.{Stored}
@@ -30,7 +30,7 @@ abbrev pub prefix_parts : List ℕ → Amount → List (List ℕ)
 prefix_parts p a = joined (prefix_name p ∷ codes " " ∷ []) ∷ amount_text a ∷ joined (codes "; " ∷ []) ∷ []
 
 abbrev pub connection_parts : ConnectionShare → List (List ℕ)
-connection_parts s = joined (signed_decimal s.connection ∷ codes ": " ∷ []) ∷ amount_text s.amount ∷ joined (codes "; " ∷ []) ∷ []
+connection_parts s = joined (connection_text s.connection ∷ codes ": " ∷ []) ∷ amount_text s.amount ∷ joined (codes "; " ∷ []) ∷ []
 
 abbrev pub others_parts : Amount → List (List ℕ)
 others_parts a = joined (codes "others: " ∷ []) ∷ amount_text a ∷ joined (codes "\n" ∷ []) ∷ []

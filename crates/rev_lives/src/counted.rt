@@ -42,10 +42,10 @@ pub struct ClassStart<A: Allocator> {
 }
 
 // The connection that a name stands for.
-fn connection_of(name: &[u8]) -> i32 {
+fn connection_of(name: &[u8]) -> Option<i32> {
     match name {
-        [a, b, c, d] => i32::from_be_bytes([*a, *b, *c, *d]),
-        _ => 0,
+        [a, b, c, d] => Some(i32::from_be_bytes([*a, *b, *c, *d])),
+        _ => None,
     }
 }
 

@@ -1,7 +1,8 @@
 //! The lives of a key: from a store until it leaves or is stored anew.
 ghost use Rattle.std.specs.Prelude.{◌≡◌, IfOk, OnOk, OnErr};
 ghost use Rattle.rev_lives.specs.Lives as rule;
-ghost use Rattle.rev_lives.specs.Lives.{plain_life, plain_left, plain_key};
+ghost use Rattle.std.specs.Option.{option_map};
+ghost use Rattle.rev_lives.specs.Lives.{plain_life, plain_left, plain_ended, plain_key};
 ghost use Rattle.rev_lives.specs.Pushed.{plain_pushed};
 
 use crate::pushed::PushedBy;
@@ -104,6 +105,27 @@ fn is_eviction(reason: Reason) -> bool
     match reason {
         Reason::Evicted | Reason::EvictedByMover => true,
         _ => false,
+    }
+}
+
+// Whether a key that left so was evicted, and it is not known yet who pushed it out.
+fn is_open<A: Allocator>(pushed: &Option<PushedBy<A>>, reason: Reason) -> bool
+    ensures { result ≡ rule.is_open (option_map plain_pushed pushed.now) reason }
+{
+    match pushed {
+        Some(_) => false,
+        None => is_eviction(reason),
+    }
+}
+
+// The same of a life of this number.
+fn wants<A: Allocator>(ended: &Ended<A>, number: u64) -> bool
+    ensures { result ≡ rule.wants number (plain_ended ended.now) }
+{
+    if ended.life.number == number {
+        is_open(&ended.pushed, ended.left.verdict.reason)
+    } else {
+        false
     }
 }
 
@@ -253,11 +275,7 @@ impl<A: Allocator + Copy> KeyLives<A> {
         ensures { result ≡ rule.wants_pushed number (plain_key self.now) }
     {
         match self.ended.last() {
-            Some(ended) => {
-                ended.life.number == number
-                    && ended.pushed.is_none()
-                    && is_eviction(ended.left.verdict.reason)
-            }
+            Some(ended) => wants(ended, number),
             None => false,
         }
     }

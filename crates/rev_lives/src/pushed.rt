@@ -1,5 +1,6 @@
 //! Who pushed a key out: what was stored into its class while it was held.
-ghost use Rattle.std.specs.Prelude.{◌≡◌};
+ghost use Rattle.std.specs.Prelude.{◌≡◌, ◌<◌, ◌==◌, IfSome, length};
+ghost use Rattle.std.specs.List.{position};
 ghost use Rattle.rev_lives.specs.Pushed as rule;
 
 use std::alloc::Allocator;
@@ -21,7 +22,7 @@ pub struct PrefixShare<A: Allocator> {
 /// What was stored by a connection.
 #[derive(Clone, Copy)]
 pub struct ConnectionShare {
-    pub connection: i32,
+    pub connection: Option<i32>,
     pub amount: Amount,
 }
 
@@ -88,12 +89,28 @@ impl Amount {
     }
 }
 
+// The place of the first `:` in a key.
+fn colon_in(key: &[u8]) -> Option<usize>
+    ensures place { result ≡ position (λ b. b == 58) key.now }
+    ensures within { IfSome result (λ place. place < length key.now) }
+{
+    key.iter().position(|byte| *byte == b':')
+}
+
+// The front of a key up to a place and with it, and nothing where there is none.
+fn cut_behind(key: &[u8], place: Option<usize>) -> &[u8]
+    requires { IfSome place (λ p. p < length key.now) }
+    ensures { result.now ≡ rule.cut_behind key.now place }
+{
+    match place {
+        Some(place) => &key[..place + 1],
+        None => &[],
+    }
+}
+
 /// The prefix of a key: its bytes up to its first `:` and with it, and none where it has no `:`.
 pub fn prefix_of(key: &[u8]) -> &[u8]
     ensures { result.now ≡ rule.prefix_of key.now }
 {
-    match key.iter().position(|byte| *byte == b':') {
-        Some(place) => &key[..place + 1],
-        None => &[],
-    }
+    cut_behind(key, colon_in(key))
 }

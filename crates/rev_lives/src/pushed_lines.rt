@@ -1,5 +1,5 @@
 //! Who pushed a key out, as JSON.
-ghost use Rattle.std.specs.Prelude.{◌≡◌, ◌++◌, OnOk, map, string_bytes};
+ghost use Rattle.std.specs.Prelude.{◌≡◌, ◌++◌, OnOk, map};
 ghost use Rattle.std.specs.Option.{option_map};
 ghost use Rattle.rev_lives.specs.Parts.{part_tokens};
 ghost use Rattle.rev_lives.specs.Pushed.{plain_share, plain_pushed};
@@ -60,7 +60,7 @@ fn put_connection<A: Allocator + Copy>(
         &[
             Part::Open,
             Part::Name("connection"),
-            Part::Connection(Some(share.connection)),
+            Part::Connection(share.connection),
             Part::Name("items"),
             Part::Number(share.amount.items),
             Part::Name("bytes"),
@@ -147,8 +147,8 @@ fn lived_before(earlier: Option<Earlier>) -> Option<u64>
 }
 
 // How long before that was.
-fn before(earlier: Option<Earlier>) -> Option<u64>
-    ensures { result ≡ rule.before earlier }
+fn ago(earlier: Option<Earlier>) -> Option<u64>
+    ensures { result ≡ rule.ago earlier }
 {
     match earlier {
         Some(earlier) => Some(earlier.ago),
@@ -175,7 +175,7 @@ fn put_lived<A: Allocator + Copy>(
             Part::Name("lived_before"),
             Part::Seconds(lived_before(earlier)),
             Part::Name("before"),
-            Part::Seconds(before(earlier)),
+            Part::Seconds(ago(earlier)),
         ],
     )
 }

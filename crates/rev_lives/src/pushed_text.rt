@@ -78,7 +78,7 @@ fn put_connection<A: Allocator + Copy>(
     put(
         alloc,
         out,
-        &[Piece::Connection(Some(share.connection)), Piece::Text(": ")],
+        &[Piece::Connection(share.connection), Piece::Text(": ")],
     )?;
     put_amount(alloc, out, share.amount)?;
     put(alloc, out, &[Piece::Text("; ")])

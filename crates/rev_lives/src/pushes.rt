@@ -22,7 +22,7 @@ struct Entry<A: Allocator> {
     amount: Amount,
     // how many items were counted before it came
     since: u64,
-    // whether it was stored again since the hand came by
+    // whether it was stored since the hand came by
     used: bool,
 }
 
@@ -110,7 +110,7 @@ impl<A: Allocator + Copy> Pushes<A> {
         Ok(Entry {
             amount: NOTHING,
             since: self.total.items,
-            used: false,
+            used: true,
             name: Vec::from_slice(self.alloc, name)?,
         })
     }
@@ -184,7 +184,7 @@ impl<A: Allocator + Copy> Pushes<A> {
     fn add(&mut self, place: usize, size: u32) {
         match self.entries.get_mut(place) {
             Some(entry) => {
-                entry.used = entry.amount.items > 0;
+                entry.used = true;
                 entry.amount = entry.amount.with(size);
             }
             None => {}

@@ -108,16 +108,53 @@ fn opened<'a, A: Allocator + Copy>(
 
 // Notes what became of the lines, and hands on how it ended.
 fn noted<A: Allocator + Copy>(
-    done: Result<Found, ReplayFault>,
+    done: Result<Found, (usize, ReplayFault)>,
     replay: &Replay<'_, A>,
     notes: &mut Vec<u8, A>,
 ) -> Result<Found, (usize, ReplayFault)> {
     match done {
-        Err(fault) => Err((0, fault)),
+        Err(fault) => Err(fault),
         Ok(found) => match put_notes(notes, replay) {
             Err(_) => Err((0, ReplayFault::Memory)),
             Ok(()) => Ok(found),
         },
+    }
+}
+
+// Follows keys through logs, and writes their lives.
+fn follow_logs<A: Allocator + Copy, F: Read + Drop, K: Sink>(
+    alloc: A,
+    replay: &mut Replay<'_, A>,
+    logs: Vec<F, A>,
+    lives: &mut Lives<A>,
+    as_json: bool,
+    sink: &mut K,
+) -> Result<Found, (usize, ReplayFault)> {
+    replay_logs(replay, logs, lives)?;
+    match send_lives(alloc, lives, as_json, sink) {
+        Ok(found) => Ok(found),
+        Err(fault) => Err((0, fault)),
+    }
+}
+
+// The same of the keys that are asked for. They are dropped in one place: what drops them is long.
+fn follow_asked<A: Allocator + Copy, F: Read + Drop, K: Sink>(
+    alloc: A,
+    replay: &mut Replay<'_, A>,
+    logs: Vec<F, A>,
+    asked: &LivesAsked<A>,
+    sink: &mut K,
+) -> Result<Found, (usize, ReplayFault)> {
+    match asked_for(alloc, asked) {
+        Ok(mut lives) => {
+            let told = follow_logs(alloc, replay, logs, &mut lives, asked.json, sink);
+            drop(lives);
+            told
+        }
+        Err(_) => {
+            drop(logs);
+            Err((0, ReplayFault::Memory))
+        }
     }
 }
 
@@ -138,12 +175,10 @@ pub fn tell_lives<A: Allocator + Copy, F: Read + Drop, K: Sink>(
     requires { IsWithinLimits setup.now.config }
 {
     let mut replay = opened(alloc, setup)?;
-    let mut lives = match asked_for(alloc, asked) {
-        Ok(lives) => lives,
-        Err(_) => return Err((0, ReplayFault::Memory)),
-    };
-    replay_logs(&mut replay, logs, &mut lives)?;
-    noted(send_lives(alloc, &lives, asked.json, sink), &replay, notes)
+    let told = follow_asked(alloc, &mut replay, logs, asked, sink);
+    let ended = noted(told, &replay, notes);
+    drop(replay);
+    ended
 }
 
 // Sends what is at hand, and counts what was told.
@@ -153,6 +188,19 @@ fn sent<A: Allocator + Copy, K: Sink>(gone: &mut Gone<'_, K, A>) -> Result<Found
         told: gone.told(),
         all_seen: true,
     })
+}
+
+// Tells the keys that left by logs.
+fn tell_leaving<A: Allocator + Copy, F: Read + Drop, K: Sink>(
+    replay: &mut Replay<'_, A>,
+    logs: Vec<F, A>,
+    gone: &mut Gone<'_, K, A>,
+) -> Result<Found, (usize, ReplayFault)> {
+    replay_logs(replay, logs, gone)?;
+    match sent(gone) {
+        Ok(found) => Ok(found),
+        Err(fault) => Err((0, fault)),
+    }
 }
 
 /// Tells the keys that left and pass the filter, in the order in which they did, from the logs that the files hold, in
@@ -173,6 +221,9 @@ pub fn tell_gone<A: Allocator + Copy, F: Read + Drop, K: Sink>(
 {
     let mut replay = opened(alloc, setup)?;
     let mut gone = Gone::new(alloc, filter, as_json, sink);
-    replay_logs(&mut replay, logs, &mut gone)?;
-    noted(sent(&mut gone), &replay, notes)
+    let told = tell_leaving(&mut replay, logs, &mut gone);
+    drop(gone);
+    let ended = noted(told, &replay, notes);
+    drop(replay);
+    ended
 }
