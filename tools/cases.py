@@ -254,7 +254,8 @@ class Case:
         if is_standard and self.status:
             err = re.sub(rb"\Alrudb: %s: " % re.escape(self.log.encode()), b"lrudb: -: ", err)
         if self.status:
-            return End(self.status, self.output, err, {name: it for name, it in files.items() if not self.is_part(name)})
+            kept = {name: it for name, it in files.items() if not self.is_part(name)}
+            return End(self.status, self.output, err, kept)
         if not out:
             return End(0, self.output, err, {**files, **self.made})
         if out == STANDARD:
