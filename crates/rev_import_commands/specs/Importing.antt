@@ -1,6 +1,6 @@
 -- What is told of an import that went well.
 -- Rule of this project: it is told what was read and what was written, and how the script is run where it is in files.
-use Rattle.std.specs.Prelude.{◌≡◌, ℕ, Bool, true, false, not, ◌&&◌, cond, nat_lt, List, [], ◌∷◌, ◌++◌, Option, None, Some, codes, string_bytes}
+use Rattle.std.specs.Prelude.{◌≡◌, ℕ, Bool, true, false, not, ◌&&◌, cond, nat_lt, List, ◌++◌, Option, None, Some, codes, string_bytes}
 use Rattle.std.specs.Str.{bytes_eq}
 use Rattle.std.specs.declared.alloc.Global.{Global}
 use Rattle.rev_import.specs.declared.figures.Figures.{Figures}
