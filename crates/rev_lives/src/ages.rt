@@ -1,8 +1,8 @@
 //! How long evicted items of a class had lived: the median of the last ones whose store the log shows, now and at each
 //! minute of the last hour.
 //!
-//! Stores are kept of a part of the keys alone, by their hash, so that at most `MOST_STORES` are. What the medians are is
-//! in no contract: they are tested.
+//! Stores are kept of a part of the keys alone, by their hash, so that at most `MOST_STORES` are. What the medians are
+//! is in no contract: they are tested.
 use crate::pushed::Earlier;
 use crate::times::between;
 use indexmap::IndexMap;

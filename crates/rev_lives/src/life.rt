@@ -270,7 +270,8 @@ impl<A: Allocator + Copy> KeyLives<A> {
         }
     }
 
-    /// Whether the last life that ended has this number and was evicted, and it is not known yet who pushed the key out.
+    /// Whether the last life that ended has this number and was evicted, and it is not yet known who pushed the key
+    /// out.
     pub fn wants_pushed(&self, number: u64) -> bool
         ensures { result ≡ rule.wants_pushed number (plain_key self.now) }
     {

@@ -12,7 +12,8 @@ pub struct Amount {
     pub bytes: u64,
 }
 
-/// What was stored under a prefix: a key's bytes up to its first `:` and with it. Keys without one have an empty prefix.
+/// What was stored under a prefix: a key's bytes up to its first `:` and with it. Keys without a `:` have an empty
+/// prefix.
 #[derive(Drop)]
 pub struct PrefixShare<A: Allocator> {
     pub prefix: Vec<u8, A>,

@@ -85,6 +85,18 @@ fn put_prefixes<A: Allocator + Copy, B: Allocator>(
     Ok(())
 }
 
+// Puts the prefixes that are told.
+fn put_told_prefixes<A: Allocator + Copy, B: Allocator>(
+    alloc: A,
+    out: &mut Writer<A>,
+    pushed: &PushedBy<B>,
+) -> Result<(), AllocError>
+    ensures tokens { OnOk result (out.new.tokens ≡ out.old.tokens ++ rule.shares_tokens (map plain_share pushed.now.prefixes.items)) }
+    ensures before { OnOk result (out.new.before ≡ out.old.before) }
+{
+    put_prefixes(alloc, out, pushed.prefixes.as_slice())
+}
+
 // Puts connections with what each of them stored.
 fn put_connections<A: Allocator + Copy>(
     alloc: A,
@@ -222,7 +234,7 @@ fn put_shares<A: Allocator + Copy, B: Allocator>(
             Part::OpenList,
         ],
     )?;
-    put_prefixes(alloc, out, pushed.prefixes.as_slice())?;
+    put_told_prefixes(alloc, out, pushed)?;
     put_parts(
         alloc,
         out,

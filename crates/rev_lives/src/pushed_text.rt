@@ -98,6 +98,17 @@ fn put_prefixes<A: Allocator + Copy, B: Allocator>(
     Ok(())
 }
 
+// Writes the prefixes that are told.
+fn put_told_prefixes<A: Allocator + Copy, B: Allocator>(
+    alloc: A,
+    out: &mut Vec<u8, A>,
+    pushed: &PushedBy<B>,
+) -> Result<(), AllocError>
+    ensures { OnOk result (out.new.items ≡ rule.with_prefixes out.old.items (map plain_share pushed.now.prefixes.items)) }
+{
+    put_prefixes(alloc, out, pushed.prefixes.as_slice())
+}
+
 // Writes connections with what each of them stored.
 fn put_connections<A: Allocator + Copy>(
     alloc: A,
@@ -154,7 +165,7 @@ fn put_by_prefix<A: Allocator + Copy, B: Allocator>(
             Piece::Text(since_word(stored.logged)),
         ],
     )?;
-    put_prefixes(alloc, out, pushed.prefixes.as_slice())?;
+    put_told_prefixes(alloc, out, pushed)?;
     put_others(alloc, out, pushed.other_prefixes)
 }
 
