@@ -1,5 +1,5 @@
-//! What a command needs whose replay a server's logs lead: the server's settings, as far as the rules cover them, and why
-//! nothing more is played of the logs.
+//! What a command needs whose replay a server's logs lead: the server's settings, as far as the rules cover them, and
+//! why nothing more is played of the logs.
 ghost use Rattle.std.specs.Prelude.{IfOk};
 ghost use Rattle.rev_classes.specs.Limits.{IsWithinLimits};
 
@@ -40,8 +40,8 @@ fn refusal(alloc: Global, name: &str, obstacles: &[Option<Obstacle>]) -> Result<
     Ok(Stop::BadImport(lines))
 }
 
-// Sees whether the rules cover these settings, of a file of this name. Where one is an obstacle, the logs are refused, or
-// it is noted where they are to be read anyway.
+// Sees whether the rules cover these settings, of a file of this name. Where one is an obstacle, the logs are refused,
+// or it is noted where they are to be read anyway.
 fn see_obstacles(
     alloc: Global,
     name: &str,

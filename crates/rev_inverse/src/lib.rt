@@ -1,4 +1,5 @@
-//! The store: every change is a few moves, each move is undone by another, and a record of changes turns the store back.
+//! The store: every change is a few moves, each move is undone by another, and a record of changes turns the store
+//! back.
 #![tactic(auto)]
 
 mod changes;

@@ -61,8 +61,8 @@ impl Flushes {
         }
     }
 
-    /// An item of this cas number is found, where items up to `stored` were stored: a flush that is to let it go has not
-    /// come yet.
+    /// An item of this cas number is found, where items up to `stored` were stored: a flush that is to let it go has
+    /// not come yet.
     pub fn find(&mut self, cas: u64, stored: u64) {
         match &mut self.ahead {
             Some(ahead) if cas <= ahead.stored => ahead.stored = stored,

@@ -128,8 +128,8 @@ impl<'a, A: Allocator + Copy> Wanted<'a, A> {
         }
     }
 
-    /// The first key, from the tails of COLD, WARM and HOT on, that no later line shows, or one that misses it, and whose
-    /// item is not on this page.
+    /// The first key, from the tails of COLD, WARM and HOT on, that no later line shows, or one that misses it, and
+    /// whose item is not on this page.
     ///
     /// Err: memory was refused.
     pub fn unseen_off(&self, alloc: A, page: u16) -> Result<Option<Key<A>>, AllocError>
@@ -168,8 +168,8 @@ impl<'a, A: Allocator + Copy> Wanted<'a, A> {
         }
     }
 
-    /// The first key, from the tails of COLD, WARM, HOT and TEMP on, whose item is known to be flushed, and that no later
-    /// line finds, evicts or meets.
+    /// The first key, from the tails of COLD, WARM, HOT and TEMP on, whose item is known to be flushed, and that no
+    /// later line finds, evicts or meets.
     ///
     /// Err: memory was refused.
     pub fn flushed(&self, flushes: &Flushes, alloc: A) -> Result<Option<Key<A>>, AllocError>

@@ -132,8 +132,8 @@ fn lapsed_as<'a, A: Allocator + Copy>(
     }
 }
 
-// What is told of the key of an event whose look-up is a storage command's, and met its item dead. No step takes it out:
-// the command's store takes its place.
+// What is told of the key of an event whose look-up is a storage command's, and met its item dead. No step takes it
+// out: the command's store takes its place.
 fn lapsed<'a, A: Allocator + Copy>(heard: &Heard<'a, A>) -> Option<Leaving<'a, A>>
     ensures lapsed { option_map (λ l. with_class None (plain_leaving l)) result ≡ rule.lapsed heard.now }
     ensures class { IfSome result (rule.HasClass heard.now) }

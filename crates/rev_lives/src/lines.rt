@@ -482,8 +482,8 @@ fn rest_lines<A: Allocator + Copy, B: Allocator>(
     }
 }
 
-/// Writes the lines of a key, each with LF: one for each life, the last of them up to now where it has not ended, or one
-/// where it has none.
+/// Writes the lines of a key, each with LF: one for each life, the last of them up to now where it has not ended, or
+/// one where it has none.
 ///
 /// Err: memory was refused.
 pub fn lives_lines<A: Allocator + Copy, B: Allocator>(

@@ -118,8 +118,8 @@ impl<A: Allocator + Copy> Asked<A> {
 }
 
 impl<A: Allocator + Copy> Lives<A> {
-    /// No key is asked for. With `last` only the last life of each is kept. With `asked` only events of this life of the
-    /// server are looked at, from 1.
+    /// No key is asked for. With `last` only the last life of each is kept. With `asked` only events of this life of
+    /// the server are looked at, from 1.
     pub fn new(alloc: A, last: bool, asked: Option<u64>) -> Lives<A> {
         Lives {
             alloc,

@@ -143,8 +143,8 @@ fn stands_twice(names: &Vec<String>) -> bool {
     standard > 1
 }
 
-/// The names that an argument has, one or more, in order, or the parser's error: `none` where there is none, and `twice`
-/// where `-` is among them more than once.
+/// The names that an argument has, one or more, in order, or the parser's error: `none` where there is none, and
+/// `twice` where `-` is among them more than once.
 pub(crate) fn some_names(
     alloc: Global,
     matches: &ArgMatches<'_>,

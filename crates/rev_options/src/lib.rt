@@ -378,8 +378,8 @@ fn told(alloc: Global, error: Error) -> Refused {
 /// Words that ask for nothing that there is are refused with the parser's text, and so is a wish for help; a want of
 /// memory is told apart. An import is asked for by the first word `import` alone, an opening by `open`, a run by `run`,
 /// a report by `report`, the lives of keys by `why`, and the keys that left by `gone`. An opening imports only where a
-/// word begins with `--watch` or `--csv`. Whether a store can be opened with the numbers is `rev_classes::fault_of`'s to
-/// say.
+/// word begins with `--watch` or `--csv`. Whether a store can be opened with the numbers is `rev_classes::fault_of`'s
+/// to say.
 pub fn parse_words<S: AsStr>(alloc: Global, words: &[S]) -> Result<Request, Refused>
     ensures range { IfOk result IsInRange }
     ensures words { IfOk result (IsOfWords (asks_import (map S.text words.now))) }

@@ -58,8 +58,8 @@ pub(crate) fn copies(alloc: Global, names: &[String]) -> Result<Vec<String>, All
     Ok(copies)
 }
 
-/// How far a replay of the logs by the rules, behind the starts, agrees with them, of as many steps as a tree has room for. The logs
-/// are read for it, and what they become is played as `import watch --check` plays it.
+/// How far a replay of the logs by the rules, behind the starts, agrees with them, of as many steps as a tree has room
+/// for. The logs are read for it, and what they become is played as `import watch --check` plays it.
 pub(crate) fn agreement_of<R: Files + AllocGlobal, C: Clock, W: Sink>(
     rt: &R,
     asked: &WatchOpening,

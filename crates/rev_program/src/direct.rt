@@ -1,5 +1,5 @@
-//! `lrudb open` of logs and of published traces: what logs lead to, or what an import would write, is played as they are
-//! read, and then a session is answered.
+//! `lrudb open` of logs and of published traces: what logs lead to, or what an import would write, is played as they
+//! are read, and then a session is answered.
 ghost use Rattle.std.specs.Prelude.{IfSome};
 ghost use Rattle.rev_classes.specs.Limits.{IsWithinLimits, fault_of};
 ghost use Rattle.rev_messages.specs.Ends.{IsStatus, StopsBy};
@@ -353,7 +353,8 @@ fn answered<I: Read + Drop, O: Write + Drop, E: Sink>(
 }
 
 /// Plays the logs that are asked for, each step as a node, as they are read, and answers the session that the reader
-/// gives. What is told of the logs, and where the tree is full, is told before the session is read. Answers the exit status, and tells why where it is not 0.
+/// gives. What is told of the logs, and where the tree is full, is told before the session is read. Answers the exit
+/// status, and tells why where it is not 0.
 pub fn open_watch<
     R: Files + AllocGlobal,
     I: Read + Drop,

@@ -286,8 +286,8 @@ pub fn why<R: Files + AllocGlobal, I: Read + Drop, O: Write + Drop, E: Sink, C: 
     end_asking(done, notes.as_slice(), errors)
 }
 
-/// Reads the logs that are asked, and tells the keys that left. Answers the exit status, 0 or 2 to 5, and tells as `why`
-/// does.
+/// Reads the logs that are asked, and tells the keys that left. Answers the exit status, 0 or 2 to 5, and tells as
+/// `why` does.
 pub fn gone<R: Files + AllocGlobal, I: Read + Drop, O: Write + Drop, E: Sink, C: Clock, W: Sink>(
     rt: &R,
     asked: GoneAsked,

@@ -461,9 +461,9 @@ fn program_with<
 /// Answers go to `writer`. At status 0 nothing goes to `errors`, but what an import tells of itself, that of `open`
 /// too, what is told of traces that fill the tree, which commands of a run were malformed or refused, and what is to be
 /// known of logs that were asked of keys. At status 1 that goes there, too. At any other the text of the reason does,
-/// whole where no write to `errors` has failed. A report goes to its files, and only how the program was stopped is told
-/// of it. How far traces, imports and logs have come goes to `progress`, and nothing does where no word asks for it. The
-/// players of a recording wait for one another.
+/// whole where no write to `errors` has failed. A report goes to its files, and only how the program was stopped is
+/// told of it. How far traces, imports and logs have come goes to `progress`, and nothing does where no word asks for
+/// it. The players of a recording wait for one another.
 pub fn program<
     R: Files + Threads + Wait + Clock + Sync + AllocGlobal,
     S: AsStr,

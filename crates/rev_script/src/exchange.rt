@@ -116,7 +116,8 @@ impl<'a, I: Read, O: Write> Exchange<'a, I, O> {
         self.outbox.send()
     }
 
-    /// Whether a write has failed, or what waited could not be sent. A reader that fails is asked so whose fault it was.
+    /// Whether a write has failed, or what waited could not be sent. A reader that fails is asked so whose fault it
+    /// was.
     pub fn has_failed(&self) -> bool
         ensures { result ≡ self.now.outbox.has_failed }
     {

@@ -74,8 +74,8 @@ impl<A: Allocator + Copy> Driver<A> {
         }
     }
 
-    // Whether a look-up finds the key in the class, as an item that may be: one that was flushed was stored anew by a line
-    // that is missing.
+    // Whether a look-up finds the key in the class, as an item that may be: one that was flushed was stored anew by a
+    // line that is missing.
     pub(super) fn holds(&self, key: &Key<A>, class: usize, stage: &Stage<A>) -> bool {
         is_found(stage, key, class) && !self.is_flushed(key, stage)
     }

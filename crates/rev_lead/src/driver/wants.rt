@@ -16,7 +16,8 @@ use rev_watch::event::{StoreOutcome, Timestamp};
 use std::alloc::Allocator;
 
 impl<A: Allocator + Copy> Driver<A> {
-    // A chunk of the class is wanted, and none may be free: what the server let go goes. `own` is the key that wants it.
+    // A chunk of the class is wanted, and none may be free: what the server let go goes. `own` is the key that wants
+    // it.
     #[tactic(auto, using(crate::proofs::Leading::led_more, crate::proofs::Leading::led_same))]
     pub(super) fn want(
         &mut self,
