@@ -3,7 +3,7 @@ ghost use Rattle.rev_lead.specs.Acts.{Led};
 
 use super::Driver;
 use crate::agreeing::is_found;
-use crate::holding::{Holding, has_page_to_come, holding_of};
+use crate::holding::{Holding, has_page_to_come, holding_of, tail_of};
 use crate::role::Role;
 use crate::stage::{LeadFault, Stage};
 use crate::steps::{get, touch};
@@ -11,6 +11,7 @@ use crate::tally::Adjustment;
 use crate::wanting::{Next, next_of};
 use rev_items::Key;
 use rev_log::foresight::{Coming, Foresight};
+use rev_model::Queue;
 use std::alloc::Allocator;
 
 /// How many misses of a key are looked through for a flush.
@@ -115,6 +116,54 @@ impl<A: Allocator + Copy> Driver<A> {
         } else {
             self.end_flushed(key, stage)
         }
+    }
+
+    // The maintainer comes to a queue: its last item goes, where it is known to be flushed and no later line meets it.
+    #[tactic(auto, using(crate::proofs::Leading::led_more, crate::proofs::Leading::led_same))]
+    pub(super) fn sweep(
+        &mut self,
+        class: usize,
+        queue: Queue,
+        ahead: &Foresight<A>,
+        stage: &mut Stage<A>,
+    ) -> Result<(), LeadFault>
+        ensures led { Led stage.old stage.new }
+    {
+        match self.flushed_tail(class, queue, ahead, stage)? {
+            Some(key) => self.flush(&key, stage),
+            None => Ok(()),
+        }
+    }
+
+    // The key of a queue's last item, where it goes so.
+    fn flushed_tail(
+        &self,
+        class: usize,
+        queue: Queue,
+        ahead: &Foresight<A>,
+        stage: &Stage<A>,
+    ) -> Result<Option<Key<A>>, LeadFault> {
+        if !self.flushes.is_any() {
+            return Ok(None);
+        }
+        let Some(tail) = tail_of(stage.store(), class, queue) else {
+            return Ok(None);
+        };
+        match stage.store().content(tail) {
+            Some(item) if self.goes_flushed(item.key(), ahead, stage) => Ok(Some(
+                item.key().copy(self.alloc)?,
+            )),
+            _ => Ok(None),
+        }
+    }
+
+    // Whether the key's item is known to be flushed, and no later line meets it.
+    fn goes_flushed(&self, key: &Key<A>, ahead: &Foresight<A>, stage: &Stage<A>) -> bool {
+        let is_met = match next_of(ahead.first_of(key)) {
+            Next::Found | Next::Expired | Next::Flushed | Next::Evicted => true,
+            _ => false,
+        };
+        !is_met && self.is_flushed(key, stage) && !self.waiting.has(key)
     }
 
     // An item of the class that is known to be flushed, and that no later line finds, unless a page comes.

@@ -222,6 +222,7 @@ impl<A: Allocator + Copy> Driver<A> {
             return Ok(());
         };
         for queue in [Queue::Hot, Queue::Warm, Queue::Cold] {
+            self.sweep(class, queue, ahead, stage)?;
             if self.may_pull(class, queue, ahead, stage) {
                 let step = ActorStep::Pull {
                     class: number,
