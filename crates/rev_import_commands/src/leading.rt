@@ -10,6 +10,7 @@ use rev_choices::Factor;
 use rev_import::setup::Setup;
 use rev_intake::report::put_unfollowed;
 use rev_messages::Stop;
+use rev_replay::coverage::Coverage;
 use rev_replay::fault::ReplayFault;
 use rev_watch::obstacles::{Obstacle, obstacles};
 use rev_watch::settings::Settings;
@@ -32,12 +33,33 @@ fn lines_of(
     Ok(lines)
 }
 
+// Why logs are not read, by lines that say it.
+fn refusal_by(lines: String) -> Result<Stop, AllocError> {
+    let mut lines = lines;
+    lines.push_str("lrudb: with --anyway the logs are read all the same\n")?;
+    Ok(Stop::BadImport(lines))
+}
+
 // Why logs of a server with these obstacles are not read, where the file of this name tells of them.
 fn refusal(alloc: Global, name: &str, obstacles: &[Option<Obstacle>]) -> Result<Stop, AllocError> {
     let front = format!(in alloc; "lrudb: {name}: ")?;
-    let mut lines = lines_of(alloc, front.as_str(), obstacles)?;
-    lines.push_str("lrudb: with --anyway the logs are read all the same\n")?;
-    Ok(Stop::BadImport(lines))
+    refusal_by(lines_of(alloc, front.as_str(), obstacles)?)
+}
+
+// Why a log of this name is not read on, which shows an item of so many bytes in a class that is not the one of the
+// server's settings.
+fn other_class(alloc: Global, log: &str, size: u32, class: u32) -> Result<Stop, AllocError> {
+    refusal_by(format!(in alloc;
+        "lrudb: {log}: an item with {size} bytes of data is in class {class}, and the settings give another class: they are of another server, or it has slab_sizes of its own\n"
+    )?)
+}
+
+// The same as why the program is stopped.
+fn stop_by(refusal: Result<Stop, AllocError>) -> Stop {
+    match refusal {
+        Ok(stop) => stop,
+        Err(_) => Stop::Memory,
+    }
 }
 
 // Sees whether the rules cover these settings, of a file of this name. Where one is an obstacle, the logs are refused,
@@ -58,14 +80,23 @@ fn see_obstacles(
     if met.iter().all(|obstacle| obstacle.is_none()) {
         return Ok(());
     }
-    match refusal(alloc, name, &met) {
-        Ok(stop) => Err(stop),
-        Err(_) => Err(Stop::Memory),
+    Err(stop_by(refusal(alloc, name, &met)))
+}
+
+// Whether logs are replayed on that show items which the rules do not cover.
+fn coverage_of(settings: &Settings, anyway: bool) -> Coverage {
+    if anyway {
+        Coverage::Anyway
+    } else {
+        Coverage::Checked {
+            chunk_max: settings.slab_chunk_max,
+        }
     }
 }
 
 /// What lrudb is opened with in the place of the server whose settings the file of this name has, where its logs are to
-/// lead. Behind `notes` goes what the rules do not cover of these settings.
+/// lead; and what is to become of logs that show items which the rules do not cover. Behind `notes` goes what they do not
+/// cover of the settings.
 ///
 /// Err: memory was refused; the file can't be read, or is no text of settings; or the server has a setting under which
 /// other keys leave than the rules say, unless the logs are to be read `anyway`.
@@ -75,14 +106,14 @@ pub fn leading_setup<R: Files + AllocGlobal>(
     factor: Option<Factor>,
     anyway: bool,
     notes: &mut Vec<u8>,
-) -> Result<Setup, Stop>
-    ensures { IfOk result (λ setup. IsWithinLimits setup.config) }
+) -> Result<(Setup, Coverage), Stop>
+    ensures { IfOk result (λ leading. IsWithinLimits leading.0.config) }
 {
     let settings = settings_of(rt, name)?;
     see_obstacles(rt.alloc(), name, &settings, anyway, notes)?;
     let setup = setup_by(&settings, factor)?;
     put_unfollowed(notes, &setup.unfollowed)?;
-    Ok(setup)
+    Ok((setup, coverage_of(&settings, anyway)))
 }
 
 // Why there is nothing to tell of a life of the server that was not there.
@@ -112,5 +143,9 @@ pub fn stop_of_replay(alloc: Global, fault: ReplayFault, log: &str) -> Stop {
         ReplayFault::NoEvent => Stop::NoEvent(named),
         ReplayFault::NoLife { lives } => no_life(alloc, log, lives),
         ReplayFault::TooManySteps => bad_file(alloc, log, "too many steps for an event"),
+        ReplayFault::Chunked { most } => {
+            stop_by(refusal(alloc, log, &[Some(Obstacle::ChunkedItems(most))]))
+        }
+        ReplayFault::OtherClass { size, class } => stop_by(other_class(alloc, log, size, class)),
     }
 }

@@ -16,6 +16,7 @@ use rev_messages::Stop;
 use rev_messages::progress::Progress;
 use rev_options::{Leader, WatchImport};
 use rev_output::Sink;
+use rev_replay::coverage::Coverage;
 use rev_replay::fault::ReplayFault;
 use rev_replay::notes::{put_life, put_notes};
 use rev_replay::run::{Replay, replay_logs};
@@ -30,6 +31,7 @@ use std::rt::{Clock, Files};
 #[derive(Drop)]
 struct LedLogs<'a, F> {
     setup: &'a Setup,
+    coverage: Coverage,
     asked: &'a WatchImport,
     logs: Vec<F>,
     ghost sound: { IsWithinLimits setup.now.config },
@@ -47,11 +49,12 @@ struct Led<'a> {
 fn opened<'a>(
     alloc: Global,
     setup: &'a Setup,
+    coverage: Coverage,
     asked: &WatchImport,
 ) -> Result<Replay<'a, Global>, ReplayFault>
     requires { IsWithinLimits setup.now.config }
 {
-    match Replay::open(alloc, setup) {
+    match Replay::open(alloc, setup, coverage) {
         Ok(opened) => {
             let mut replay = opened;
             replay.limit_to(asked.first, asked.last);
@@ -127,9 +130,14 @@ impl<'a, F: Read + Drop> Making for LedLogs<'a, F> {
     type Made = Led<'a>;
 
     fn make<K: ScriptOutlet>(self, sink: &mut K) -> Result<Led<'a>, Stop> {
-        let LedLogs { setup, asked, logs } = self;
+        let LedLogs {
+            setup,
+            coverage,
+            asked,
+            logs,
+        } = self;
         let alloc = *logs.allocator();
-        match opened(alloc, setup, asked) {
+        match opened(alloc, setup, coverage, asked) {
             Err(fault) => Err(stop_of_replay(alloc, fault, name_in(asked.logs.as_slice(), 0))),
             Ok(opened) => {
                 let mut replay = ManuallyDrop::new(opened);
@@ -147,13 +155,19 @@ fn send_logs<'a, R: Files + AllocGlobal, F: Read + Drop, O: Write>(
     rt: &R,
     asked: &'a WatchImport,
     setup: &'a Setup,
+    coverage: Coverage,
     words: &[u8],
     logs: Vec<F>,
     writer: &mut O,
 ) -> Result<Led<'a>, Stop>
     requires { IsWithinLimits setup.now.config }
 {
-    let making = LedLogs { setup, asked, logs };
+    let making = LedLogs {
+        setup,
+        coverage,
+        asked,
+        logs,
+    };
     match asked.split {
         None => send(rt, asked.out.as_str(), words, making, writer),
         Some(_) => send_with_start(rt, asked.out.as_str(), words, making),
@@ -165,6 +179,7 @@ fn make_led<'a, R: Files + AllocGlobal, I: Read + Drop, O: Write, C: Clock, W: S
     rt: &R,
     asked: &'a WatchImport,
     setup: &'a Setup,
+    coverage: Coverage,
     words: &[u8],
     reader: I,
     writer: &mut O,
@@ -175,7 +190,7 @@ fn make_led<'a, R: Files + AllocGlobal, I: Read + Drop, O: Write, C: Clock, W: S
     let names = asked.logs.as_slice();
     progress.expect(rt, names);
     let logs = all_opened(rt, rt.alloc(), names, reader, progress)?;
-    send_logs(rt, asked, setup, words, logs, writer)
+    send_logs(rt, asked, setup, coverage, words, logs, writer)
 }
 
 // The number of the server's life that is written, of so many.
@@ -260,13 +275,15 @@ fn prepare<R: Files + AllocGlobal>(
     rt: &R,
     asked: &WatchImport,
     notes: &mut Vec<u8>,
-) -> Result<Prepared, Stop>
-    ensures { IfOk result (λ prepared. IsWithinLimits prepared.setup.config) }
+) -> Result<(Prepared, Coverage), Stop>
+    ensures { IfOk result (λ prepared. IsWithinLimits prepared.0.setup.config) }
 {
     let stats = stats_if(rt, &asked.stats)?;
     let settings = asked.settings.as_str();
-    let setup = leading_setup(rt, settings, asked.factor, is_anyway(asked.leader), notes)?;
-    with_words(rt.alloc(), stats, setup)
+    let anyway = is_anyway(asked.leader);
+    let (setup, coverage) = leading_setup(rt, settings, asked.factor, anyway, notes)?;
+    let prepared = with_words(rt.alloc(), stats, setup)?;
+    Ok((prepared, coverage))
 }
 
 /// Makes the script that is asked for, of the steps that the logs lead to, and adds what is told of it to the notes.
@@ -282,14 +299,14 @@ pub(crate) fn import_led<R: Files + AllocGlobal, I: Read + Drop, O: Write, C: Cl
 {
     match prepare(rt, asked, notes) {
         Err(stop) => Err(stop),
-        Ok(prepared) => {
+        Ok((prepared, coverage)) => {
             let Prepared {
                 stats,
                 setup,
                 words,
             } = prepared;
             let words = words.as_slice();
-            match make_led(rt, asked, &setup, words, reader, writer, progress) {
+            match make_led(rt, asked, &setup, coverage, words, reader, writer, progress) {
                 Err(stop) => Err(stop),
                 Ok(led) => {
                     match add_led(notes, asked, words, &led, setup_lines(&setup), stats) {

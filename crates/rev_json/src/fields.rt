@@ -1,8 +1,10 @@
 //! The fields of an object, made of the parts of a row.
 
+use crate::culprit::{Scene, put_culprit};
 use crate::forms::Part;
 use crate::words::{Words, cut, is_word};
 use rev_script::number::number;
+use rev_undotree::NodeId;
 use serde::Serializer;
 use std::fmt;
 
@@ -147,6 +149,41 @@ fn put_word_part<S: Serializer>(
         Part::Figures(name) => put_figures(out, name, word, words.next().unwrap_or(b"")),
         Part::Move(name) => put_move(out, name, word),
         _ => Ok(()),
+    }
+}
+
+// Puts what tells a key's leaving from a log, where that is told: the evidence, the second and the culprit.
+fn put_evidence<S: Serializer>(
+    out: &mut S,
+    scene: &Scene<'_>,
+    node: &[u8],
+    cause: &[u8],
+    words: &mut Words<'_>,
+) -> Result<(), S::Error> {
+    let Some(evidence) = words.next() else {
+        return Ok(());
+    };
+    put_word(out, "evidence", evidence)?;
+    put_number(out, "ts", words.next().unwrap_or(b""))?;
+    match number(node, u64::from(u32::MAX)) {
+        Some(node) => put_culprit(out, scene, NodeId(node as u32), cause),
+        None => Ok(()),
+    }
+}
+
+/// Puts why a key left, at the node of this number.
+pub fn put_left<S: Serializer>(
+    out: &mut S,
+    scene: &Scene<'_>,
+    node: &[u8],
+    words: &mut Words<'_>,
+) -> Result<(), S::Error> {
+    match words.next() {
+        Some(cause) => {
+            put_word(out, "cause", cause)?;
+            put_evidence(out, scene, node, cause, words)
+        }
+        None => Ok(()),
     }
 }
 

@@ -28,6 +28,9 @@ pub enum Part {
     Entries(&'static str),
     /// All that follows, as it stands.
     Rest(&'static str),
+    /// Why a key left, at the node that is the first part: its cause, and where a log tells of it what tells it, the
+    /// second, and the step that pushed it out.
+    Left,
 }
 
 /// A row's kind, and its parts.
@@ -147,7 +150,7 @@ static NAMED: [Form; 16] = [
     },
     Form {
         kind: "LEFT",
-        parts: &[Part::Number("node"), Part::Word("cause")],
+        parts: &[Part::Number("node"), Part::Left],
     },
     Form {
         kind: "ERROR",
@@ -216,7 +219,7 @@ static NODE: Form = Form {
 
 static DEPARTURE: Form = Form {
     kind: "GONE",
-    parts: &[Part::Number("node"), Part::Key("key"), Part::Word("cause")],
+    parts: &[Part::Number("node"), Part::Key("key"), Part::Left],
 };
 
 static STORED: Form = Form {
@@ -241,11 +244,7 @@ static MOVED: Form = Form {
 
 static LEFT: Form = Form {
     kind: "EVENT",
-    parts: &[
-        Part::Number("node"),
-        Part::Word("event"),
-        Part::Word("cause"),
-    ],
+    parts: &[Part::Number("node"), Part::Word("event"), Part::Left],
 };
 
 static HELP: Form = Form {

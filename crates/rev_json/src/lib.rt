@@ -2,6 +2,7 @@
 #![tactic(auto)]
 
 mod command;
+mod culprit;
 mod fields;
 mod forms;
 mod object;

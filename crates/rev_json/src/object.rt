@@ -3,6 +3,7 @@ ghost use Rattle.std.specs.Prelude.{IfOk};
 ghost use Rattle.rev_json.specs.JsonLines.{IsJsonLine};
 
 use crate::command::Command;
+use crate::culprit::Scene;
 use crate::row::Rows;
 use serde::Serialize;
 use std::alloc::{AllocError, Global};
@@ -19,11 +20,12 @@ struct Object<'a> {
     answer: Rows<'a>,
 }
 
-/// A line of JSON, with LF: the number of a command line, the node behind it, its command and its answer.
+/// A line of JSON, with LF: the number of a command line, the session's current node behind it, its command and its
+/// answer.
 pub fn json_line(
     alloc: Global,
     line: u64,
-    node: u32,
+    scene: &Scene<'_>,
     command: Command,
     answer: &[u8],
 ) -> Result<Vec<u8>, AllocError>
@@ -31,9 +33,10 @@ pub fn json_line(
 {
     let object = Object {
         line,
-        node,
+        node: scene.session.current().0,
         command: command.name,
         answer: Rows {
+            scene,
             text: answer,
             unnamed: command.unnamed,
         },

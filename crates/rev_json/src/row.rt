@@ -2,8 +2,9 @@
 ghost use Rattle.std.specs.Prelude.{◌≤◌, ◌<◌, length, IfSome};
 
 use crate::command::Unnamed;
-use crate::fields::{put_bytes, put_part};
-use crate::forms::{Form, form_of};
+use crate::culprit::Scene;
+use crate::fields::{put_bytes, put_left, put_part};
+use crate::forms::{Form, Part, form_of};
 use crate::words::{Words, is_word};
 use memchr::memchr;
 use rev_script::number::number;
@@ -77,23 +78,33 @@ fn first_row(text: &[u8]) -> Option<(Row<'_>, &[u8])>
 // Puts the fields that a form names.
 fn put_fields<S: Serializer>(
     out: &mut S,
+    scene: &Scene<'_>,
     form: &Form,
     words: &mut Words<'_>,
 ) -> Result<(), S::Error> {
+    let first = words.first();
     out.str(form.kind)?;
     for part in form.parts {
-        put_part(out, *part, words)?;
+        match part {
+            Part::Left => put_left(out, scene, first, words)?,
+            _ => put_part(out, *part, words)?,
+        }
     }
     Ok(())
 }
 
 // Puts the object of a row.
-fn put_row<S: Serializer>(out: &mut S, row: &Row<'_>, unnamed: Unnamed) -> Result<(), S::Error> {
+fn put_row<S: Serializer>(
+    out: &mut S,
+    scene: &Scene<'_>,
+    row: &Row<'_>,
+    unnamed: Unnamed,
+) -> Result<(), S::Error> {
     out.begin_map(None)?;
     out.key("kind")?;
     match form_of(row.line, unnamed) {
         None => put_bytes(out, row.line)?,
-        Some((form, mut words)) => put_fields(out, form, &mut words)?,
+        Some((form, mut words)) => put_fields(out, scene, form, &mut words)?,
     }
     if let Some(data) = row.data {
         out.key("data")?;
@@ -103,20 +114,26 @@ fn put_row<S: Serializer>(out: &mut S, row: &Row<'_>, unnamed: Unnamed) -> Resul
 }
 
 // Puts the objects of all rows, but for an `END`.
-fn put_rows<S: Serializer>(out: &mut S, text: &[u8], unnamed: Unnamed) -> Result<(), S::Error> {
+fn put_rows<S: Serializer>(
+    out: &mut S,
+    scene: &Scene<'_>,
+    text: &[u8],
+    unnamed: Unnamed,
+) -> Result<(), S::Error> {
     let mut rest = text;
     'rows: while let Some((row, behind)) = first_row(rest) {
         if !is_word(row.line, b"END") {
-            put_row(out, &row, unnamed)?;
+            put_row(out, scene, &row, unnamed)?;
         }
         rest = behind;
     }
     Ok(())
 }
 
-/// The rows of an answer, without the `END` of a list.
+/// The rows of an answer, without the `END` of a list, and what they are about.
 #[derive(Clone, Copy)]
 pub struct Rows<'a> {
+    pub scene: &'a Scene<'a>,
     pub text: &'a [u8],
     pub unnamed: Unnamed,
 }
@@ -126,7 +143,7 @@ impl Described for Rows<'_> {}
 impl Serialize for Rows<'_> {
     fn serialize<S: Serializer>(&self, out: &mut S) -> Result<(), S::Error> {
         out.begin_seq(None)?;
-        put_rows(out, self.text, self.unnamed)?;
+        put_rows(out, self.scene, self.text, self.unnamed)?;
         out.end_seq()
     }
 }

@@ -3,10 +3,12 @@ ghost use Rattle.std.specs.Prelude.{◌≡◌, ℕ, List, IfOk, IfErr};
 ghost use Rattle.rev_script.specs.Lines.{IsFirst};
 ghost use Rattle.rev_json.specs.Told.{IsTold, IsStoppedTelling};
 ghost use Rattle.rev_shell.specs.Run.{without_bookmarks};
-ghost use Rattle.rev_shell.specs.Answers.{with_bookmarks};
+ghost use Rattle.rev_shell.specs.Answers.{beside};
 
 use crate::command::command_of;
+use crate::culprit::Scene;
 use crate::object::json_line;
+use rev_evidence::notes::LogNotes;
 use rev_script::dialect::Dialect;
 use rev_script::duplex::Duplex;
 use rev_script::lines::Lines;
@@ -20,16 +22,17 @@ fn tell_lines<S: Duplex>(
     alloc: Global,
     lines: &mut Lines<S, Global>,
     session: &mut Session<Global>,
+    log: &LogNotes<Global>,
     bookmarks: &mut Bookmarks<'_, Global>,
     text: &mut Vec<u8>,
 ) -> Result<Summary, RunFault>
     requires { IsFirst lines.old }
     ensures ok { IfOk result (λ sum. IsTold lines.old.input.dialect lines.old.input.bytes.source lines.new.input.bytes.source
         lines.old.input.bytes.source.beside.sink lines.new.input.bytes.source.beside.sink
-        (with_bookmarks session.old bookmarks.old) (with_bookmarks session.new bookmarks.new) sum) }
+        (beside session.old bookmarks.old log.now) (beside session.new bookmarks.new log.now) sum) }
     ensures err { IfErr result (λ e. IsStoppedTelling lines.old.input.dialect lines.old.input.bytes.source lines.new.input.bytes.source
         lines.old.input.bytes.source.beside.sink lines.new.input.bytes.source.beside.sink
-        (with_bookmarks session.old bookmarks.old) e) }
+        (beside session.old bookmarks.old log.now) e) }
     ensures same { lines.new.input.bytes.source.identity ≡ lines.old.input.bytes.source.identity }
     ensures writer { lines.new.input.bytes.source.beside.writer ≡ lines.old.input.bytes.source.beside.writer }
 {
@@ -54,17 +57,12 @@ fn tell_lines<S: Duplex>(
         };
         let command = command_of(&line);
         let is_bad = is_bad(&line);
-        let is_refused = match answer_line(Prompts::Hidden, session, bookmarks, line, text) {
+        let is_refused = match answer_line(Prompts::Hidden, session, log, bookmarks, line, text) {
             Err(_) => return Err(RunFault::Memory { line: count + 1 }),
             Ok(refused) => refused,
         };
-        let told = match json_line(
-            alloc,
-            count + 1,
-            session.current().0,
-            command,
-            text.as_slice(),
-        ) {
+        let scene = Scene { session, log };
+        let told = match json_line(alloc, count + 1, &scene, command, text.as_slice()) {
             Err(_) => return Err(RunFault::Memory { line: count + 1 }),
             Ok(told) => told,
         };
@@ -81,28 +79,30 @@ fn tell_lines<S: Duplex>(
 /// Runs the script that the streams give, in a dialect, on a session, with no bookmark at first, and tells of each
 /// line in a line of JSON, with LF: `line`, its number from 1; `node`, the current node behind it; `command`, the words
 /// that name its command, or null where it is malformed; and `answer`, an object for each line of its answer but the
-/// `END` of a list. It is written once all steps of the line are done. The session keeps all that was played.
+/// `END` of a list. What a log tells of the session's nodes is told with them. It is written once all steps of the line
+/// are done. The session keeps all that was played.
 ///
 /// Memory is also taken for each line's JSON. Where there is none, the line's steps are done, and nothing is told of
 /// it.
 pub fn run_as_json<X: Duplex>(
     alloc: Global,
     session: &mut Session<Global>,
+    log: &LogNotes<Global>,
     dialect: Dialect,
     streams: &mut X,
 ) -> Result<Summary, RunFault>
     ensures ok { IfOk result (λ sum. (names : List (List ℕ × ℕ)) × IsTold dialect (X.told streams.old) (X.told streams.new)
         (X.told streams.old).beside.sink (X.told streams.new).beside.sink
-        (without_bookmarks session.old) (with_bookmarks session.new names) sum) }
+        (without_bookmarks session.old log.now) (beside session.new names log.now) sum) }
     ensures err { IfErr result (λ e. IsStoppedTelling dialect (X.told streams.old) (X.told streams.new)
         (X.told streams.old).beside.sink (X.told streams.new).beside.sink
-        (without_bookmarks session.old) e) }
+        (without_bookmarks session.old log.now) e) }
     ensures writer { (X.told streams.new).beside.writer ≡ (X.told streams.old).beside.writer }
 {
     let mut bookmarks = Bookmarks::new(&alloc);
     let mut lines = Lines::of(alloc, streams, dialect);
     let mut text = Vec::new(alloc);
-    let ended = tell_lines(alloc, &mut lines, session, &mut bookmarks, &mut text);
+    let ended = tell_lines(alloc, &mut lines, session, log, &mut bookmarks, &mut text);
     let _streams = lines.into_source();
     match ended {
         Err(e) => Err(e),

@@ -42,6 +42,12 @@ impl<'a> Words<'a> {
         }
     }
 
+    /// The next word, which is not taken; empty where there is none.
+    pub fn first(&self) -> &'a [u8] {
+        let mut words = *self;
+        words.next().unwrap_or(b"")
+    }
+
     /// Takes all that is left.
     pub fn rest(&mut self) -> Option<&'a [u8]> {
         self.rest.take()

@@ -13,15 +13,15 @@ use Rattle.rev_explain.specs.declared.events.Event.{Event}
 use Rattle.rev_lead.specs.declared.role.Role.{Role}
 use Rattle.rev_lead.specs.declared.role.Role.TheVariants as roles
 use Rattle.rev_watch.specs.declared.event.Timestamp.{Timestamp}
-use Rattle.rev_lives.specs.Heard.{role_of, step_number}
-use Rattle.rev_lives.specs.Lives.{PlainCulprit, PlainLeft, PlainKey, ended_by, begun, reopened, hit, shifted}
-use Rattle.rev_lives.specs.Times.{micros}
-use Rattle.rev_lives.specs.Verdicts.{told}
-use Rattle.rev_lives.specs.declared.life.Stored.{Stored}
-use Rattle.rev_lives.specs.declared.verdict.Verdict.{Verdict}
-use Rattle.rev_lives.specs.declared.verdict.Reason.TheVariants as reasons
-use Rattle.rev_lives.specs.declared.verdict.Evidence.{Evidence}
-use Rattle.rev_lives.specs.declared.verdict.Evidence.TheVariants as evidence
+use Rattle.rev_evidence.specs.Heard.{role_of, step_number}
+use Rattle.rev_life.specs.Lives.{PlainCulprit, PlainLeft, PlainKey, ended_by, begun, reopened, hit, shifted}
+use Rattle.rev_pushers.specs.Times.{micros}
+use Rattle.rev_evidence.specs.Verdicts.{told}
+use Rattle.rev_pushers.specs.declared.stored.Stored.{Stored}
+use Rattle.rev_evidence.specs.declared.verdict.Verdict.{Verdict}
+use Rattle.rev_evidence.specs.declared.verdict.Reason.TheVariants as reasons
+use Rattle.rev_evidence.specs.declared.verdict.Evidence.{Evidence}
+use Rattle.rev_evidence.specs.declared.verdict.Evidence.TheVariants as evidence
 
 -- what is told of an event, for one key
 pub record Facts : Type 0 where

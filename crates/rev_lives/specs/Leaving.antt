@@ -7,35 +7,18 @@ use Rattle.rev_explain.specs.Departures.{PlainDeparture}
 use Rattle.rev_model.specs.State.{find, owner_of}
 use Rattle.rev_model.specs.declared.ChunkRef.{ChunkRef}
 use Rattle.rev_watch.specs.declared.event.Event.{Event}
-use Rattle.rev_watch.specs.declared.event.Timestamp.{Timestamp}
-use Rattle.rev_lives.specs.Class.{IsLeft}
-use Rattle.rev_lives.specs.Heard.{step_number, said, named}
-use Rattle.rev_lives.specs.Lives.{PlainCulprit}
+use Rattle.rev_life.specs.Class.{IsLeft}
+use Rattle.rev_evidence.specs.Heard.{step_number, said, named}
+use Rattle.rev_life.specs.Leaving.{PlainLeaving}
 use Rattle.rev_lives.specs.Told.{state, verdict_at, culprit_at}
-use Rattle.rev_lives.specs.Verdicts.{told}
+use Rattle.rev_evidence.specs.Verdicts.{told}
 use Rattle.rev_replay.specs.declared.heard.Heard.{Heard}
-use Rattle.rev_lives.specs.declared.leaving.Leaving.{Leaving}
-use Rattle.rev_lives.specs.declared.leaving.Pusher.{Pusher}
-use Rattle.rev_lives.specs.declared.verdict.Verdict.{Verdict}
-use Rattle.rev_lives.specs.declared.verdict.Reason.TheVariants as reasons
-use Rattle.rev_lives.specs.declared.verdict.Evidence.TheVariants as evidence
-use Rattle.rev_lives.specs.declared.verdict.Said.{Said}
-use Rattle.rev_lives.specs.declared.verdict.Said.TheVariants as said_words
-
--- a key that left, without an allocator
-pub record PlainLeaving : Type 0 where
-  pub time : Timestamp
-  pub step : ℕ
-  pub key : List ℕ
-  pub class : Option ℕ
-  pub verdict : Verdict
-  pub culprit : Option PlainCulprit
-
-abbrev pub plain_pusher : {A : Type 0} → Pusher A → PlainCulprit
-plain_pusher p = record { key = p.key.now; connection = p.connection; step = p.step }
-
-abbrev pub plain_leaving : {A : Type 0} → Leaving A → PlainLeaving
-plain_leaving l = record { time = l.time; step = l.step; key = l.key.now; class = l.class; verdict = l.verdict; culprit = option_map plain_pusher l.culprit }
+use Rattle.rev_life.specs.declared.leaving.Leaving.{Leaving}
+use Rattle.rev_evidence.specs.declared.verdict.Verdict.{Verdict}
+use Rattle.rev_evidence.specs.declared.verdict.Reason.TheVariants as reasons
+use Rattle.rev_evidence.specs.declared.verdict.Evidence.TheVariants as evidence
+use Rattle.rev_evidence.specs.declared.verdict.Said.{Said}
+use Rattle.rev_evidence.specs.declared.verdict.Said.TheVariants as said_words
 
 -- the same with another class
 abbrev pub with_class : Option ℕ → PlainLeaving → PlainLeaving

@@ -5,14 +5,14 @@ use Rattle.std.specs.Option.{option_copied, option_map}
 use Rattle.rev_model.specs.State.{State}
 use Rattle.rev_tree.specs.Rows.{at}
 use Rattle.rev_watch.specs.declared.event.Event.{Event}
-use Rattle.rev_lives.specs.Heard.{role_of, step_number, has_flushed, said, connection, names, is_hit, gone_by}
-use Rattle.rev_lives.specs.Alive.{is_dead}
-use Rattle.rev_lives.specs.Blame.{PlainBlamed, blame}
+use Rattle.rev_evidence.specs.Heard.{role_of, step_number, has_flushed, said, connection, names, is_hit, gone_by}
+use Rattle.rev_life.specs.Alive.{is_dead}
+use Rattle.rev_evidence.specs.Blame.{PlainBlamed, blame}
 use Rattle.rev_lives.specs.Follow.{Facts}
-use Rattle.rev_lives.specs.Lives.{PlainCulprit}
-use Rattle.rev_lives.specs.Verdicts.{verdict_of}
+use Rattle.rev_life.specs.Lives.{PlainCulprit}
+use Rattle.rev_evidence.specs.Verdicts.{verdict_of}
 use Rattle.rev_model.specs.declared.Cause.{Cause}
-use Rattle.rev_lives.specs.declared.verdict.Verdict.{Verdict}
+use Rattle.rev_evidence.specs.declared.verdict.Verdict.{Verdict}
 use Rattle.rev_replay.specs.declared.heard.Heard.{Heard}
 
 -- the state behind the event's steps

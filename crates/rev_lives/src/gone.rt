@@ -1,14 +1,15 @@
 //! The keys that left, told as events are heard.
 ghost use Rattle.std.specs.Prelude.{◌≡◌, [], IfOk, if◌then◌else◌};
-ghost use Rattle.rev_lives.specs.Leaving.{plain_leaving};
-ghost use Rattle.rev_lives.specs.Lines as tokens;
-ghost use Rattle.rev_lives.specs.Parts.{with_line};
-ghost use Rattle.rev_lives.specs.Texts as texts;
+ghost use Rattle.rev_life.specs.Leaving.{plain_leaving};
+ghost use Rattle.rev_life.specs.Lines as tokens;
+ghost use Rattle.rev_pushers.specs.Parts.{with_line};
+ghost use Rattle.rev_life.specs.Texts as texts;
 
-use crate::filter::Filter;
-use crate::leaving::{Leaving, leavings};
-use crate::lines::leaving_line;
-use crate::text::put_leaving;
+use crate::leaving::leavings;
+use rev_life::filter::Filter;
+use rev_life::leaving::Leaving;
+use rev_life::lines::leaving_line;
+use rev_life::text::put_leaving;
 use rev_output::{Sink, write_all};
 use rev_replay::fault::ReplayFault;
 use rev_replay::heard::{Heard, Listener};

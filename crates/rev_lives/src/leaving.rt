@@ -3,43 +3,23 @@ ghost use Rattle.std.specs.Prelude.{◌≡◌, All, IfOk, IfSome, None, map};
 ghost use Rattle.std.specs.Option.{option_map, option_copied};
 ghost use Rattle.rev_explain.specs.Departures.{departures as departures_of};
 ghost use Rattle.rev_lives.specs.Leaving as rule;
-ghost use Rattle.rev_lives.specs.Leaving.{plain_leaving, plain_pusher, with_class};
+ghost use Rattle.rev_lives.specs.Leaving.{with_class};
+ghost use Rattle.rev_life.specs.Leaving.{plain_leaving, plain_pusher};
 ghost use Rattle.rev_lives.specs.Told.{verdict_at as verdict_there, culprit_at};
 
-use crate::blame::blame;
-use crate::class::class_left;
-use crate::heard::{connection, has_flushed, named, role_of, said, step_number};
-use crate::verdict::{Evidence, Reason, Said, Verdict, verdict_of};
+use rev_evidence::blame::blame;
+use rev_evidence::heard::{connection, has_flushed, named, role_of, said, step_number};
+use rev_evidence::verdict::{Evidence, Reason, Said, Verdict, verdict_of};
 use rev_explain::departures;
 use rev_explain::events::Departure;
 use rev_items::Key;
+use rev_life::class::class_left;
+use rev_life::leaving::{Leaving, Pusher};
 use rev_model::Cause;
 use rev_replay::heard::Heard;
 use rev_undotree::NodeId;
-use rev_watch::event::{Event, Timestamp};
+use rev_watch::event::Event;
 use std::alloc::{AllocError, Allocator};
-
-/// A key that left.
-#[derive(Drop)]
-pub struct Leaving<'a, A: Allocator> {
-    pub time: Timestamp,
-    /// The step at which it left, from 1.
-    pub step: u64,
-    pub key: &'a Key<A>,
-    /// Its slab class.
-    pub class: Option<usize>,
-    pub verdict: Verdict,
-    /// The step that pushed it out, where one did.
-    pub culprit: Option<Pusher<'a, A>>,
-}
-
-/// The step that pushed a key out: the store that wanted its chunk.
-#[derive(Drop)]
-pub struct Pusher<'a, A: Allocator> {
-    pub key: &'a Key<A>,
-    pub connection: Option<i32>,
-    pub step: u64,
-}
 
 // The step that pushed a key out that left at a node.
 fn culprit_of<'a, A: Allocator + Copy>(

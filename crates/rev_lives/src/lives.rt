@@ -1,14 +1,14 @@
 //! The lives of the keys that are asked for, as events are heard.
-use crate::blame::key_of;
-use crate::counted::{ClassStart, Classes};
 use crate::follow::{follow, restart};
-use crate::heard::key_in;
-use crate::life::KeyLives;
 use indexmap::IndexMap;
+use rev_evidence::blame::key_of;
+use rev_evidence::heard::key_in;
 use rev_inverse::{Change, RecordRef, Store};
 use rev_items::{Item, Key};
+use rev_life::life::KeyLives;
 use rev_log::held_key::{HeldKey, SoughtKey};
 use rev_model::ChunkRef;
+use rev_pushers::counted::{ClassStart, Classes};
 use rev_replay::fault::ReplayFault;
 use rev_replay::heard::{Heard, Listener};
 use rev_watch::event::Timestamp;

@@ -1,15 +1,16 @@
 //! What is told of logs: the lives of some keys, or all keys that left.
 ghost use Rattle.rev_classes.specs.Limits.{IsWithinLimits};
 
-use crate::filter::Filter;
 use crate::gone::Gone;
-use crate::life::KeyLives;
-use crate::lines::lives_lines;
 use crate::lives::Lives;
-use crate::text::put_lives;
 use rev_import::setup::Setup;
 use rev_items::Key;
+use rev_life::filter::Filter;
+use rev_life::life::KeyLives;
+use rev_life::lines::lives_lines;
+use rev_life::text::put_lives;
 use rev_output::{Sink, write_all};
+use rev_replay::coverage::Coverage;
 use rev_replay::fault::ReplayFault;
 use rev_replay::notes::put_notes;
 use rev_replay::run::{Replay, replay_logs};
@@ -33,7 +34,7 @@ pub struct LivesAsked<A: Allocator> {
 }
 
 /// How much was told.
-#[derive(Clone, Copy, Debug, PartialEq, Eq)]
+#[derive(Clone, Copy)]
 pub struct Found {
     /// How many lives, or keys that left.
     pub told: u64,
@@ -97,10 +98,11 @@ fn send_lives<A: Allocator + Copy, K: Sink>(
 fn opened<'a, A: Allocator + Copy>(
     alloc: A,
     setup: &'a Setup,
+    coverage: Coverage,
 ) -> Result<Replay<'a, A>, (usize, ReplayFault)>
     requires { IsWithinLimits setup.now.config }
 {
-    match Replay::open(alloc, setup) {
+    match Replay::open(alloc, setup, coverage) {
         Ok(replay) => Ok(replay),
         Err(fault) => Err((0, fault)),
     }
@@ -162,11 +164,13 @@ fn follow_asked<A: Allocator + Copy, F: Read + Drop, K: Sink>(
 /// this setup. They are written behind the last log. What is told of the logs themselves goes behind `notes`.
 ///
 /// Err: the place of a log, from 0 on, and why nothing is told: memory was refused, a read or a write failed, a line
-/// that begins like one of the log is none, or there are more lines than can be counted. Or no log has an event, and
+/// that begins like one of the log is none, a log shows an item that the rules do not cover, or there are more lines
+/// than can be counted. Or no log has an event, and
 /// then the place is 0, as it is where it was the end that failed.
 pub fn tell_lives<A: Allocator + Copy, F: Read + Drop, K: Sink>(
     alloc: A,
     setup: &Setup,
+    coverage: Coverage,
     logs: Vec<F, A>,
     asked: &LivesAsked<A>,
     sink: &mut K,
@@ -174,7 +178,7 @@ pub fn tell_lives<A: Allocator + Copy, F: Read + Drop, K: Sink>(
 ) -> Result<Found, (usize, ReplayFault)>
     requires { IsWithinLimits setup.now.config }
 {
-    let mut replay = opened(alloc, setup)?;
+    let mut replay = opened(alloc, setup, coverage)?;
     let told = follow_asked(alloc, &mut replay, logs, asked, sink);
     let ended = noted(told, &replay, notes);
     drop(replay);
@@ -211,6 +215,7 @@ fn tell_leaving<A: Allocator + Copy, F: Read + Drop, K: Sink>(
 pub fn tell_gone<A: Allocator + Copy, F: Read + Drop, K: Sink>(
     alloc: A,
     setup: &Setup,
+    coverage: Coverage,
     logs: Vec<F, A>,
     filter: &Filter<'_>,
     as_json: bool,
@@ -219,7 +224,7 @@ pub fn tell_gone<A: Allocator + Copy, F: Read + Drop, K: Sink>(
 ) -> Result<Found, (usize, ReplayFault)>
     requires { IsWithinLimits setup.now.config }
 {
-    let mut replay = opened(alloc, setup)?;
+    let mut replay = opened(alloc, setup, coverage)?;
     let mut gone = Gone::new(alloc, filter, as_json, sink);
     let told = tell_leaving(&mut replay, logs, &mut gone);
     drop(gone);

@@ -1,4 +1,5 @@
-pub mod Telling
+pub mod Ends
+pub mod Opened
 pub mod Progress
 pub mod Stop
-pub mod Ends
+pub mod Telling

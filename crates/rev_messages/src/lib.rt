@@ -2,6 +2,7 @@
 #![tactic(auto)]
 
 pub mod ends;
+pub mod opened;
 pub mod progress;
 mod stop;
 pub mod telling;

@@ -7,6 +7,7 @@ use Rattle.std.specs.declared.alloc.Global.{Global}
 use Rattle.rev_options.specs.declared.Request.{Request}
 use Rattle.rev_options.specs.declared.Request.TheVariants.{Run, Record, ImportWatch, ImportCsv, ImportState, Open, OpenWatch, OpenCsv, Report, Why, Gone}
 use Rattle.rev_options.specs.declared.asking.AskedLogs.{AskedLogs}
+use Rattle.rev_options.specs.declared.standing.Standing.{Standing}
 use Rattle.rev_options.specs.declared.reporting.Played.{Played}
 use Rattle.rev_options.specs.declared.reporting.Played.TheVariants.{Traces, Logs, Rows}
 
@@ -23,10 +24,19 @@ IsHeap bytes = (4096 ≤ bytes) × (bytes ≤ 1073741824)
 abbrev pub IsLife : Option ℕ → Type 0
 IsLife life = IfSome life (λ n. 1 ≤ n)
 
--- a time to live that there is, where a configuration is asked for, and a life that there may be, where one is
+-- so many steps may be kept in front of a place: as many as a tree has nodes
+abbrev pub IsKept : ℕ → Type 0
+IsKept n = (1 ≤ n) × (n ≤ 1048576)
+
+-- where a session stands, with so many steps in front of it
+abbrev pub IsStanding : Standing → Type 0
+IsStanding standing = IsKept standing.keep
+
+-- a time to live that there is, where a configuration is asked for, and a life that there may be, where one is; what is
+-- of logs stands at their end
 abbrev pub IsPlayedInRange : Played → Type 0
 IsPlayedInRange (Traces asked) = is_temp_ttl asked.config.temp_ttl ≡ true
-IsPlayedInRange (Logs asked) = IsLife asked.life
+IsPlayedInRange (Logs asked) = IsLife asked.life × (asked.standing ≡ None)
 IsPlayedInRange (Rows asked) = is_temp_ttl asked.config.temp_ttl ≡ true
 
 -- 1 to 64 logs, and where a life of their server is asked for, lives are counted from 1
@@ -38,8 +48,8 @@ abbrev pub HasKeys : Vec (String Global) Global → Option (String Global) → T
 HasKeys keys key_file = (1 ≤ length keys.items) ⊎ (is_some key_file ≡ true)
 
 -- a time to live that there is; for a run a heap that may be asked for, where one is, and none where JSON is; for a
--- recording one to eight files; for an import a log, or a trace; a life of a server that there may be; logs that may be
--- asked, of a key where keys are told of
+-- recording one to eight files; for an import a log, or a trace; a life of a server that there may be; steps in front of
+-- a place, as many as may be kept; logs that may be asked, of a key where keys are told of
 abbrev pub IsInRange : Request → Type 0
 IsInRange (Run config heap dialect starts json) = (is_temp_ttl config.temp_ttl ≡ true) × IfSome heap IsHeap × (json ≡ true → heap ≡ None)
 IsInRange (Record config dialect starts files) = (is_temp_ttl config.temp_ttl ≡ true) × (1 ≤ length files.items) × (length files.items ≤ 8)
@@ -47,7 +57,7 @@ IsInRange (ImportWatch asked) = (1 ≤ length asked.logs.items) × IsLife asked.
 IsInRange (ImportCsv asked) = (is_temp_ttl asked.config.temp_ttl ≡ true) × (1 ≤ length asked.traces.items)
 IsInRange (ImportState asked) = Unit {0}
 IsInRange (Open asked) = is_temp_ttl asked.config.temp_ttl ≡ true
-IsInRange (OpenWatch asked) = IsLife asked.life
+IsInRange (OpenWatch asked) = IsLife asked.life × IfSome asked.standing IsStanding
 IsInRange (OpenCsv asked) = is_temp_ttl asked.config.temp_ttl ≡ true
 IsInRange (Report asked) = IsPlayedInRange asked.played
 IsInRange (Why asked) = AreAsked asked.logs × HasKeys asked.keys asked.key_file

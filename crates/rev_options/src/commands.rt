@@ -17,7 +17,7 @@ const ABOUT: &str =
     "Replays memcached's storage commands and the steps of its segmented LRU, forwards and backwards";
 
 const AFTER: &str =
-    "A script has one command a line: memcached's own (set, get, delete, ..) and questions (:item KEY, :back, ..).\n\nExit status: 0 done, 1 a key that `why` asks for was never seen, 2 command line or configuration, 3 out of memory, 4 input or output, 5 a file of steps has a line that is not a step, or what is imported is at fault, 6 the log differs.";
+    "A script has one command a line: memcached's own (set, get, delete, ..) and questions (:item KEY, :back, ..).\n\nExit status: 0 done, 1 a key that `why` asks for was never seen, or one that `--until-gone` asks for never left, 2 command line or configuration, 3 out of memory, 4 input or output, 5 a file of steps has a line that is not a step, or what is imported is at fault, 6 the log differs.";
 
 const LINE_FEED: OptionSpec = OptionSpec {
     name: "lf",
@@ -96,7 +96,7 @@ fn run() -> CommandSpec {
     CommandSpec {
         name: "run",
         about: "Runs a script from the standard input, and answers each line",
-        options: [config(), &RUN, &[], &[]],
+        options: [config(), &RUN, &[], &[], &[]],
     }
 }
 
@@ -118,7 +118,7 @@ fn record() -> CommandSpec {
     CommandSpec {
         name: "record",
         about: "Plays the scripts of files at once, each by an actor on a thread, and tells in which order their steps came",
-        options: [config(), &RECORD, &[], &[]],
+        options: [config(), &RECORD, &[], &[], &[]],
     }
 }
 
@@ -230,7 +230,7 @@ fn watch() -> CommandSpec {
     CommandSpec {
         name: "watch",
         about: "Makes a script of logs that `watch fetchers mutations evictions sysevents deletions` sent",
-        options: [&WATCH, leading(), watched(), lived()],
+        options: [&WATCH, leading(), watched(), lived(), &[]],
     }
 }
 
@@ -254,7 +254,7 @@ fn csv() -> CommandSpec {
     CommandSpec {
         name: "csv",
         about: "Makes a script of the published trace of a cache",
-        options: [&CSV, config(), &[], &[]],
+        options: [&CSV, config(), &[], &[], &[]],
     }
 }
 
@@ -301,7 +301,7 @@ fn state() -> CommandSpec {
     CommandSpec {
         name: "state",
         about: "Makes a start of the items that a running memcached holds",
-        options: [&STATE_OF_ITEMS, &[], &[], &[]],
+        options: [&STATE_OF_ITEMS, &[], &[], &[], &[]],
     }
 }
 
@@ -398,6 +398,35 @@ fn followed() -> &'static [OptionSpec] {
     &FOLLOWED
 }
 
+// Where a session stands on logs that lead.
+static STOOD: [OptionSpec; 3] = [
+    OptionSpec {
+        name: "until",
+        unit: "PLACE",
+        help: "With --watch: the session stands behind the step of this number, as `lrudb why` counts them, behind the last step up to @SECONDS by the Unix clock, or at the end [without it: at the end]",
+        excludes: Some(&["free", "steps", "sample", "life", "until-gone"]),
+        ..TEXT
+    },
+    OptionSpec {
+        name: "until-gone",
+        unit: "KEY",
+        help: "With --watch: the session stands behind the last step at which this key left",
+        excludes: Some(&["free", "steps", "sample", "life"]),
+        ..TEXT
+    },
+    OptionSpec {
+        name: "keep",
+        unit: "N",
+        help: "With --until or --until-gone: how many steps in front of the place are kept: 1 to 1048576; node 0 is the state before them [without it: 500000]",
+        values: ValueParser::Signed(1, 1048576),
+        ..TEXT
+    },
+];
+
+fn stood() -> &'static [OptionSpec] {
+    &STOOD
+}
+
 static OPEN: [OptionSpec; 6] = [
     LINE_FEED,
     OptionSpec {
@@ -421,7 +450,7 @@ fn open() -> CommandSpec {
     CommandSpec {
         name: "open",
         about: "Plays the steps of traces, and answers the lines of the standard input at any node of theirs",
-        options: [config(), &OPEN, played(), followed()],
+        options: [config(), &OPEN, played(), followed(), stood()],
     }
 }
 
@@ -471,7 +500,7 @@ fn report() -> CommandSpec {
     CommandSpec {
         name: "report",
         about: "Plays the steps of traces, and writes a page that tells where the cache loses its keys",
-        options: [config(), &REPORT, played(), followed()],
+        options: [config(), &REPORT, played(), followed(), &[]],
     }
 }
 
@@ -545,7 +574,7 @@ fn why() -> CommandSpec {
     CommandSpec {
         name: "why",
         about: "Tells from logs what became of keys: each of their lives, and why it ended",
-        options: [&WHY, asked(), &[], &[]],
+        options: [&WHY, asked(), &[], &[], &[]],
     }
 }
 
@@ -603,7 +632,7 @@ fn gone() -> CommandSpec {
     CommandSpec {
         name: "gone",
         about: "Tells from logs which keys left, when and why",
-        options: [&GONE, asked(), &[], &[]],
+        options: [&GONE, asked(), &[], &[], &[]],
     }
 }
 

@@ -9,6 +9,7 @@ mod leader;
 mod number;
 mod opening;
 mod reporting;
+mod standing;
 mod state;
 mod table;
 
@@ -31,6 +32,7 @@ pub use opening::{CsvOpening, Manner, Opening, WatchOpening};
 pub use reporting::{Played, Reporting, WhatIf};
 use rev_classes::Config;
 use rev_script::dialect::Dialect;
+pub use standing::{KEPT, Standing, Until};
 pub use state::StateImport;
 use std::alloc::{AllocError, Global};
 use std::convert::AsStr;

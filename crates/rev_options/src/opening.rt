@@ -6,6 +6,7 @@ use crate::asking::life_of;
 use crate::csv::sample_of;
 use crate::import::{STANDARD, factor_of, required, rhythm_of};
 use crate::leader::{Leader, leader_of};
+use crate::standing::{Standing, standing_of, stands_at_end};
 use crate::{Request, config_of, dialect_of, fault, files_of};
 use clap::error::ErrorKind;
 use clap::{ArgMatches, Error};
@@ -53,6 +54,8 @@ pub struct WatchOpening {
     pub leader: Leader,
     /// The number of the server's life that is played, where one is asked for, and else the last. The first is 1.
     pub life: Option<u32>,
+    /// Where the session stands, where that is asked for.
+    pub standing: Option<Standing>,
 }
 
 /// Published traces to look around in: what they become is played as they are read.
@@ -132,8 +135,10 @@ pub(crate) fn watch_opening(
     matches: &ArgMatches<'_>,
     manner: Manner,
     logs: Vec<String>,
+    standing: Option<Standing>,
 ) -> Result<WatchOpening, Error>
-    ensures { IfOk result (λ asked. IsLife asked.life) }
+    ensures life { IfOk result (λ asked. IsLife asked.life) }
+    ensures standing { IfOk result (λ asked. asked.standing ≡ standing) }
 {
     Ok(WatchOpening {
         factor: factor_of(alloc, matches)?,
@@ -143,6 +148,7 @@ pub(crate) fn watch_opening(
         settings: required(alloc, matches, "settings")?,
         manner,
         logs,
+        standing,
     })
 }
 
@@ -177,9 +183,11 @@ fn brought(alloc: Global, matches: &ArgMatches<'_>) -> Result<Option<Request>, E
     let manner = manner_of(matches);
     let logs = named(alloc, matches, "watch", NO_STANDARD)?;
     if !logs.is_empty() {
-        let asked = watch_opening(alloc, matches, manner, logs)?;
+        let standing = standing_of(alloc, matches)?;
+        let asked = watch_opening(alloc, matches, manner, logs, standing)?;
         return Ok(Some(Request::OpenWatch(asked)));
     }
+    stands_at_end(alloc, matches)?;
     let traces = named(alloc, matches, "csv", NO_STANDARD)?;
     if !traces.is_empty() {
         let asked = csv_opening(alloc, matches, manner, traces)?;
@@ -204,6 +212,7 @@ pub fn opening_of(alloc: Global, matches: &ArgMatches<'_>, brings: bool) -> Resu
             return Ok(asked);
         }
     }
+    stands_at_end(alloc, matches)?;
     Ok(Request::Open(Opening {
         config: config_of(matches),
         manner: manner_of(matches),

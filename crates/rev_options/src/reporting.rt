@@ -73,7 +73,7 @@ fn played_of(alloc: Global, matches: &ArgMatches<'_>) -> Result<Played, Error>
     };
     let logs = named(alloc, matches, "watch", NO_STANDARD)?;
     if !logs.is_empty() {
-        let asked = watch_opening(alloc, matches, manner, logs)?;
+        let asked = watch_opening(alloc, matches, manner, logs, None)?;
         return Ok(Played::Logs(asked));
     }
     let rows = named(alloc, matches, "csv", NO_STANDARD)?;

@@ -88,7 +88,7 @@ pub struct CommandSpec {
     pub name: &'static str,
     pub about: &'static str,
     /// What it takes, in the order of the help.
-    pub options: [&'static [OptionSpec]; 4],
+    pub options: [&'static [OptionSpec]; 5],
 }
 
 fn names(of: Option<&'static [&'static str]>) -> &'static [&'static str] {

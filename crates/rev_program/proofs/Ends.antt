@@ -1,5 +1,5 @@
 -- What the status tells of how the program ended.
-use Rattle.std.proofs.Common.{◌≡◌, ◌≢◌, ◌≤◌, inl, inr, ℕ, List, [], Option, None, Some, String, Result, Ok, Err, IfErr, MatchResult, refl, sym, ◌∙◌, append-nil, arith}
+use Rattle.std.proofs.Common.{◌≡◌, ◌≢◌, ◌≤◌, inl, inr, ℕ, Bool, true, false, ◌&&◌, List, [], Option, None, Some, String, Result, Ok, Err, IfErr, MatchResult, refl, sym, ◌∙◌, append-nil, arith}
 use Rattle.std.specs.declared.alloc.Global.{Global}
 use Rattle.std.specs.Io.KnownBytes.{Keeps, Appends}
 use Rattle.rev_program.specs.Opening.{IsNoted, full_text}
@@ -80,6 +80,12 @@ behind_of told tells before after n h = plainly told tells before after n h.quie
 
 pub noted_plainly : (told tells : Option (List ℕ)) (before after n : ℕ) → EndsPlainly told tells before after n → EndsNoted told tells before after n
 noted_plainly told tells before after n h = noted_of told tells before after n (behind_of told tells before after n h)
+
+-- no place is looked for where `open` is not asked for, or imports nothing
+pub no_place : (asks brings : Bool) → asks ≡ true → brings ≡ true → (asks && brings) ≡ false → ⊥
+no_place true true e f h = absurd (let x : true ≡ false = h in cc)
+no_place true false e f h = absurd (let x : false ≡ true = f in cc)
+no_place false brings e f h = absurd (let x : false ≡ true = e in cc)
 
 -- a program that is stopped ends with neither 0 nor 1
 pub stop_status : (s : Stop) → 2 ≤ stop.status s

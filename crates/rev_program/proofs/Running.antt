@@ -12,6 +12,7 @@ use Rattle.rev_script.specs.declared.source.LastRead.TheVariants.{Gave}
 use Rattle.rev_output.specs.Sink.{PlainSink, sink_at}
 use Rattle.rev_output.specs.Outbox.{PlainOutbox, known_since, contents}
 use Rattle.rev_shell.specs.Answers.{BookmarkedSession}
+use Rattle.rev_evidence.specs.Notes.{no_notes}
 use Rattle.rev_shell.specs.Run.{Because, IsDone, IsLeft, IsStopped, without_bookmarks}
 use Rattle.rev_shell.specs.declared.run.Prompts.{Prompts}
 use Rattle.rev_shell.specs.declared.run.Prompts.TheVariants.{Hidden}
@@ -174,13 +175,13 @@ module _ {F : Type 0} (remaining : F → Option (List ℕ)) (json : Bool) (d : D
       Answers remaining json d config files r h s sum
   answers_through old new sum is sent x =
       let o = new.outbox in
-      let y = subst (λ e. HasRun json d Hidden e new (without_bookmarks x.m) sum) is x.run in
+      let y = subst (λ e. HasRun json d Hidden e new (without_bookmarks x.m no_notes) sum) is x.run in
       let k = subst (λ z. Keeps (contents o) z) sent (all_sent (contents o) o.sent o.unsent y.sent (reached o.first o.sent o.unsent)) in
       record {
         m = x.m;
         starts_are = x.starts_are;
         left = y.left;
-        done = done_through d Hidden r h w y.left (without_bookmarks x.m) json y.written s sum (subst (λ z. Keeps z s) y.kept k) y.done;
+        done = done_through d Hidden r h w y.left (without_bookmarks x.m no_notes) json y.written s sum (subst (λ z. Keeps z s) y.kept k) y.done;
       }
 
   pub less_through : (old new : PlainExchange) (stop : Stop) → old ≡ exchange_at r h w → new.outbox.sent ≡ s → StopsBehind remaining json d config files old new stop →
@@ -190,14 +191,14 @@ module _ {F : Type 0} (remaining : F → Option (List ℕ)) (json : Bool) (d : D
       inl (subst (λ z. Keeps h z) k (keep h), x.1)
   less_through old new stop is sent (inr x) =
       let o = new.outbox in
-      let y = subst (λ e. HasStopped json d Hidden e new (without_bookmarks x.m) stop) is x.stopped in
+      let y = subst (λ e. HasStopped json d Hidden e new (without_bookmarks x.m no_notes) stop) is x.stopped in
       inr (record {
         m = x.m;
         starts_are = x.starts_are;
         left = y.left;
         written = y.written;
         end = y.end;
-        ended = ended_through d Hidden r h w y.left (without_bookmarks x.m) json y.written y.end y.ended;
+        ended = ended_through d Hidden r h w y.left (without_bookmarks x.m no_notes) json y.written y.end y.ended;
         reaches = (o.unsent, subst (λ z. Keeps z (append_known s o.unsent)) y.kept (subst (λ z. Keeps (contents o) (append_known z o.unsent)) sent (reached o.first o.sent o.unsent)));
         stop_is = y.stop_is;
       })

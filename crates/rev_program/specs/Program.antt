@@ -1,7 +1,8 @@
 -- How the program may end.
 -- Rule of this project: what its user is told, and when nothing.
-use Rattle.std.specs.Prelude.{◌≡◌, ◌≢◌, ◌≤◌, ◌⊎◌, ℕ, List, [], ◌∷◌, Option, cond, nat_eq, codes, decimal}
+use Rattle.std.specs.Prelude.{◌≡◌, ◌≢◌, ◌≤◌, ◌⊎◌, ℕ, Bool, ◌&&◌, List, [], ◌∷◌, Option, cond, nat_eq, codes, decimal}
 use Rattle.std.specs.Io.KnownBytes.{Keeps}
+use Rattle.rev_options.specs.Request.{asks_open, brings}
 use Rattle.rev_recordings.specs.Fault as fault
 use Rattle.rev_messages.specs.Ends.{IsStatus, StopsBy}
 use Rattle.rev_messages.specs.Telling.{Told, joined}
@@ -40,6 +41,16 @@ pub record EndsNoted (told tells : Option (List ℕ)) (before after : ℕ) (resu
   pub noted : Told told between before failures notes
   pub quiet : result ≡ 0 → Keeps between tells
   pub early : result ≢ 0 → EndsEarly between tells failures after result
+
+-- `open` is asked for, of what it imports: only there a place may be looked for
+abbrev pub seeks : List (List ℕ) → Bool
+seeks words = asks_open words && brings words
+
+-- logs were opened: as above, or a key is asked for that never left, which was told behind what may have been told of the
+-- logs, and nothing else
+abbrev pub EndsPlaced : Option (List ℕ) → Option (List ℕ) → ℕ → ℕ → ℕ → Type 0
+EndsPlaced told tells before after result =
+    (IsStatus result × EndsNoted told tells before after result) ⊎ ((result ≡ 1) × ((notes : List ℕ) × Told told tells before after notes))
 
 -- ended early as above, and nothing was written but where a write failed
 abbrev pub EndsUnwritten : Option (List ℕ) → Option (List ℕ) → ℕ → ℕ → ℕ → Option (List ℕ) → Option (List ℕ) → Type 0

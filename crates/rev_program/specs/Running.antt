@@ -13,6 +13,7 @@ use Rattle.rev_script.specs.declared.dialect.Dialect.{Dialect}
 use Rattle.rev_script.specs.declared.source.LastRead.TheVariants.{Gave}
 use Rattle.rev_output.specs.Sink.{PlainSink, sink_at}
 use Rattle.rev_output.specs.Outbox.{contents}
+use Rattle.rev_evidence.specs.Notes.{no_notes}
 use Rattle.rev_plays.specs.Begin.{opened}
 use Rattle.rev_shell.specs.Answers.{BookmarkedSession}
 use Rattle.rev_shell.specs.Run.{IsDone, IsStopped, without_bookmarks}
@@ -75,13 +76,13 @@ pub record HasStopped (json : Bool) (d : Dialect) (p : Prompts) (old new : Plain
 pub record HasRunBehind {F : Type 0} (remaining : F → Option (List ℕ)) (json : Bool) (d : Dialect) (config : Config) (files : List (String Global × F)) (old new : PlainExchange) (sum : Summary) : Type 0 where
   pub m : SessionState
   pub starts_are : AreStarts d remaining files (opened config) m
-  pub run : HasRun json d Hidden old new (without_bookmarks m) sum
+  pub run : HasRun json d Hidden old new (without_bookmarks m no_notes) sum
 
 -- the same of a run that was stopped
 pub record HasStoppedBehind {F : Type 0} (remaining : F → Option (List ℕ)) (json : Bool) (d : Dialect) (config : Config) (files : List (String Global × F)) (old new : PlainExchange) (stop : Stop) : Type 0 where
   pub m : SessionState
   pub starts_are : AreStarts d remaining files (opened config) m
-  pub stopped : HasStopped json d Hidden old new (without_bookmarks m) stop
+  pub stopped : HasStopped json d Hidden old new (without_bookmarks m no_notes) stop
 
 -- there was no memory for a session, or a file is no start
 abbrev pub NeverBegan : {F : Type 0} → (F → Option (List ℕ)) → Dialect → Config → List (String Global × F) → Stop → Type 0
@@ -104,7 +105,7 @@ pub record Answers {F : Type 0} (remaining : F → Option (List ℕ)) (json : Bo
   pub m : SessionState
   pub starts_are : AreStarts d remaining files (opened config) m
   pub left : Told
-  pub done : HasDone json d Hidden (told_of reader Gave 0) left (sink_at old 0) (sink_at new 0) (without_bookmarks m) sum
+  pub done : HasDone json d Hidden (told_of reader Gave 0) left (sink_at old 0) (sink_at new 0) (without_bookmarks m no_notes) sum
 
 -- the files are starts, and what was answered from the session that they leave before the run ended so went to the
 -- writer, but for an end that could not be sent
@@ -114,7 +115,7 @@ pub record AnswersSome {F : Type 0} (remaining : F → Option (List ℕ)) (json 
   pub left : Told
   pub written : PlainSink
   pub end : Result Summary RunFault
-  pub ended : HasEnded json d Hidden (told_of reader Gave 0) left (sink_at old 0) written (without_bookmarks m) end
+  pub ended : HasEnded json d Hidden (told_of reader Gave 0) left (sink_at old 0) written (without_bookmarks m no_notes) end
   pub reaches : Reaches written.contents new
   pub stop_is : Stops end stop
 

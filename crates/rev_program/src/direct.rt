@@ -4,9 +4,10 @@ ghost use Rattle.std.specs.Prelude.{IfSome};
 ghost use Rattle.rev_classes.specs.Limits.{IsWithinLimits, fault_of};
 ghost use Rattle.rev_messages.specs.Ends.{IsStatus, StopsBy};
 ghost use Rattle.rev_messages.specs.Stop.{stop_of_config};
-ghost use Rattle.rev_program.specs.Program.{EndsNoted};
+ghost use Rattle.rev_program.specs.Program.{EndsNoted, EndsPlaced};
 
 use crate::opening::{Full, answer, told_files};
+use crate::placed::{LedLogs, Opened, Placed, from_begin, placed_on, unled};
 use crate::starts::started;
 use crate::stopping::stop_of_trace;
 use rev_choices::{Rhythm, Sample};
@@ -15,22 +16,23 @@ use rev_import::setup::Setup;
 use rev_import_commands::files::copied;
 use rev_import_commands::import::{all_opened as all_imported, name_in, setup_of};
 use rev_import_commands::imported::{Feed, ImportedScript, NamedLogs, NamedTraces};
-use rev_import_commands::leading::{leading_setup, stop_of_replay};
+use rev_import_commands::leading::leading_setup;
 use rev_import_commands::traces::{intake_of, sampled};
 use rev_intake::feed::{LogFeed, RowFeed};
 use rev_intake::intake::{Intake, Range};
 use rev_intake::report::{put_part, put_report, put_unfollowed};
 use rev_intake::row_report::put_row_report;
 use rev_intake::rows::RowIntake;
-use rev_lives::times::{micros, seconds_text};
 use rev_messages::Stop;
 use rev_messages::ends::ended;
+use rev_messages::opened::{OpenedAt, put_opened, put_opened_object};
 use rev_messages::progress::Progress;
 use rev_messages::telling::tell_bytes;
 use rev_options::{CsvOpening, Leader, Manner, WatchOpening};
 use rev_output::Sink;
 use rev_plays::trace::{TraceEnd, play_trace};
-use rev_replay::grown::{Grown, grow};
+use rev_pushers::times::{micros, seconds_text};
+use rev_replay::coverage::Coverage;
 use rev_replay::keeping::Place;
 use rev_script::dialect::Dialect;
 use rev_script::source::FromRead;
@@ -201,8 +203,8 @@ fn with_rules<R: Files + AllocGlobal, C: Clock, W: Sink>(
     }
 }
 
-// Adds where the logs of these names fill the tree, if they do.
-fn add_end(
+/// Adds where the logs of these names fill the tree, if they do.
+pub(crate) fn add_end(
     alloc: Global,
     notes: &mut Vec<u8>,
     names: &[String],
@@ -224,65 +226,21 @@ fn add_end(
     )
 }
 
-// The session that the logs lead from where this one stands.
-fn grown_of<F: Read + Drop>(
-    alloc: Global,
-    setup: &Setup,
-    session: Session<Global>,
-    life: Option<u32>,
-    names: &[String],
-    logs: Vec<F>,
-    notes: &mut Vec<u8>,
-) -> Result<Session<Global>, Stop>
+// The logs that are asked for, which lead, of a server with this setup.
+fn led<'a>(setup: &'a Setup, coverage: Coverage, asked: &'a WatchOpening) -> LedLogs<'a>
     requires { IsWithinLimits setup.now.config }
 {
-    match grow(alloc, setup, session, life, logs, notes) {
-        Err((place, fault)) => Err(stop_of_replay(alloc, fault, name_in(names, place))),
-        Ok(Grown { session, full }) => match add_end(alloc, notes, names, full) {
-            Ok(()) => Ok(session),
-            Err(_) => {
-                // The program ends here, and all memory goes back at once.
-                let _session = ManuallyDrop::new(session);
-                Err(Stop::Memory)
-            }
-        },
+    LedLogs {
+        setup,
+        coverage,
+        dialect: asked.manner.dialect,
+        starts: asked.starts.as_slice(),
+        names: asked.logs.as_slice(),
     }
 }
 
-// The session behind the logs where these lead, and the configuration of its store.
-fn with_lead<R: Files + AllocGlobal, C: Clock, W: Sink>(
-    rt: &R,
-    asked: WatchOpening,
-    anyway: bool,
-    notes: &mut Vec<u8>,
-    progress: &Progress<C, W>,
-) -> Result<(Session<Global>, Config), Stop> {
-    let WatchOpening {
-        manner,
-        starts,
-        logs,
-        settings,
-        factor,
-        life,
-        ..
-    } = asked;
-    let alloc = rt.alloc();
-    let setup = leading_setup(rt, settings.as_str(), factor, anyway, notes)?;
-    let config = setup.config;
-    let names = logs.as_slice();
-    progress.expect(rt, starts.as_slice());
-    progress.expect(rt, names);
-    let files = all_imported(rt, alloc, names, io::empty(), progress)?;
-    match begun(rt, &config, manner.dialect, starts, progress) {
-        Err(stop) => Err(stop),
-        Ok(session) => match grown_of(alloc, &setup, session, life, names, files, notes) {
-            Ok(session) => Ok((session, config)),
-            Err(stop) => Err(stop),
-        },
-    }
-}
-
-/// The session behind the logs, and the configuration of its store.
+/// The session behind the logs, and the configuration of its store. Where the log leads, the tree is that of a life
+/// from its begin on.
 pub(crate) fn with_logs<R: Files + AllocGlobal, C: Clock, W: Sink>(
     rt: &R,
     asked: WatchOpening,
@@ -291,7 +249,51 @@ pub(crate) fn with_logs<R: Files + AllocGlobal, C: Clock, W: Sink>(
 ) -> Result<(Session<Global>, Config), Stop> {
     match asked.leader {
         Leader::Rules(rhythm) => with_rules(rt, asked, rhythm, notes, progress),
-        Leader::Log { anyway } => with_lead(rt, asked, anyway, notes, progress),
+        Leader::Log { anyway } => {
+            let (setup, coverage) = leading_setup(
+                rt,
+                asked.settings.as_str(),
+                asked.factor,
+                anyway,
+                notes,
+            )?;
+            match from_begin(
+                rt,
+                &led(&setup, coverage, &asked),
+                asked.life,
+                notes,
+                progress,
+            ) {
+                Err(stop) => Err(stop),
+                Ok(Opened { session, .. }) => Ok((session, setup.config)),
+            }
+        }
+    }
+}
+
+// The session on the logs at the place that is asked for, if it is there.
+fn placed_as<R: Files + AllocGlobal, C: Clock, W: Sink>(
+    rt: &R,
+    asked: WatchOpening,
+    notes: &mut Vec<u8>,
+    progress: &Progress<C, W>,
+) -> Result<Placed, Stop> {
+    match asked.leader {
+        Leader::Rules(rhythm) => match with_rules(rt, asked, rhythm, notes, progress) {
+            Err(stop) => Err(stop),
+            Ok((session, _)) => Ok(Placed::There(unled(rt.alloc(), session))),
+        },
+        Leader::Log { anyway } => {
+            let (setup, coverage) = leading_setup(
+                rt,
+                asked.settings.as_str(),
+                asked.factor,
+                anyway,
+                notes,
+            )?;
+            let logs = led(&setup, coverage, &asked);
+            placed_on(rt, &logs, asked.life, &asked.standing, notes, progress)
+        }
     }
 }
 
@@ -330,10 +332,51 @@ pub(crate) fn with_rows<R: Files + AllocGlobal, C: Clock, W: Sink>(
     }
 }
 
+// What is written in front of the answers, in this manner, of a session that stands there.
+fn greeting_of(alloc: Global, manner: Manner, at: Option<OpenedAt>) -> Result<Vec<u8>, AllocError> {
+    let mut greeting = Vec::new(alloc);
+    match at {
+        Some(at) if manner.json => put_opened_object(&mut greeting, at)?,
+        Some(at) if manner.has_prompt => {
+            put_opened(&mut greeting, at)?;
+            greeting.extend_from_slice(b"\r\n")?;
+        }
+        _ => {}
+    }
+    Ok(greeting)
+}
+
+// Answers the session that the reader gives, in the manner that is asked for.
+fn answer_opened<I: Read + Drop, O: Write + Drop>(
+    alloc: Global,
+    opened: Opened,
+    manner: Manner,
+    reader: I,
+    writer: O,
+) -> Result<(), Stop> {
+    let Opened { session, log, at } = opened;
+    match greeting_of(alloc, manner, at) {
+        Ok(greeting) => answer(
+            alloc,
+            session,
+            &log,
+            greeting.as_slice(),
+            manner,
+            reader,
+            writer,
+        ),
+        Err(_) => {
+            // The program ends here, and all memory goes back at once.
+            let _session = ManuallyDrop::new(session);
+            Err(Stop::Memory)
+        }
+    }
+}
+
 // Tells the notes, and answers the session that the reader gives, where there is one, in the manner that is asked for.
 fn answered<I: Read + Drop, O: Write + Drop, E: Sink>(
     alloc: Global,
-    opened: Result<(Session<Global>, Config), Stop>,
+    opened: Result<Opened, Stop>,
     notes: &[u8],
     manner: Manner,
     reader: I,
@@ -345,16 +388,17 @@ fn answered<I: Read + Drop, O: Write + Drop, E: Sink>(
 {
     match opened {
         Err(stop) => ended(Err(stop), errors),
-        Ok((session, _)) => {
+        Ok(opened) => {
             tell_bytes(errors, notes);
-            ended(answer(alloc, session, manner, reader, writer), errors)
+            ended(answer_opened(alloc, opened, manner, reader, writer), errors)
         }
     }
 }
 
 /// Plays the logs that are asked for, each step as a node, as they are read, and answers the session that the reader
-/// gives. What is told of the logs, and where the tree is full, is told before the session is read. Answers the exit
-/// status, and tells why where it is not 0.
+/// gives at the place that is asked for. What is told of the logs, where the tree is full, and where the session stands
+/// is told before it is read. Answers the exit status, and tells why where it is not 0. It is 1 where a key is asked for
+/// that never left, and then nothing is answered.
 pub fn open_watch<
     R: Files + AllocGlobal,
     I: Read + Drop,
@@ -370,13 +414,20 @@ pub fn open_watch<
     errors: &mut E,
     progress: &Progress<C, W>,
 ) -> u8
-    ensures status { IsStatus result }
-    ensures ends { EndsNoted (E.contents errors.old) (E.contents errors.new) (E.failures errors.old) (E.failures errors.new) result }
+    ensures { EndsPlaced (E.contents errors.old) (E.contents errors.new) (E.failures errors.old) (E.failures errors.new) result }
 {
     let manner = asked.manner;
     let mut notes = Vec::new(rt.alloc());
-    let opened = with_logs(rt, asked, &mut notes, progress);
+    let placed = placed_as(rt, asked, &mut notes, progress);
     progress.end();
+    let opened = match placed {
+        Ok(Placed::NeverLeft) => {
+            tell_bytes(errors, notes.as_slice());
+            return 1;
+        }
+        Ok(Placed::There(opened)) => Ok(opened),
+        Err(stop) => Err(stop),
+    };
     answered(
         rt.alloc(),
         opened,
@@ -407,7 +458,10 @@ pub fn open_csv<
     }
     let manner = asked.manner;
     let mut notes = Vec::new(rt.alloc());
-    let opened = with_rows(rt, asked, &mut notes, progress);
+    let opened = match with_rows(rt, asked, &mut notes, progress) {
+        Ok((session, _)) => Ok(unled(rt.alloc(), session)),
+        Err(stop) => Err(stop),
+    };
     progress.end();
     answered(
         rt.alloc(),

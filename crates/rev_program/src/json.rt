@@ -9,6 +9,7 @@ ghost use Rattle.rev_program.specs.Running.{HasRun, HasStopped, HasRunBehind, St
 use crate::program::{all_opened, sent_behind};
 use crate::starts::started;
 use rev_classes::{Config, fault_of};
+use rev_evidence::notes::LogNotes;
 use rev_json::run::run_as_json;
 use rev_messages::Stop;
 use rev_script::dialect::Dialect;
@@ -20,20 +21,21 @@ use std::io::{Read, Write};
 use std::mem::ManuallyDrop;
 use std::rt::Files;
 
-/// Runs the script of the exchange, in a dialect, on a session, and tells of its lines as JSON. What was told is sent
-/// at the end.
+/// Runs the script of the exchange, in a dialect, on a session of whose nodes a log tells, and tells of its lines as
+/// JSON. What was told is sent at the end.
 pub(crate) fn run_as_json_on<I: Read, O: Write>(
     alloc: Global,
     session: Session<Global>,
+    log: &LogNotes<Global>,
     dialect: Dialect,
     exchange: &mut Exchange<'_, I, O>,
 ) -> Result<Summary, Stop>
-    ensures ok { IfOk result (λ sum. HasRun true dialect Hidden exchange.old exchange.new (without_bookmarks session) sum) }
-    ensures err { IfErr result (λ stop. HasStopped true dialect Hidden exchange.old exchange.new (without_bookmarks session) stop) }
+    ensures ok { IfOk result (λ sum. HasRun true dialect Hidden exchange.old exchange.new (without_bookmarks session log.now) sum) }
+    ensures err { IfErr result (λ stop. HasStopped true dialect Hidden exchange.old exchange.new (without_bookmarks session log.now) stop) }
     ensures same { exchange.new.outbox.writer ≡ exchange.old.outbox.writer }
 {
     let mut session = session;
-    let done = run_as_json(alloc, &mut session, dialect, exchange);
+    let done = run_as_json(alloc, &mut session, log, dialect, exchange);
     // The program ends here, and all memory goes back at once.
     let _session = ManuallyDrop::new(session);
     sent_behind(done, exchange)
@@ -54,7 +56,10 @@ fn run_as_json_there<F: Read + Drop, I: Read, O: Write>(
 {
     match started(&alloc, config, dialect, starts) {
         Err(stop) => Err(stop),
-        Ok(session) => run_as_json_on(alloc, session, dialect, exchange),
+        Ok(session) => {
+            let log = LogNotes::none(alloc);
+            run_as_json_on(alloc, session, &log, dialect, exchange)
+        }
     }
 }
 

@@ -2,20 +2,19 @@
 ghost use Rattle.std.specs.Prelude.{◌≡◌, true, IfOk};
 ghost use Rattle.rev_choices.specs.Loss.{word_of};
 ghost use Rattle.rev_classes.specs.Limits.{IsWithinLimits};
-ghost use Rattle.rev_lives.specs.Words.{reason_word};
+ghost use Rattle.rev_evidence.specs.Words.{reason_word};
 ghost use Rattle.rev_messages.specs.Ends.{IsStatus};
 ghost use Rattle.rev_program.specs.Program.{EndsAsked};
 
 use rev_choices::Loss;
+use rev_evidence::verdict::Reason;
 use rev_import::setup::Setup;
 use rev_import_commands::import::{all_opened, name_in, text_of};
 use rev_import_commands::leading::{leading_setup, stop_of_replay};
 use rev_import_commands::state::bad_file;
 use rev_items::{Key, KeyFault};
-use rev_lives::asked_key;
-use rev_lives::filter::Filter;
 use rev_lives::tell::{Found, LivesAsked, tell_gone, tell_lives};
-use rev_lives::verdict::Reason;
+use rev_lives::{Filter, asked_key};
 use rev_messages::Stop;
 use rev_messages::ends::ended;
 use rev_messages::progress::{BesideProgress, Progress};
@@ -23,6 +22,7 @@ use rev_messages::telling::tell_bytes;
 use rev_options::{AskedLogs, GoneAsked, WhyAsked};
 use rev_output::Sink;
 use rev_output::outbox::{Outbox, Room};
+use rev_replay::coverage::Coverage;
 use rev_replay::fault::ReplayFault;
 use std::alloc::Global;
 use std::io::{Read, Write};
@@ -121,8 +121,8 @@ fn setup_of<R: Files + AllocGlobal>(
     rt: &R,
     asked: &AskedLogs,
     notes: &mut Vec<u8>,
-) -> Result<Setup, Stop>
-    ensures { IfOk result (λ setup. IsWithinLimits setup.config) }
+) -> Result<(Setup, Coverage), Stop>
+    ensures { IfOk result (λ leading. IsWithinLimits leading.0.config) }
 {
     leading_setup(
         rt,
@@ -165,7 +165,7 @@ fn tell_lives_of<R: Files + AllocGlobal, I: Read + Drop, O: Write + Drop, C: Clo
     } = asked;
     let alloc = rt.alloc();
     let keys = keys_of(rt, keys.as_slice(), &key_file)?;
-    let setup = setup_of(rt, &logs, notes)?;
+    let (setup, coverage) = setup_of(rt, &logs, notes)?;
     let names = logs.logs.as_slice();
     progress.expect(rt, names);
     let files = all_opened(rt, alloc, names, reader, progress)?;
@@ -180,7 +180,7 @@ fn tell_lives_of<R: Files + AllocGlobal, I: Read + Drop, O: Write + Drop, C: Clo
     };
     let mut writer = BesideProgress::new(writer, progress);
     let mut outbox = Outbox::new(room, &mut writer);
-    let told = tell_lives(alloc, &setup, files, &asked, &mut outbox, notes);
+    let told = tell_lives(alloc, &setup, coverage, files, &asked, &mut outbox, notes);
     sent(alloc, names, told, &mut outbox)
 }
 
@@ -225,7 +225,7 @@ fn tell_gone_of<R: Files + AllocGlobal, I: Read + Drop, O: Write + Drop, C: Cloc
 ) -> Result<Found, Stop> {
     let logs = &asked.logs;
     let alloc = rt.alloc();
-    let setup = setup_of(rt, logs, notes)?;
+    let (setup, coverage) = setup_of(rt, logs, notes)?;
     let names = logs.logs.as_slice();
     progress.expect(rt, names);
     let files = all_opened(rt, alloc, names, reader, progress)?;
@@ -235,7 +235,16 @@ fn tell_gone_of<R: Files + AllocGlobal, I: Read + Drop, O: Write + Drop, C: Cloc
     let mut writer = BesideProgress::new(writer, progress);
     let mut outbox = Outbox::new(room, &mut writer);
     let filter = filter_of(asked);
-    let told = tell_gone(alloc, &setup, files, &filter, logs.json, &mut outbox, notes);
+    let told = tell_gone(
+        alloc,
+        &setup,
+        coverage,
+        files,
+        &filter,
+        logs.json,
+        &mut outbox,
+        notes,
+    );
     sent(alloc, names, told, &mut outbox)
 }
 

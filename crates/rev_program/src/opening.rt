@@ -12,6 +12,7 @@ use crate::starts::started;
 use crate::stopping::stop_of_trace;
 use itoa::Buffer;
 use rev_classes::{Config, fault_of};
+use rev_evidence::notes::LogNotes;
 use rev_messages::Stop;
 use rev_messages::ends::ended;
 use rev_messages::progress::{Progress, ToldFile};
@@ -20,6 +21,7 @@ use rev_options::{Manner, Opening};
 use rev_output::Sink;
 use rev_plays::trace::{TraceEnd, play_trace};
 use rev_script::dialect::Dialect;
+use rev_script::duplex::Duplex;
 use rev_script::exchange::{Buffers, Exchange};
 use rev_script::source::FromRead;
 use rev_shell::run::Prompts;
@@ -162,10 +164,13 @@ fn prompts_of(has_prompt: bool) -> Prompts {
     }
 }
 
-/// Answers the session that the reader gives, of which LF ends data as CR LF does, in the manner that is asked for.
+/// Answers the session that the reader gives, of which LF ends data as CR LF does, in the manner that is asked for. What
+/// a log tells of its nodes is told with it, and a greeting stands in front of the answers.
 pub(crate) fn answer<I: Read + Drop, O: Write + Drop>(
     alloc: Global,
     session: Session<Global>,
+    log: &LogNotes<Global>,
+    greeting: &[u8],
     manner: Manner,
     reader: I,
     writer: O,
@@ -177,12 +182,15 @@ pub(crate) fn answer<I: Read + Drop, O: Write + Drop>(
         return Err(Stop::Memory);
     };
     let mut exchange = Exchange::new(buffers, &mut writer);
+    // Where that fails, nothing more is read, and it is told so at the end.
+    let _ = exchange.put(greeting);
     let done = if manner.json {
-        run_as_json_on(alloc, session, Dialect::AnyFeed, &mut exchange)
+        run_as_json_on(alloc, session, log, Dialect::AnyFeed, &mut exchange)
     } else {
         run_on(
             &alloc,
             session,
+            log,
             Dialect::AnyFeed,
             prompts_of(manner.has_prompt),
             &mut exchange,
@@ -224,7 +232,9 @@ pub fn open_traces<
         Err(stop) => ended(Err(stop), errors),
         Ok((session, full)) => {
             note(&full, errors);
-            ended(answer(rt.alloc(), session, manner, reader, writer), errors)
+            let log = LogNotes::none(rt.alloc());
+            let answered = answer(rt.alloc(), session, &log, b"", manner, reader, writer);
+            ended(answered, errors)
         }
     }
 }

@@ -12,7 +12,7 @@ ghost use Rattle.rev_script.specs.declared.dialect.Dialect.TheVariants.{CrLf};
 ghost use Rattle.rev_shell.specs.Run.{without_bookmarks};
 ghost use Rattle.rev_shell.specs.declared.run.Summary.{Summary};
 ghost use Rattle.rev_program.specs.Running.{Stops, HasRun, HasStopped, HasRunBehind, StopsBehind, Answers, AnswersLess, AnswersNamed, StopsNamed, HaveNames, EndsAnswering};
-ghost use Rattle.rev_program.specs.Program.{EndsAsked, EndsEarly, EndsBehind, EndsNoted, EndsUnwritten, EndsRun, IsCounted, tally_text};
+ghost use Rattle.rev_program.specs.Program.{EndsAsked, EndsEarly, EndsBehind, EndsNoted, EndsPlaced, EndsUnwritten, EndsRun, IsCounted, seeks, tally_text};
 
 use crate::direct::{open_csv, open_watch};
 use crate::json::run_script_as_json;
@@ -24,6 +24,7 @@ use crate::stopping::stop_of_run;
 use itoa::Buffer;
 use linked_list_allocator::LocalHeap;
 use rev_classes::{Config, fault_of};
+use rev_evidence::notes::LogNotes;
 use rev_import_commands::import::import_watch;
 use rev_import_commands::state::import_state;
 use rev_import_commands::traces::import_csv;
@@ -74,25 +75,26 @@ pub(crate) fn sent_behind<I: Read, O: Write>(
     }
 }
 
-/// Runs the script of the exchange, in a dialect, on a session, with all that the run keeps in `alloc`. What was
-/// answered is sent at the end.
+/// Runs the script of the exchange, in a dialect, on a session of whose nodes a log tells, with all that the run keeps
+/// in `alloc`. What was answered is sent at the end.
 pub(crate) fn run_on<A: Allocator + Clone, I: Read, O: Write>(
     alloc: &A,
     session: Session<A>,
+    log: &LogNotes<A>,
     dialect: Dialect,
     prompts: Prompts,
     exchange: &mut Exchange<'_, I, O>,
 ) -> Result<Summary, Stop>
-    ensures ok { IfOk result (λ sum. HasRun false dialect prompts exchange.old exchange.new (without_bookmarks session) sum) }
-    ensures err { IfErr result (λ stop. HasStopped false dialect prompts exchange.old exchange.new (without_bookmarks session) stop) }
+    ensures ok { IfOk result (λ sum. HasRun false dialect prompts exchange.old exchange.new (without_bookmarks session log.now) sum) }
+    ensures err { IfErr result (λ stop. HasStopped false dialect prompts exchange.old exchange.new (without_bookmarks session log.now) stop) }
     ensures same { exchange.new.outbox.writer ≡ exchange.old.outbox.writer }
 {
-    let done = run_at_last(alloc, session, dialect, prompts, exchange);
+    let done = run_at_last(alloc, session, log, dialect, prompts, exchange);
     sent_behind(done, exchange)
 }
 
 // Runs the script of the exchange behind the steps of the starts, with all that the run keeps in `alloc`.
-fn run_in<A: Allocator + Clone, F: Read + Drop, I: Read, O: Write>(
+fn run_in<A: Allocator + Copy, F: Read + Drop, I: Read, O: Write>(
     alloc: &A,
     config: &Config,
     dialect: Dialect,
@@ -106,7 +108,10 @@ fn run_in<A: Allocator + Clone, F: Read + Drop, I: Read, O: Write>(
 {
     match started(alloc, config, dialect, starts) {
         Err(stop) => Err(stop),
-        Ok(session) => run_on(alloc, session, dialect, Prompts::Hidden, exchange),
+        Ok(session) => {
+            let log = LogNotes::none(*alloc);
+            run_on(alloc, session, &log, dialect, Prompts::Hidden, exchange)
+        }
     }
 }
 
@@ -407,13 +412,14 @@ fn program_with<
     C: Clock,
     W: Sink,
 >(rt: &R, words: &[S], reader: I, writer: &mut O, errors: &mut E, progress: &Progress<C, W>) -> u8
-    ensures status { asks_why (map S.text words.now) ≡ false → IsStatus result }
+    ensures status { asks_why (map S.text words.now) ≡ false → seeks (map S.text words.now) ≡ false → IsStatus result }
     ensures early { result ≢ 0 → asks_open (map S.text words.now) ≡ false → asks_lives (map S.text words.now) ≡ false → EndsEarly (E.contents errors.old) (E.contents errors.new) (E.failures errors.old) (E.failures errors.new) result }
     ensures quiet { result ≡ 0 → asks_import (map S.text words.now) ≡ false → asks_open (map S.text words.now) ≡ false → asks_run (map S.text words.now) ≡ false → asks_lives (map S.text words.now) ≡ false → Keeps (E.contents errors.old) (E.contents errors.new) }
     ensures run { asks_run (map S.text words.now) ≡ true → EndsRun (E.contents errors.old) (E.contents errors.new) (E.failures errors.old) (E.failures errors.new) result }
     ensures answers { asks_run (map S.text words.now) ≡ true → EndsAnswering R.File.Read.remaining (E.contents errors.old) (E.contents errors.new) (E.failures errors.old) (E.failures errors.new)
         (I.remaining reader) (O.contents writer.old) (O.contents writer.new) result }
-    ensures noted { asks_import (map S.text words.now) ≡ false → asks_run (map S.text words.now) ≡ false → asks_lives (map S.text words.now) ≡ false → EndsNoted (E.contents errors.old) (E.contents errors.new) (E.failures errors.old) (E.failures errors.new) result }
+    ensures placed { asks_import (map S.text words.now) ≡ false → asks_run (map S.text words.now) ≡ false → asks_lives (map S.text words.now) ≡ false → EndsPlaced (E.contents errors.old) (E.contents errors.new) (E.failures errors.old) (E.failures errors.new) result }
+    ensures noted { asks_import (map S.text words.now) ≡ false → asks_run (map S.text words.now) ≡ false → asks_lives (map S.text words.now) ≡ false → seeks (map S.text words.now) ≡ false → EndsNoted (E.contents errors.old) (E.contents errors.new) (E.failures errors.old) (E.failures errors.new) result }
     ensures behind { asks_import (map S.text words.now) ≡ false → asks_run (map S.text words.now) ≡ false → asks_lives (map S.text words.now) ≡ false → brings (map S.text words.now) ≡ false → EndsBehind (E.contents errors.old) (E.contents errors.new) (E.failures errors.old) (E.failures errors.new) result }
     ensures report { asks_report (map S.text words.now) ≡ true → EndsPlainly (E.contents errors.old) (E.contents errors.new) (E.failures errors.old) (E.failures errors.new) result }
     ensures lives { asks_lives (map S.text words.now) ≡ true → EndsAsked (E.contents errors.old) (E.contents errors.new) (E.failures errors.old) (E.failures errors.new) result }
@@ -456,7 +462,7 @@ fn program_with<
 }
 
 /// The whole program: does what the words behind its name ask for, and answers its exit status: 0, 2 to 6, or 1 where
-/// `why` is asked for a key that was never seen.
+/// `why` is asked for a key that was never seen, or `open` where one is gone that never left.
 ///
 /// Answers go to `writer`. At status 0 nothing goes to `errors`, but what an import tells of itself, that of `open`
 /// too, what is told of traces that fill the tree, which commands of a run were malformed or refused, and what is to be
@@ -472,13 +478,14 @@ pub fn program<
     E: Sink,
     P: Write,
 >(rt: &R, words: &[S], reader: I, writer: &mut O, errors: &mut E, progress: &mut P) -> u8
-    ensures status { asks_why (map S.text words.now) ≡ false → IsStatus result }
+    ensures status { asks_why (map S.text words.now) ≡ false → seeks (map S.text words.now) ≡ false → IsStatus result }
     ensures early { result ≢ 0 → asks_open (map S.text words.now) ≡ false → asks_lives (map S.text words.now) ≡ false → EndsEarly (E.contents errors.old) (E.contents errors.new) (E.failures errors.old) (E.failures errors.new) result }
     ensures quiet { result ≡ 0 → asks_import (map S.text words.now) ≡ false → asks_open (map S.text words.now) ≡ false → asks_run (map S.text words.now) ≡ false → asks_lives (map S.text words.now) ≡ false → Keeps (E.contents errors.old) (E.contents errors.new) }
     ensures run { asks_run (map S.text words.now) ≡ true → EndsRun (E.contents errors.old) (E.contents errors.new) (E.failures errors.old) (E.failures errors.new) result }
     ensures answers { asks_run (map S.text words.now) ≡ true → EndsAnswering R.File.Read.remaining (E.contents errors.old) (E.contents errors.new) (E.failures errors.old) (E.failures errors.new)
         (I.remaining reader) (O.contents writer.old) (O.contents writer.new) result }
-    ensures noted { asks_import (map S.text words.now) ≡ false → asks_run (map S.text words.now) ≡ false → asks_lives (map S.text words.now) ≡ false → EndsNoted (E.contents errors.old) (E.contents errors.new) (E.failures errors.old) (E.failures errors.new) result }
+    ensures placed { asks_import (map S.text words.now) ≡ false → asks_run (map S.text words.now) ≡ false → asks_lives (map S.text words.now) ≡ false → EndsPlaced (E.contents errors.old) (E.contents errors.new) (E.failures errors.old) (E.failures errors.new) result }
+    ensures noted { asks_import (map S.text words.now) ≡ false → asks_run (map S.text words.now) ≡ false → asks_lives (map S.text words.now) ≡ false → seeks (map S.text words.now) ≡ false → EndsNoted (E.contents errors.old) (E.contents errors.new) (E.failures errors.old) (E.failures errors.new) result }
     ensures behind { asks_import (map S.text words.now) ≡ false → asks_run (map S.text words.now) ≡ false → asks_lives (map S.text words.now) ≡ false → brings (map S.text words.now) ≡ false → EndsBehind (E.contents errors.old) (E.contents errors.new) (E.failures errors.old) (E.failures errors.new) result }
     ensures report { asks_report (map S.text words.now) ≡ true → EndsPlainly (E.contents errors.old) (E.contents errors.new) (E.failures errors.old) (E.failures errors.new) result }
     ensures lives { asks_lives (map S.text words.now) ≡ true → EndsAsked (E.contents errors.old) (E.contents errors.new) (E.failures errors.old) (E.failures errors.new) result }

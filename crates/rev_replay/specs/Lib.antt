@@ -1,4 +1,7 @@
+pub mod Coverage
 pub mod Faults
+pub mod Moments
 pub mod Notes
 pub mod Replayed
+pub mod Seeking
 pub mod Turns

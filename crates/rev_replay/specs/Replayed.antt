@@ -9,7 +9,7 @@ use Rattle.rev_replay.specs.Turns.{ReplayState}
 
 -- its stage
 abbrev pub state_of : {A : Type 0} → Replay A → ReplayState
-state_of r = record { keeping = r.keeping; config = r.setup.now.config; stage = r.stage }
+state_of r = record { keeping = r.keeping; config = r.setup.now.config; counted = record { before = r.steps; stage = r.stage } }
 
 -- what became of the lines
 abbrev pub counts_of : {A : Type 0} → Replay A → LineCounts

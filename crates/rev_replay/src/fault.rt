@@ -31,6 +31,12 @@ pub enum ReplayFault {
     /// One event takes more steps than a session has room for.
     #[error("too many steps for an event")]
     TooManySteps,
+    /// A log shows an item in several chunks, which the rules do not cover: one above so many bytes.
+    #[error("items above {most} bytes lie in several chunks")]
+    Chunked { most: u32 },
+    /// A log shows another class for an item with so many bytes of data than the server's settings give.
+    #[error("an item of {size} bytes is in class {class}")]
+    OtherClass { size: u32, class: u32 },
 }
 
 impl From<AllocError> for ReplayFault {

@@ -20,7 +20,7 @@ pub struct Heard<'a, A: Allocator> {
     pub session: &'a Session<A>,
     /// The role of each node, that of node 1 first.
     pub roles: &'a [Role],
-    /// How many steps were played before, over all logs.
+    /// How many steps lie in front of the root, over all lives of the server.
     pub before: u64,
 }
 
@@ -32,18 +32,4 @@ pub trait Listener<A: Allocator> {
     /// The server was started anew, behind all events that were heard and before a line of this time; so many steps
     /// were played so far.
     fn restarted(&mut self, at: Timestamp, steps: u64) -> Result<(), ReplayFault>;
-}
-
-/// Nobody is told.
-#[derive(Drop)]
-pub struct Nobody;
-
-impl<A: Allocator> Listener<A> for Nobody {
-    fn heard(&mut self, _heard: &Heard<'_, A>) -> Result<(), ReplayFault> {
-        Ok(())
-    }
-
-    fn restarted(&mut self, _at: Timestamp, _steps: u64) -> Result<(), ReplayFault> {
-        Ok(())
-    }
 }

@@ -6,11 +6,14 @@
 #![tactic(auto)]
 
 pub mod counts;
+pub mod coverage;
 mod ends;
 pub mod fault;
 pub mod grown;
 pub mod heard;
 pub mod keeping;
 mod logs;
+mod moments;
 pub mod notes;
 pub mod run;
+pub mod seeking;

@@ -5,20 +5,22 @@ ghost use Rattle.rev_lead.specs.Acts.{Led};
 ghost use Rattle.rev_replay.specs.Turns.{fresh};
 
 use crate::counts::{LineCounts, add};
+use crate::coverage::Coverage;
 use crate::ends::LogEnds;
 use crate::fault::ReplayFault;
 use crate::heard::{Heard, Listener};
 use crate::keeping::{Keeping, Place};
 pub use crate::logs::replay_logs;
 use rev_classes::ClassTable;
+use rev_evidence::heard::step_number;
 use rev_import::setup::Setup;
-use rev_lead::{Driver, LeadFault, Role, Stage, Tally};
+use rev_lead::{Agreement, Driver, LeadFault, Role, Stage, Tally};
 use rev_log::foresight::{Coming, Foresight};
 use rev_log::order::Order;
 use rev_requests::{ActorStep, Step};
 use rev_script::source::Source;
-use rev_undotree::Session;
-use rev_watch::event::{Line, LogLine, Timestamp};
+use rev_undotree::{NodeId, Session};
+use rev_watch::event::{Event, Line, LogLine, Timestamp};
 use rev_watch::reader::{LogReader, NextLine};
 use rev_watch::window::MOST_HELD;
 use std::alloc::Allocator;
@@ -42,7 +44,7 @@ pub struct Replay<'a, A: Allocator> {
     driver: Driver<A>,
     stage: Stage<A>,
     ends: LogEnds<A>,
-    // the steps in front of the stage's root
+    // the steps in front of the stage's root, over all lives of the server
     steps: u64,
     // the number of the last event that was played, and its time
     gid: u64,
@@ -50,6 +52,9 @@ pub struct Replay<'a, A: Allocator> {
     // where a tree that is kept was full
     full: Option<Place>,
     counts: LineCounts,
+    coverage: Coverage,
+    // how many stores were played, as far as they are looked at
+    stores: u32,
     ghost sound: { IsWithinLimits setup.now.config },
 }
 
@@ -89,18 +94,19 @@ impl<'a, A: Allocator + Copy> Replay<'a, A> {
     ghost use Rattle.std.specs.Prelude.{◌≡◌, ◌&&◌, not, true, false, is_some, [], IfOk};
     ghost use Rattle.rev_classes.specs.Limits.{IsWithinLimits};
     ghost use Rattle.rev_lead.specs.Acts.{begun};
-    ghost use Rattle.rev_replay.specs.Turns.{GoesOn, fresh, plays};
+    ghost use Rattle.rev_replay.specs.Turns.{GoesOn, at_first, fresh, plays, steps_of};
     ghost use Rattle.rev_replay.specs.Replayed.{state_of, counts_of, late_of, repeated_of, tally_of, full_of, life_of};
 
     // No log was read, and this stage stands in the place of the server.
     fn begin(
         alloc: A,
         setup: &'a Setup,
+        coverage: Coverage,
         keeping: Keeping,
         stage: Stage<A>,
     ) -> Result<Replay<'a, A>, ReplayFault>
         requires { IsWithinLimits setup.now.config }
-        ensures { IfOk result (λ replay. GoesOn false (record { keeping = keeping; config = setup.now.config; stage = stage }) (state_of replay)) }
+        ensures { IfOk result (λ replay. GoesOn false (at_first keeping setup.now.config stage) (state_of replay)) }
     {
         let Ok(classes) = ClassTable::build(&setup.config) else {
             unreachable!();
@@ -131,43 +137,50 @@ impl<'a, A: Allocator + Copy> Replay<'a, A> {
             },
             full: None,
             counts: LineCounts::none(),
+            coverage,
+            stores: 0,
         };
         replay.pass();
         Ok(replay)
     }
 
-    /// No log was read. All lives of the server are replayed, and nothing is kept of the steps.
+    /// No log was read. All lives of the server are replayed, and nothing is kept of the steps. Whether more is played
+    /// once a log shows what the rules do not cover is said by `coverage`.
     ///
     /// Err: memory was refused.
     #[tactic(auto, using(crate::proofs::Going::goes_more, crate::proofs::Going::goes_same, crate::proofs::Going::goes_led))]
-    pub fn open(alloc: A, setup: &'a Setup) -> Result<Replay<'a, A>, ReplayFault>
+    pub fn open(
+        alloc: A,
+        setup: &'a Setup,
+        coverage: Coverage,
+    ) -> Result<Replay<'a, A>, ReplayFault>
         requires { IsWithinLimits setup.now.config }
-        ensures { IfOk result (λ replay. GoesOn false (record { keeping = Keeping.Nothing; config = setup.now.config; stage = fresh setup.now.config }) (state_of replay)) }
+        ensures { IfOk result (λ replay. GoesOn false (at_first Keeping.Nothing setup.now.config (fresh setup.now.config)) (state_of replay)) }
     {
         let stage = open_stage(alloc, setup)?;
-        let replay = Replay::begin(alloc, setup, Keeping::Nothing, stage)?;
+        let replay = Replay::begin(alloc, setup, coverage, Keeping::Nothing, stage)?;
         Ok(replay)
     }
 
-    /// No log was read. One life of the server is replayed, that of this number, or the last where none is given, and
-    /// its steps are kept as nodes. The first life of the server begins where the session stands, of a store with the
-    /// setup's configuration; each other one begins with an empty cache.
+    /// No log was read, and so much is kept of the steps. The first life of the server begins where the session stands,
+    /// of a store with the setup's configuration; each other one begins with an empty cache.
     ///
     /// Err: memory was refused, or the session's tree is full.
     #[tactic(auto, using(crate::proofs::Going::goes_more, crate::proofs::Going::goes_same, crate::proofs::Going::goes_led))]
     pub fn open_on(
         alloc: A,
         setup: &'a Setup,
+        coverage: Coverage,
         session: Session<A>,
-        life: Option<u32>,
+        keeping: Keeping,
     ) -> Result<Replay<'a, A>, ReplayFault>
         requires { IsWithinLimits setup.now.config }
-        ensures { IfOk result (λ replay. GoesOn false (record { keeping = Keeping.Tree life; config = setup.now.config; stage = begun (record { session = session; roles = [] }) }) (state_of replay)) }
+        ensures { IfOk result (λ replay. GoesOn false (at_first keeping setup.now.config (begun (record { session = session; roles = [] }))) (state_of replay)) }
     {
         let mut stage = Stage::on(alloc, session);
         match play_setup(&mut stage, setup) {
             Ok(()) => {
-                let replay = Replay::begin(alloc, setup, Keeping::Tree { life }, stage)?;
+                let replay = Replay::begin(alloc, setup, coverage, keeping, stage)?;
                 Ok(replay)
             }
             Err(fault) => {
@@ -177,17 +190,22 @@ impl<'a, A: Allocator + Copy> Replay<'a, A> {
         }
     }
 
-    // Where nothing is kept, the steps that were played are those in front of the root from now on.
+    // How many steps were played so far, over all lives of the server that are played.
+    fn played(&self) -> u64
+        ensures { result ≡ steps_of (state_of self.entry.now).counted }
+    {
+        step_number(self.steps, NodeId(self.stage.session().issued()))
+    }
+
+    // Where they are not kept, the steps that were played are those in front of the root from now on.
     #[tactic(auto, using(crate::proofs::Going::goes_more, crate::proofs::Going::goes_same, crate::proofs::Going::goes_led))]
     fn pass(&mut self)
         ensures { GoesOn false (state_of self.old) (state_of self.new) }
     {
-        match self.keeping {
-            Keeping::Tree { .. } => {}
-            Keeping::Nothing => {
-                add(&mut self.steps, u64::from(self.stage.session().issued()));
-                self.stage.restart();
-            }
+        let nodes = self.stage.session().issued();
+        if self.keeping.passes(self.steps, nodes) {
+            self.steps = self.played();
+            self.stage.restart();
         }
     }
 
@@ -204,7 +222,8 @@ impl<'a, A: Allocator + Copy> Replay<'a, A> {
     {
         match (played, self.keeping) {
             (Ok(()), _) => Ok(()),
-            (Err(LeadFault::TooManyNodes), Keeping::Tree { .. }) => {
+            (Err(fault), Keeping::Nothing) => Err(ReplayFault::from(fault)),
+            (Err(LeadFault::TooManyNodes), _) => {
                 self.full = Some(Place {
                     log: self.ends.log_of(self.gid),
                     gid: self.gid,
@@ -244,6 +263,17 @@ impl<'a, A: Allocator + Copy> Replay<'a, A> {
         })
     }
 
+    // Sees whether the rules cover the item that an event stored.
+    fn see(&mut self, event: &Event<A>, agreement: Agreement) -> Result<(), ReplayFault>
+        ensures { state_of self.new ≡ state_of self.old }
+    {
+        self.coverage.see(event, self.stores, agreement)?;
+        if let Event::Store { .. } = event {
+            self.stores = self.stores.saturating_add(1);
+        }
+        Ok(())
+    }
+
     // Plays an event, and tells of it.
     #[tactic(auto, using(crate::proofs::Going::goes_more, crate::proofs::Going::goes_same, crate::proofs::Going::goes_led))]
     fn take<L: Listener<A>>(
@@ -255,11 +285,14 @@ impl<'a, A: Allocator + Copy> Replay<'a, A> {
     {
         self.gid = coming.line.gid;
         self.now = coming.line.time;
-        let played = match self.driver.take(coming, &self.ahead, &mut self.stage) {
-            Ok(_) => Ok(()),
-            Err(fault) => Err(fault),
+        let (played, agreement) = match self.driver.take(coming, &self.ahead, &mut self.stage) {
+            Ok(agreement) => (Ok(()), Some(agreement)),
+            Err(fault) => (Err(fault), None),
         };
         self.ended(played)?;
+        if let Some(agreement) = agreement {
+            self.see(&coming.line.event, agreement)?;
+        }
         self.tell(coming, listener)?;
         self.pass();
         Ok(())
@@ -350,6 +383,7 @@ impl<'a, A: Allocator + Copy> Replay<'a, A> {
     {
         if self.keeping.plays(self.life()) {
             let stage = open_stage(self.alloc, self.setup)?;
+            self.steps = self.played();
             drop(mem::replace(&mut self.stage, stage));
             self.full = None;
             self.pass();
@@ -368,7 +402,7 @@ impl<'a, A: Allocator + Copy> Replay<'a, A> {
     {
         self.drain(listener)?;
         add(&mut self.counts.restarts, 1);
-        listener.restarted(at, self.steps)?;
+        listener.restarted(at, self.played())?;
         self.ahead.clear();
         self.order.begin_life();
         self.ends.begin_life();
@@ -556,9 +590,30 @@ impl<'a, A: Allocator + Copy> Replay<'a, A> {
         self.full
     }
 
+    /// How many steps lie in front of the root of those that are kept, over all lives of the server.
+    pub(crate) fn before(&self) -> u64
+        ensures { result ≡ (state_of self.entry.now).counted.before }
+    {
+        self.steps
+    }
+
+    /// The session with the steps that are kept.
+    pub(crate) fn session(&self) -> &Session<A>
+        ensures { result.now ≡ (state_of self.entry.now).counted.stage.session }
+    {
+        self.stage.session()
+    }
+
+    /// The role of each step that is kept, that of node 1 first.
+    pub(crate) fn roles(&self) -> &[Role]
+        ensures { result.now ≡ (state_of self.entry.now).counted.stage.roles }
+    {
+        self.stage.roles()
+    }
+
     /// The session with the steps that were kept.
     pub fn into_session(self) -> Session<A>
-        ensures { result ≡ (state_of self.entry).stage.session }
+        ensures { result ≡ (state_of self.entry).counted.stage.session }
     {
         self.stage.into_session()
     }

@@ -1,7 +1,7 @@
 -- What each line of a script does to a session, and what is answered.
 -- Rule of memcached: which answer a command gets, and that `noreply` drops it.
 -- Rule of this project: the lines that begin with `:`.
-use Rattle.std.specs.Prelude.{ℕ, ◌++◌, false, List, codes}
+use Rattle.std.specs.Prelude.{ℕ, ◌++◌, false, if◌then◌else◌, List, Option, None, Some, Result, Ok, Err, unwrap_or, codes}
 use Rattle.rev_model.specs.State.{free_of, queue_of, find}
 use Rattle.rev_tree.specs.Rows.{row_of, parent_of}
 use Rattle.rev_tree.specs.Positions.{SessionState}
@@ -12,12 +12,17 @@ use Rattle.rev_script.specs.declared.command.KeyQuery.TheVariants as queries
 use Rattle.rev_script.specs.declared.command.BookmarkCommand.{BookmarkCommand}
 use Rattle.rev_script.specs.declared.command.BookmarkCommand.TheVariants as bookmarks
 use Rattle.rev_script.specs.Script.{ScriptLine, StorageLine, RetrievalLine, UpdateLine, FlushLine, ActorLine, TuneLine, DebugLine, QueryLine, BookmarkLine, BadLine}
+use Rattle.rev_watch.specs.Keys.{key_of}
+use Rattle.rev_watch.specs.declared.fault.LineFault.{LineFault}
 use Rattle.rev_texts.specs.Texts.{of_class, output, bad_text, found_text, place_text, entries_text, chunks_text, pages_text, counters_text, globals_text, node_text, parent_text}
 use Rattle.rev_views.specs.Trees.{gone_to, child_at, child_text, go_text, gone, prune_text, after_prune, tree_text}
 use Rattle.rev_views.specs.Bookmarks.{bookmarked, with_bookmark, bookmarked_text, bookmarks_text, goto_text, gone_by}
 use Rattle.rev_requests.specs.Plain.{plain_actor}
 use Rattle.rev_script.specs.Steps.{storage_step, keyed_step, flush_step, tune_step}
+use Rattle.rev_evidence.specs.Notes.{PlainNotes, is_none}
 use Rattle.rev_explain.specs.Story.{story, why_of}
+use Rattle.rev_explain.specs.declared.events.Why.{Why}
+use Rattle.rev_explain.specs.declared.events.Why.TheVariants as whys
 use Rattle.rev_explain.specs.Departures.{departures, at_most, last_of}
 use Rattle.rev_explain.specs.Clocks.{node_by}
 use Rattle.rev_views.specs.Reasons.{events_text, why_text}
@@ -26,16 +31,18 @@ use Rattle.rev_views.specs.Classes.{classes_text}
 use Rattle.rev_texts.specs.Help.{help_text, help_on_text}
 use Rattle.rev_plays.specs.Replies.{state_of, reply, after_step, reply_text, values, after_gets}
 
--- ---- a session and the bookmarks beside it, which belong to the run and are not undone
+-- ---- a session, the bookmarks beside it, which belong to the run and are not undone, and what a log says of its nodes,
+-- which no line changes
 
--- a session with its bookmarks
+-- a session with its bookmarks and its log
 pub record BookmarkedSession : Type 0 where
   pub session : SessionState
   pub bookmarks : List (List ℕ × ℕ)
+  pub log : PlainNotes
 
--- a session and its bookmarks
-abbrev pub with_bookmarks : SessionState → List (List ℕ × ℕ) → BookmarkedSession
-with_bookmarks m names = record { session = m; bookmarks = names }
+-- a session, and its bookmarks and its log beside it
+abbrev pub beside : SessionState → List (List ℕ × ℕ) → PlainNotes → BookmarkedSession
+beside m names log = record { session = m; bookmarks = names; log = log }
 
 -- ---- debug commands; they make no node
 
@@ -54,7 +61,7 @@ debug_text d debugs.Globals = globals_text (state_of d.session)
 debug_text d debugs.Tree = tree_text d.session
 debug_text d debugs.Marks = bookmarks_text d.bookmarks
 debug_text d (debugs.Prune n) = prune_text d.session n
-debug_text d (debugs.Gone limit) = departures_text (last_of limit (departures d.session.root d.session.rows d.session.current))
+debug_text d (debugs.Gone limit) = departures_text d.log (last_of limit (departures d.session.root d.session.rows d.session.current))
 debug_text d (debugs.Step n) = step_text d.session n (row_of d.session.rows n)
 debug_text d (debugs.Time t) = time_text d.session (node_by d.session.root d.session.rows d.session.current t)
 debug_text d debugs.Classes = classes_text (state_of d.session)
@@ -81,11 +88,25 @@ after_debug m debugs.Classes = m
 after_debug m debugs.Help = m
 
 -- what is asked of a key at the current node
-abbrev pub query_text : SessionState → KeyQuery → List ℕ → List ℕ
-query_text m queries.Item k = found_text (state_of m) (find (state_of m) k)
-query_text m queries.Chunk k = place_text (find (state_of m) k)
-query_text m queries.Why k = why_text (why_of m.root m.rows m.current k)
-query_text m queries.Story k = events_text (story m.root m.rows m.current k)
+abbrev pub asked_text : PlainNotes → SessionState → KeyQuery → List ℕ → List ℕ
+asked_text log m queries.Item k = found_text (state_of m) (find (state_of m) k)
+asked_text log m queries.Chunk k = place_text (find (state_of m) k)
+asked_text log m queries.Why k = why_text log k (why_of m.root m.rows m.current k)
+asked_text log m queries.Story k = events_text log (story m.root m.rows m.current k)
+
+-- what a text names in a line of a log: a key, or nothing
+abbrev pub spelled : Result (List ℕ × ℕ) LineFault → Option (List ℕ)
+spelled (Ok named) = Some named.0
+spelled (Err e) = None
+
+-- the key that is meant, of which the session says this: one that never was there may be spelled as in the log
+abbrev pub meant : Why → List ℕ → List ℕ
+meant whys.Never k = unwrap_or (spelled (key_of k)) k
+meant w k = k
+
+-- what is asked of a key, which may be spelled as in the log where one tells of the session
+abbrev pub query_text : PlainNotes → SessionState → KeyQuery → List ℕ → List ℕ
+query_text log m q k = asked_text log m q (if is_none log then k else meant (why_of m.root m.rows m.current k) k)
 
 -- what is answered to a line about a name
 abbrev pub bookmark_text : BookmarkedSession → BookmarkCommand → List ℕ → List ℕ
@@ -95,8 +116,8 @@ bookmark_text d bookmarks.Help name = help_on_text name
 
 -- the session after it
 abbrev pub after_bookmark : BookmarkedSession → BookmarkCommand → List ℕ → BookmarkedSession
-after_bookmark d bookmarks.Mark name = with_bookmarks d.session (with_bookmark d.bookmarks name d.session.current)
-after_bookmark d bookmarks.Goto name = with_bookmarks (gone_by d.session (bookmarked d.bookmarks name)) d.bookmarks
+after_bookmark d bookmarks.Mark name = record d { bookmarks = with_bookmark d.bookmarks name d.session.current }
+after_bookmark d bookmarks.Goto name = record d { session = gone_by d.session (bookmarked d.bookmarks name) }
 after_bookmark d bookmarks.Help name = d
 
 -- ---- a line
@@ -110,19 +131,19 @@ answer d (FlushLine delay noreply) = reply_text noreply (reply d.session (flush_
 answer d (ActorLine a) = reply_text false (reply d.session (plain_actor a))
 answer d (TuneLine t) = reply_text false (reply d.session (tune_step t))
 answer d (DebugLine c) = debug_text d c
-answer d (QueryLine q k) = query_text d.session q k
+answer d (QueryLine q k) = query_text d.log d.session q k
 answer d (BookmarkLine c name) = bookmark_text d c name
 answer d (BadLine a) = output (bad_text a)
 
--- the session and the bookmarks after it
+-- the session, the bookmarks and the log after it
 abbrev pub after : BookmarkedSession → ScriptLine → BookmarkedSession
-after d (StorageLine c k flags exptime payload noreply) = with_bookmarks (after_step d.session (storage_step c k flags exptime payload)) d.bookmarks
-after d (RetrievalLine ks with_cas) = with_bookmarks (after_gets d.session ks) d.bookmarks
-after d (UpdateLine c k noreply) = with_bookmarks (after_step d.session (keyed_step c k)) d.bookmarks
-after d (FlushLine delay noreply) = with_bookmarks (after_step d.session (flush_step delay)) d.bookmarks
-after d (ActorLine a) = with_bookmarks (after_step d.session (plain_actor a)) d.bookmarks
-after d (TuneLine t) = with_bookmarks (after_step d.session (tune_step t)) d.bookmarks
-after d (DebugLine c) = with_bookmarks (after_debug d.session c) d.bookmarks
+after d (StorageLine c k flags exptime payload noreply) = record d { session = after_step d.session (storage_step c k flags exptime payload) }
+after d (RetrievalLine ks with_cas) = record d { session = after_gets d.session ks }
+after d (UpdateLine c k noreply) = record d { session = after_step d.session (keyed_step c k) }
+after d (FlushLine delay noreply) = record d { session = after_step d.session (flush_step delay) }
+after d (ActorLine a) = record d { session = after_step d.session (plain_actor a) }
+after d (TuneLine t) = record d { session = after_step d.session (tune_step t) }
+after d (DebugLine c) = record d { session = after_debug d.session c }
 after d (QueryLine q k) = d
 after d (BookmarkLine c name) = after_bookmark d c name
 after d (BadLine a) = d

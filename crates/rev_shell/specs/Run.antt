@@ -14,8 +14,9 @@ use Rattle.rev_script.specs.declared.byte_reader.LineFault.TheVariants as faults
 use Rattle.rev_script.specs.declared.source.LastRead.TheVariants.{Failed, Ended}
 use Rattle.rev_output.specs.Sink.{WroteFront, PlainSink}
 use Rattle.rev_output.specs.Sink as sink
+use Rattle.rev_evidence.specs.Notes.{PlainNotes, no_notes}
 use Rattle.rev_plays.specs.Begin.{opened}
-use Rattle.rev_shell.specs.Answers.{BookmarkedSession, with_bookmarks, after, answer}
+use Rattle.rev_shell.specs.Answers.{BookmarkedSession, beside, after, answer}
 use Rattle.rev_texts.specs.Texts.{output}
 use Rattle.rev_shell.specs.declared.run.Tally.{Tally}
 use Rattle.rev_shell.specs.declared.run.Summary.{Summary}
@@ -24,13 +25,13 @@ use Rattle.rev_shell.specs.declared.run.Prompts.TheVariants.{Shown, Hidden}
 use Rattle.rev_shell.specs.declared.run.RunFault.{RunFault}
 use Rattle.rev_shell.specs.declared.run.RunFault.TheVariants.{Memory, Read, Write, TooLong}
 
--- a run on a session begins with no bookmark
-abbrev pub without_bookmarks : SessionState → BookmarkedSession
-without_bookmarks m = with_bookmarks m []
+-- a run on a session, of which a log says this, begins with no bookmark
+abbrev pub without_bookmarks : SessionState → PlainNotes → BookmarkedSession
+without_bookmarks m log = beside m [] log
 
--- what the program's run begins with
+-- what the program's run begins with: no log leads to it
 abbrev pub initial : Config → BookmarkedSession
-initial config = without_bookmarks (opened config)
+initial config = without_bookmarks (opened config) no_notes
 
 -- ---- prompts
 

@@ -1,9 +1,14 @@
 //! One line of a script: what it does to a session, and what is answered.
-ghost use Rattle.std.specs.Prelude.{◌≡◌, ◌++◌, List, ℕ, OnOk};
+ghost use Rattle.std.specs.Prelude.{◌≡◌, ◌++◌, List, ℕ, IfOk, OnOk, unwrap_or};
+ghost use Rattle.rev_evidence.specs.Notes.{PlainNotes};
 ghost use Rattle.rev_script.specs.Line.{view, client_view, debug_view};
+ghost use Rattle.rev_watch.specs.Keys.{key_of};
 ghost use Rattle.rev_views.specs.Bookmarks.{bookmarked, with_bookmark, bookmarked_text, goto_text, gone_by};
-ghost use Rattle.rev_shell.specs.Answers.{with_bookmarks, answer, after, debug_text, after_debug, query_text, bookmark_text, after_bookmark};
+ghost use Rattle.rev_shell.specs.Answers.{beside, answer, after, debug_text, after_debug, spelled, asked_text, query_text, bookmark_text, after_bookmark};
 
+use rev_evidence::notes::LogNotes;
+use rev_explain::events::Why;
+use rev_explain::why;
 use rev_items::Key;
 use rev_plays::play::{play_line, put_values};
 use rev_script::command::{BookmarkCommand, DebugCommand, KeyQuery};
@@ -20,6 +25,8 @@ use rev_views::show::{
 };
 use rev_views::tree::{put_back, put_forward, put_go, put_prune, put_tree};
 use rev_views::views::{put_gone, put_step, put_time};
+use rev_watch::fault::LineFault;
+use rev_watch::key::key_of;
 use std::alloc::{AllocError, Allocator};
 
 // A client's line.
@@ -28,8 +35,8 @@ fn put_client<A: Allocator + Clone>(
     line: ClientLine<A>,
     out: &mut Vec<u8, A>,
 ) -> Result<(), AllocError>
-    ensures text { (names : List (List ℕ × ℕ)) → OnOk result (out.new.items ≡ out.old.items ++ answer (with_bookmarks session.old names) (client_view line)) }
-    ensures session { (names : List (List ℕ × ℕ)) → OnOk result (with_bookmarks session.new names ≡ after (with_bookmarks session.old names) (client_view line)) }
+    ensures text { (names : List (List ℕ × ℕ)) (log : PlainNotes) → OnOk result (out.new.items ≡ out.old.items ++ answer (beside session.old names log) (client_view line)) }
+    ensures session { (names : List (List ℕ × ℕ)) (log : PlainNotes) → OnOk result (beside session.new names log ≡ after (beside session.old names log) (client_view line)) }
 {
     match line {
         ClientLine::Storage {
@@ -62,11 +69,12 @@ fn put_client<A: Allocator + Clone>(
 // A debug command.
 fn put_debug<A: Allocator + Clone>(
     session: &mut Session<A>,
+    log: &LogNotes<A>,
     bookmarks: &Bookmarks<'_, A>,
     command: DebugCommand,
     out: &mut Vec<u8, A>,
 ) -> Result<(), AllocError>
-    ensures text { OnOk result (out.new.items ≡ out.old.items ++ debug_text (with_bookmarks session.old bookmarks.now) command) }
+    ensures text { OnOk result (out.new.items ≡ out.old.items ++ debug_text (beside session.old bookmarks.now log.now) command) }
     ensures session { OnOk result (session.new ≡ after_debug session.old command) }
 {
     match command {
@@ -86,7 +94,7 @@ fn put_debug<A: Allocator + Clone>(
         DebugCommand::Tree => put_tree(session, out),
         DebugCommand::Marks => bookmarks.put_all(out),
         DebugCommand::Prune(number) => put_prune(session, NodeId(number), out),
-        DebugCommand::Gone(limit) => put_gone(session, limit, out),
+        DebugCommand::Gone(limit) => put_gone(session, log, limit, out),
         DebugCommand::Step(number) => put_step(session, NodeId(number), out),
         DebugCommand::Time(time) => put_time(session, time, out),
         DebugCommand::Classes => put_classes(session.store(), out),
@@ -94,20 +102,73 @@ fn put_debug<A: Allocator + Clone>(
     }
 }
 
-// A question about a key.
-fn put_query<A: Allocator + Clone>(
+// What is asked of a key.
+fn put_asked<A: Allocator + Clone>(
     session: &Session<A>,
+    log: &LogNotes<A>,
     query: KeyQuery,
     key: &Key<A>,
     out: &mut Vec<u8, A>,
 ) -> Result<(), AllocError>
-    ensures { OnOk result (out.new.items ≡ out.old.items ++ query_text session.now query key.now) }
+    ensures { OnOk result (out.new.items ≡ out.old.items ++ asked_text log.now session.now query key.now) }
 {
     match query {
         KeyQuery::Item => put_item_of(session.store(), key, out),
         KeyQuery::Chunk => put_chunk_of(session.store(), key, out),
-        KeyQuery::Why => put_why(session, key, out),
-        KeyQuery::Story => put_story(session, key, out),
+        KeyQuery::Why => put_why(session, log, key, out),
+        KeyQuery::Story => put_story(session, log, key, out),
+    }
+}
+
+// The key that a text stands for in a log, where it stands for one. (All faults but a want of memory say that it does
+// not.)
+fn spelled<A: Allocator>(alloc: A, text: &[u8]) -> Result<Option<Key<A>>, AllocError>
+    ensures { IfOk result (λ key. key ≡ spelled (key_of text.now)) }
+{
+    match key_of(alloc, text) {
+        Ok((key, _)) => Ok(Some(key)),
+        Err(fault) => match fault {
+            LineFault::Memory => Err(AllocError),
+            LineFault::BadEscape | LineFault::BadKey => Ok(None),
+            LineFault::Missing(_) | LineFault::Twice(_) | LineFault::BadValue(_) => Ok(None),
+            LineFault::TooManyFields | LineFault::TooLong => Ok(None),
+        },
+    }
+}
+
+// What is asked of a key that never was there, and that may be spelled as in the log.
+fn put_spelled<A: Allocator + Clone>(
+    session: &Session<A>,
+    log: &LogNotes<A>,
+    query: KeyQuery,
+    key: &Key<A>,
+    out: &mut Vec<u8, A>,
+) -> Result<(), AllocError>
+    ensures { OnOk result (out.new.items ≡ out.old.items ++ asked_text log.now session.now query (unwrap_or (spelled (key_of key.now)) key.now)) }
+{
+    match spelled(out.allocator().clone()?, key.bytes())? {
+        Some(meant) => put_asked(session, log, query, &meant, out),
+        None => put_asked(session, log, query, key, out),
+    }
+}
+
+// A question about a key, which may be spelled as in the log where one tells of the session.
+fn put_query<A: Allocator + Clone>(
+    session: &Session<A>,
+    log: &LogNotes<A>,
+    query: KeyQuery,
+    key: &Key<A>,
+    out: &mut Vec<u8, A>,
+) -> Result<(), AllocError>
+    ensures { OnOk result (out.new.items ≡ out.old.items ++ query_text log.now session.now query key.now) }
+{
+    if log.is_none() {
+        return put_asked(session, log, query, key, out);
+    }
+    match why(session, key) {
+        Why::Never => put_spelled(session, log, query, key, out),
+        Why::Present => put_asked(session, log, query, key, out),
+        Why::Left { .. } => put_asked(session, log, query, key, out),
     }
 }
 
@@ -150,8 +211,8 @@ fn put_bookmark<A: Allocator + Clone>(
     name: Vec<u8, A>,
     out: &mut Vec<u8, A>,
 ) -> Result<(), AllocError>
-    ensures text { OnOk result (out.new.items ≡ out.old.items ++ bookmark_text (with_bookmarks session.old bookmarks.old) command name.items) }
-    ensures state { OnOk result (with_bookmarks session.new bookmarks.new ≡ after_bookmark (with_bookmarks session.old bookmarks.old) command name.items) }
+    ensures text { (log : PlainNotes) → OnOk result (out.new.items ≡ out.old.items ++ bookmark_text (beside session.old bookmarks.old log) command name.items) }
+    ensures state { (log : PlainNotes) → OnOk result (beside session.new bookmarks.new log ≡ after_bookmark (beside session.old bookmarks.old log) command name.items) }
 {
     match command {
         BookmarkCommand::Mark => put_bookmarked(session, bookmarks, name, out),
@@ -164,38 +225,41 @@ fn put_bookmark<A: Allocator + Clone>(
 #[inline(never)]
 fn put_debug_line<A: Allocator + Clone>(
     session: &mut Session<A>,
+    log: &LogNotes<A>,
     bookmarks: &mut Bookmarks<'_, A>,
     line: DebugLine<A>,
     out: &mut Vec<u8, A>,
 ) -> Result<(), AllocError>
-    ensures text { OnOk result (out.new.items ≡ out.old.items ++ answer (with_bookmarks session.old bookmarks.old) (debug_view line)) }
-    ensures state { OnOk result (with_bookmarks session.new bookmarks.new ≡ after (with_bookmarks session.old bookmarks.old) (debug_view line)) }
+    ensures text { OnOk result (out.new.items ≡ out.old.items ++ answer (beside session.old bookmarks.old log.now) (debug_view line)) }
+    ensures state { OnOk result (beside session.new bookmarks.new log.now ≡ after (beside session.old bookmarks.old log.now) (debug_view line)) }
 {
     match line {
-        DebugLine::Plain(command) => put_debug(session, bookmarks, command, out),
-        DebugLine::Query { query, key } => put_query(session, query, &key, out),
+        DebugLine::Plain(command) => put_debug(session, log, bookmarks, command, out),
+        DebugLine::Query { query, key } => put_query(session, log, query, &key, out),
         DebugLine::Bookmark { command, name } => {
             put_bookmark(session, bookmarks, command, name, out)
         }
     }
 }
 
-/// Does what a line asks for, and writes its answer. At an error the answer is of no use.
+/// Does what a line asks for, and writes its answer. A log tells of the session's nodes. At an error the answer is of no
+/// use.
 #[inline(always)]
 pub fn put_answer<A: Allocator + Clone>(
     session: &mut Session<A>,
+    log: &LogNotes<A>,
     bookmarks: &mut Bookmarks<'_, A>,
     line: Line<A>,
     out: &mut Vec<u8, A>,
 ) -> Result<(), AllocError>
-    ensures text { OnOk result (out.new.items ≡ out.old.items ++ answer (with_bookmarks session.old bookmarks.old) (view line)) }
-    ensures state { OnOk result (with_bookmarks session.new bookmarks.new ≡ after (with_bookmarks session.old bookmarks.old) (view line)) }
+    ensures text { OnOk result (out.new.items ≡ out.old.items ++ answer (beside session.old bookmarks.old log.now) (view line)) }
+    ensures state { OnOk result (beside session.new bookmarks.new log.now ≡ after (beside session.old bookmarks.old log.now) (view line)) }
 {
     match line {
         Line::Client(line) => put_client(session, line, out),
         Line::Actor(step) => play_line(session, actor_step(step), false, out),
         Line::Tune(tune) => play_line(session, tune_step(tune), false, out),
-        Line::Debug(line) => put_debug_line(session, bookmarks, line, out),
+        Line::Debug(line) => put_debug_line(session, log, bookmarks, line, out),
         Line::Bad { answer: text } => put_output(out, bad_text(text)),
     }
 }

@@ -2,15 +2,18 @@
 ghost use Rattle.std.specs.Prelude.{◌≡◌, ◌++◌, ◌<◌, ℕ, List, IfOk, IfErr, OnOk, OnErr};
 ghost use Rattle.std.specs.Io.KnownBytes.{Appends};
 ghost use Rattle.rev_classes.specs.Limits.{IsWithinLimits};
+ghost use Rattle.rev_evidence.specs.Notes.{no_notes};
 ghost use Rattle.rev_script.specs.Lines.{IsFirst, with_sink};
 ghost use Rattle.rev_script.specs.Line.{view};
 ghost use Rattle.rev_output.specs.Sink.{WroteFront, one_more};
 ghost use Rattle.rev_shell.specs.Run.{IsDone, IsLeft, IsStopped, run_fault, without_bookmarks, initial, is_bad, is_refusal, with_mark, prompt_text, end_text};
 ghost use Rattle.rev_shell.specs.declared.run.Prompts.TheVariants.{Hidden};
-ghost use Rattle.rev_shell.specs.Answers.{with_bookmarks, answer, after};
+ghost use Rattle.rev_shell.specs.declared.run.RunFault.{RunFault};
+ghost use Rattle.rev_shell.specs.Answers.{beside, answer, after};
 
 use crate::answer::put_answer;
 use rev_classes::Config;
+use rev_evidence::notes::{LogNotes, Lost};
 use rev_output::WriteFailed;
 use rev_plays::begin::open_session;
 use rev_script::byte_reader::LineFault;
@@ -155,22 +158,23 @@ fn put_prompt<A: Allocator>(
     }
 }
 
-/// Does what a line asks for; the answer, and the prompt for the next line, are then in `text` and nothing else.
-/// Answers whether the tree refused a step of the line. At an error the text is of no use.
+/// Does what a line asks for; the answer, and the prompt for the next line, are then in `text` and nothing else. A log
+/// tells of the session's nodes. Answers whether the tree refused a step of the line. At an error the text is of no use.
 #[inline(always)]
 pub fn answer_line<A: Allocator + Clone>(
     prompts: Prompts,
     session: &mut Session<A>,
+    log: &LogNotes<A>,
     bookmarks: &mut Bookmarks<'_, A>,
     line: Line<A>,
     text: &mut Vec<u8, A>,
 ) -> Result<bool, AllocError>
-    ensures text { OnOk result (text.new.items ≡ answer (with_bookmarks session.old bookmarks.old) (view line) ++ prompt_text prompts session.new.current) }
-    ensures state { OnOk result (with_bookmarks session.new bookmarks.new ≡ after (with_bookmarks session.old bookmarks.old) (view line)) }
-    ensures refused { IfOk result (λ refused. refused ≡ is_refusal (answer (with_bookmarks session.old bookmarks.old) (view line))) }
+    ensures text { OnOk result (text.new.items ≡ answer (beside session.old bookmarks.old log.now) (view line) ++ prompt_text prompts session.new.current) }
+    ensures state { OnOk result (beside session.new bookmarks.new log.now ≡ after (beside session.old bookmarks.old log.now) (view line)) }
+    ensures refused { IfOk result (λ refused. refused ≡ is_refusal (answer (beside session.old bookmarks.old log.now) (view line))) }
 {
     text.clear();
-    put_answer(session, bookmarks, line, text)?;
+    put_answer(session, log, bookmarks, line, text)?;
     let refused = is_refusal(text.as_slice());
     put_prompt(prompts, session.current(), text)?;
     Ok(refused)
@@ -218,23 +222,24 @@ fn put_some<S: Duplex, A: Allocator>(
     }
 }
 
-/// Plays the lines, from the first on, and writes each answer to their source once its line is done. `text` holds one
-/// answer at a time. Where prompts are shown, one is written before each line is read, and the line of the last is
-/// ended.
+/// Plays the lines, from the first on, and writes each answer to their source once its line is done. A log tells of the
+/// session's nodes. `text` holds one answer at a time. Where prompts are shown, one is written before each line is read,
+/// and the line of the last is ended.
 pub fn run_lines<S: Duplex, A: Allocator + Clone>(
     prompts: Prompts,
     lines: &mut Lines<S, A>,
     session: &mut Session<A>,
+    log: &LogNotes<A>,
     bookmarks: &mut Bookmarks<'_, A>,
     text: &mut Vec<u8, A>,
 ) -> Result<Summary, RunFault>
     requires { IsFirst lines.old }
     ensures ok { IfOk result (λ sum. IsLeft lines.old.input.dialect prompts lines.old.input.bytes.source lines.new.input.bytes.source
         lines.old.input.bytes.source.beside.sink lines.new.input.bytes.source.beside.sink
-        (with_bookmarks session.old bookmarks.old) (with_bookmarks session.new bookmarks.new) sum) }
+        (beside session.old bookmarks.old log.now) (beside session.new bookmarks.new log.now) sum) }
     ensures err { IfErr result (λ e. IsStopped lines.old.input.dialect prompts lines.old.input.bytes.source lines.new.input.bytes.source
         lines.old.input.bytes.source.beside.sink lines.new.input.bytes.source.beside.sink
-        (with_bookmarks session.old bookmarks.old) e) }
+        (beside session.old bookmarks.old log.now) e) }
     ensures same { lines.new.input.bytes.source.identity ≡ lines.old.input.bytes.source.identity }
     ensures writer { lines.new.input.bytes.source.beside.writer ≡ lines.old.input.bytes.source.beside.writer }
 {
@@ -270,7 +275,7 @@ pub fn run_lines<S: Duplex, A: Allocator + Clone>(
             Some(line) => line,
         };
         let is_bad = is_bad(&line);
-        let is_refused = match answer_line(prompts, session, bookmarks, line, text) {
+        let is_refused = match answer_line(prompts, session, log, bookmarks, line, text) {
             Err(_) => return Err(RunFault::Memory { line: count + 1 }),
             Ok(refused) => refused,
         };
@@ -289,21 +294,22 @@ fn two_handles<A: Allocator + Clone>(alloc: &A) -> Result<(A, A), AllocError> {
 }
 
 /// Runs the script that the streams give, in a dialect, on a session, with no bookmark at first, and writes its
-/// answers to them, with a prompt before each line where these are shown. The answer of a line is written once all its
-/// steps are done. The session keeps all that was played.
+/// answers to them, with a prompt before each line where these are shown. What a log tells of the session's nodes is
+/// told with them. The answer of a line is written once all its steps are done. The session keeps all that was played.
 pub fn run_session<X: Duplex, A: Allocator + Clone>(
     alloc: &A,
     session: &mut Session<A>,
+    log: &LogNotes<A>,
     dialect: Dialect,
     prompts: Prompts,
     streams: &mut X,
 ) -> Result<Summary, RunFault>
     ensures ok { IfOk result (λ sum. (names : List (List ℕ × ℕ)) × IsLeft dialect prompts (X.told streams.old) (X.told streams.new)
         (X.told streams.old).beside.sink (X.told streams.new).beside.sink
-        (without_bookmarks session.old) (with_bookmarks session.new names) sum) }
+        (without_bookmarks session.old log.now) (beside session.new names log.now) sum) }
     ensures err { IfErr result (λ e. IsStopped dialect prompts (X.told streams.old) (X.told streams.new)
         (X.told streams.old).beside.sink (X.told streams.new).beside.sink
-        (without_bookmarks session.old) e) }
+        (without_bookmarks session.old log.now) e) }
     ensures writer { (X.told streams.new).beside.writer ≡ (X.told streams.old).beside.writer }
 {
     let Ok((handle, other)) = two_handles(alloc) else {
@@ -312,7 +318,7 @@ pub fn run_session<X: Duplex, A: Allocator + Clone>(
     let mut bookmarks = Bookmarks::new(alloc);
     let mut lines = Lines::of(handle, streams, dialect);
     let mut text = Vec::new(other);
-    let ended = run_lines(prompts, &mut lines, session, &mut bookmarks, &mut text);
+    let ended = run_lines(prompts, &mut lines, session, log, &mut bookmarks, &mut text);
     let _streams = lines.into_source();
     match ended {
         Err(e) => Err(e),
@@ -325,22 +331,41 @@ pub fn run_session<X: Duplex, A: Allocator + Clone>(
 pub fn run_at_last<X: Duplex, A: Allocator + Clone>(
     alloc: &A,
     session: Session<A>,
+    log: &LogNotes<A>,
     dialect: Dialect,
     prompts: Prompts,
     streams: &mut X,
 ) -> Result<Summary, RunFault>
     ensures ok { IfOk result (λ sum. IsDone dialect prompts (X.told streams.old) (X.told streams.new)
-        (X.told streams.old).beside.sink (X.told streams.new).beside.sink (without_bookmarks session) sum) }
+        (X.told streams.old).beside.sink (X.told streams.new).beside.sink (without_bookmarks session log.now) sum) }
     ensures err { IfErr result (λ e. IsStopped dialect prompts (X.told streams.old) (X.told streams.new)
-        (X.told streams.old).beside.sink (X.told streams.new).beside.sink (without_bookmarks session) e) }
+        (X.told streams.old).beside.sink (X.told streams.new).beside.sink (without_bookmarks session log.now) e) }
     ensures writer { (X.told streams.new).beside.writer ≡ (X.told streams.old).beside.writer }
 {
     let mut session = session;
-    let ended = run_session(alloc, &mut session, dialect, prompts, streams);
+    let ended = run_session(alloc, &mut session, log, dialect, prompts, streams);
     let _session = ManuallyDrop::new(session);
     match ended {
         Err(e) => Err(e),
         Ok(sum) => Ok(sum),
+    }
+}
+
+fn three_handles<A: Allocator + Clone>(alloc: &A) -> Result<(A, A, A), AllocError> {
+    Ok((alloc.clone()?, alloc.clone()?, alloc.clone()?))
+}
+
+// The notes of a session that no log leads to.
+fn no_log<A: Allocator + Clone>(alloc: &A) -> Result<LogNotes<A>, RunFault>
+    ensures ok { IfOk result (λ log. log ≡ no_notes) }
+    ensures err { IfErr result (λ e. e ≡ RunFault.Memory 0) }
+{
+    match three_handles(alloc) {
+        Ok((one, other, third)) => {
+            let lost = Lost::nothing(third);
+            Ok(LogNotes::new(Vec::new(one), Vec::new(other), lost))
+        }
+        Err(_) => Err(RunFault::Memory { line: 0 }),
     }
 }
 
@@ -358,10 +383,11 @@ pub fn run<X: Duplex, A: Allocator + Clone>(
     ensures err { IfErr result (λ e. IsStopped dialect Hidden (X.told streams.old) (X.told streams.new)
         (X.told streams.old).beside.sink (X.told streams.new).beside.sink (initial config.entry.now) e) }
 {
+    let log = no_log(alloc)?;
     let ended = match open_session(alloc, config) {
         None => return Err(RunFault::Memory { line: 0 }),
         Some(mut session) => {
-            let done = run_session(alloc, &mut session, dialect, Prompts::Hidden, streams);
+            let done = run_session(alloc, &mut session, &log, dialect, Prompts::Hidden, streams);
             drop(session);
             done
         }

@@ -2,6 +2,7 @@
 use crate::classes::SMALL_PAGES;
 use linked_list_allocator::LocalHeap;
 use rev_classes::fault_of;
+use rev_evidence::notes::LogNotes;
 use rev_output::ToWrite;
 use rev_plays::begin::open_session;
 use rev_plays::quiet::TraceFault;
@@ -76,9 +77,11 @@ fn answers<R: AllocGlobal + Abort>(
     script: &[u8],
 ) -> Vec<u8> {
     let mut written: Vec<u8> = Vec::new(rt.alloc());
+    let log = LogNotes::none(rt.alloc());
     let ended = run_session(
         &rt.alloc(),
         session,
+        &log,
         Dialect::CrLf,
         Prompts::Hidden,
         &mut Apart {

@@ -1,11 +1,16 @@
 -- What is answered to the question why a key is gone, and to that for its story.
--- Rule of this project: the texts of `:why` and `:story`.
-use Rattle.std.specs.Prelude.{ℕ, List, [], ◌∷◌, ◌++◌, codes, decimal}
+-- Rule of this project: the texts of `:why` and `:story`. Where a log tells of a node, it says why a key left there, and
+-- else the rules do.
+use Rattle.std.specs.Prelude.{ℕ, List, [], ◌∷◌, ◌++◌, Option, None, Some, codes, decimal}
+use Rattle.rev_evidence.specs.Notes.{PlainNotes, told_at, lost_at}
+use Rattle.rev_evidence.specs.Words.{reason_word, evidence_word}
+use Rattle.rev_evidence.specs.declared.notes.Told.{Told}
 use Rattle.rev_model.specs.declared.Cause.{Cause}
 use Rattle.rev_model.specs.declared.Cause.TheVariants.{Evicted, ReclaimedByPull, ReclaimedByCrawler, ReclaimedByHit, ReclaimedByMover, EvictedByMover, Deleted, DroppedByFailedSet}
 use Rattle.rev_model.specs.declared.ClassQueue.{ClassQueue}
 use Rattle.rev_model.specs.declared.EventKind.{EventKind}
 use Rattle.rev_model.specs.declared.EventKind.TheVariants as kind
+use Rattle.rev_watch.specs.declared.event.Timestamp.{Timestamp}
 use Rattle.rev_explain.specs.declared.events.Event.{Event}
 use Rattle.rev_explain.specs.declared.events.Why.{Why}
 use Rattle.rev_explain.specs.declared.events.Why.TheVariants as why
@@ -22,28 +27,50 @@ cause_word EvictedByMover = codes "evicted_by_mover"
 cause_word Deleted = codes "deleted"
 cause_word DroppedByFailedSet = codes "dropped_by_failed_set"
 
--- the answer to `:why`
-abbrev pub why_text : Why → List ℕ
-why_text why.Present = output (codes "PRESENT")
-why_text why.Never = output (codes "NEVER")
-why_text (why.Left n c) = output (codes "LEFT " ++ decimal n.0 ++ codes " " ++ cause_word c)
+-- what a log tells of a key that left: why, what tells it, and the second, by the Unix clock
+abbrev pub told_words : Told → List ℕ
+told_words t = reason_word t.verdict.reason ++ codes " " ++ evidence_word t.verdict.evidence ++ codes " " ++ decimal t.time.seconds
+
+-- the same, or the word of the cause where it tells nothing
+abbrev pub told_or_cause : Option Told → Cause → List ℕ
+told_or_cause (Some t) c = told_words t
+told_or_cause None c = cause_word c
+
+-- why a key left at node n, where the rules give this cause
+abbrev pub left_words : PlainNotes → ℕ → Cause → List ℕ
+left_words log n c = told_or_cause (told_at log n c) c
+
+-- that a key was lost when the server was started anew, by the Unix clock
+abbrev pub lost_text : Timestamp → List ℕ
+lost_text t = output (codes "LEFT 0 restarted logged " ++ decimal t.seconds)
+
+-- of a key that never was there since the root: that it was lost in front of the root, where the server was started anew
+abbrev pub never_text : Option Timestamp → List ℕ
+never_text None = output (codes "NEVER")
+never_text (Some t) = lost_text t
+
+-- the answer to `:why` for a key
+abbrev pub why_text : PlainNotes → List ℕ → Why → List ℕ
+why_text log k why.Present = output (codes "PRESENT")
+why_text log k why.Never = never_text (lost_at log k)
+why_text log k (why.Left n c) = output (codes "LEFT " ++ decimal n.0 ++ codes " " ++ left_words log n.0 c)
 
 -- a class and a queue
 abbrev pub place_words : ClassQueue → List ℕ
 place_words p = codes " " ++ decimal p.class ++ codes " " ++ queue_text p.queue
 
--- what a step did to the key
-abbrev pub event_words : EventKind → List ℕ
-event_words (kind.Stored p) = codes " stored" ++ place_words p
-event_words (kind.Replaced p) = codes " replaced" ++ place_words p
-event_words (kind.Moved from to) = codes " moved " ++ queue_text from ++ codes " " ++ queue_text to
-event_words (kind.Left c) = codes " left " ++ cause_word c
+-- what the step of node n did to the key
+abbrev pub event_words : PlainNotes → ℕ → EventKind → List ℕ
+event_words log n (kind.Stored p) = codes " stored" ++ place_words p
+event_words log n (kind.Replaced p) = codes " replaced" ++ place_words p
+event_words log n (kind.Moved from to) = codes " moved " ++ queue_text from ++ codes " " ++ queue_text to
+event_words log n (kind.Left c) = codes " left " ++ left_words log n c
 
 -- the line of an event
-abbrev pub event_text : Event → List ℕ
-event_text e = output (decimal e.node.0 ++ event_words e.kind)
+abbrev pub event_text : PlainNotes → Event → List ℕ
+event_text log e = output (decimal e.node.0 ++ event_words log e.node.0 e.kind)
 
 -- a line for each event, then END
-abbrev pub events_text : List Event → List ℕ
-events_text [] = output (codes "END")
-events_text (e ∷ es) = event_text e ++ events_text es
+abbrev pub events_text : PlainNotes → List Event → List ℕ
+events_text log [] = output (codes "END")
+events_text log (e ∷ es) = event_text log e ++ events_text log es

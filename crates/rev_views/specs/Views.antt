@@ -13,18 +13,19 @@ use Rattle.rev_explain.specs.Clocks.{clock_at}
 use Rattle.rev_texts.specs.Texts.{output, queue_text}
 use Rattle.rev_texts.specs.Words.{step_word, outcome_word}
 use Rattle.rev_views.specs.Trees.{go_text, gone}
-use Rattle.rev_views.specs.Reasons.{cause_word}
+use Rattle.rev_evidence.specs.Notes.{PlainNotes}
+use Rattle.rev_views.specs.Reasons.{left_words}
 
 -- ---- keys that left
 
--- a key that left: the node, the key and the cause
-abbrev pub departure_text : PlainDeparture → List ℕ
-departure_text d = output (decimal d.node ++ codes " " ++ d.key ++ codes " " ++ cause_word d.cause)
+-- a key that left: the node, the key, and why
+abbrev pub departure_text : PlainNotes → PlainDeparture → List ℕ
+departure_text log d = output (decimal d.node ++ codes " " ++ d.key ++ codes " " ++ left_words log d.node d.cause)
 
 -- a line for each, then END
-abbrev pub departures_text : List PlainDeparture → List ℕ
-departures_text [] = output (codes "END")
-departures_text (d ∷ ds) = departure_text d ++ departures_text ds
+abbrev pub departures_text : PlainNotes → List PlainDeparture → List ℕ
+departures_text log [] = output (codes "END")
+departures_text log (d ∷ ds) = departure_text log d ++ departures_text log ds
 
 -- ---- a node
 

@@ -1,18 +1,21 @@
 //! Why a key was gone, and its story.
 ghost use Rattle.std.specs.Prelude.{◌≡◌, ◌++◌, OnOk};
 ghost use Rattle.rev_explain.specs.Story.{why_of, story as story_of};
-ghost use Rattle.rev_views.specs.Reasons.{cause_word, place_words, event_words, event_text, events_text, why_text};
+ghost use Rattle.rev_evidence.specs.Notes.{lost_at};
+ghost use Rattle.rev_views.specs.Reasons.{cause_word, told_words, left_words, place_words, event_words, event_text, events_text, lost_text, never_text, why_text};
 
+use rev_evidence::notes::{LogNotes, Told};
 use rev_explain::events::{Event, EventKind, Why};
 use rev_explain::{story, why};
 use rev_items::Key;
 use rev_model::{Cause, ClassQueue};
 use rev_texts::text::{put_field, put_number, put_output, queue_text};
-use rev_undotree::Session;
+use rev_undotree::{NodeId, Session};
+use rev_watch::event::Timestamp;
 use std::alloc::{AllocError, Allocator};
 
-/// The word of a cause (this project's own).
-pub(crate) fn cause_word(cause: Cause) -> &'static [u8]
+// The word of a cause (this project's own).
+fn cause_word(cause: Cause) -> &'static [u8]
     ensures { result.now ≡ cause_word cause }
 {
     match cause {
@@ -27,21 +30,71 @@ pub(crate) fn cause_word(cause: Cause) -> &'static [u8]
     }
 }
 
-/// Writes why the key is not held at the current node.
+// Writes what a log tells of a key that left: why, what tells it, and the second.
+fn put_told<A: Allocator>(out: &mut Vec<u8, A>, told: Told) -> Result<(), AllocError>
+    ensures { OnOk result (out.new.items ≡ out.old.items ++ told_words told) }
+{
+    out.extend_from_slice(told.verdict.reason.word().as_bytes())?;
+    out.extend_from_slice(b" ")?;
+    out.extend_from_slice(told.verdict.evidence.word().as_bytes())?;
+    put_field(out, b" ", told.time.seconds as u64)
+}
+
+/// Writes why a key left at a node, where the rules give this cause: what the log tells of it, or the word of the
+/// cause.
+pub(crate) fn put_left<A: Allocator + Clone>(
+    out: &mut Vec<u8, A>,
+    log: &LogNotes<A>,
+    node: NodeId,
+    cause: Cause,
+) -> Result<(), AllocError>
+    ensures { OnOk result (out.new.items ≡ out.old.items ++ left_words log.now node.0 cause) }
+{
+    match log.told_at(node, cause) {
+        Some(told) => put_told(out, told),
+        None => out.extend_from_slice(cause_word(cause)),
+    }
+}
+
+// Writes that a key was lost at this time, when the server was started anew.
+fn put_lost<A: Allocator>(out: &mut Vec<u8, A>, time: Timestamp) -> Result<(), AllocError>
+    ensures { OnOk result (out.new.items ≡ out.old.items ++ lost_text time) }
+{
+    put_field(out, b"LEFT 0 restarted logged ", time.seconds as u64)?;
+    out.extend_from_slice(b"\r\n")
+}
+
+// Writes why a key that never was there since the root is gone, where the log tells that it was lost before.
+fn put_never<A: Allocator + Clone>(
+    out: &mut Vec<u8, A>,
+    log: &LogNotes<A>,
+    key: &Key<A>,
+) -> Result<(), AllocError>
+    ensures { OnOk result (out.new.items ≡ out.old.items ++ never_text (lost_at log.now key.now)) }
+{
+    match log.lost_at(key) {
+        Some(time) => put_lost(out, time),
+        None => put_output(out, b"NEVER"),
+    }
+}
+
+/// Writes why the key is not held at the current node, with what the log tells of it.
 pub fn put_why<A: Allocator + Clone>(
     session: &Session<A>,
+    log: &LogNotes<A>,
     key: &Key<A>,
     out: &mut Vec<u8, A>,
 ) -> Result<(), AllocError>
-    ensures { OnOk result (out.new.items ≡ out.old.items ++ why_text (why_of session.now.root session.now.rows session.now.current key.now)) }
+    ensures { OnOk result (out.new.items ≡ out.old.items ++ why_text log.now key.now (why_of session.now.root session.now.rows session.now.current key.now)) }
 {
     match why(session, key) {
         Why::Present => put_output(out, b"PRESENT"),
-        Why::Never => put_output(out, b"NEVER"),
+        Why::Never => put_never(out, log, key),
         Why::Left { node, cause } => {
             put_field(out, b"LEFT ", node.0 as u64)?;
             out.extend_from_slice(b" ")?;
-            put_output(out, cause_word(cause))
+            put_left(out, log, node, cause)?;
+            out.extend_from_slice(b"\r\n")
         }
     }
 }
@@ -55,11 +108,15 @@ fn put_place<A: Allocator>(out: &mut Vec<u8, A>, place: ClassQueue) -> Result<()
     out.extend_from_slice(queue_text(place.queue))
 }
 
-// Writes what a step did to the key.
-fn put_kind<A: Allocator>(out: &mut Vec<u8, A>, kind: EventKind) -> Result<(), AllocError>
-    ensures { OnOk result (out.new.items ≡ out.old.items ++ event_words kind) }
+// Writes what the step of a node did to the key.
+fn put_kind<A: Allocator + Clone>(
+    out: &mut Vec<u8, A>,
+    log: &LogNotes<A>,
+    event: Event,
+) -> Result<(), AllocError>
+    ensures { OnOk result (out.new.items ≡ out.old.items ++ event_words log.now event.node.0 event.kind) }
 {
-    match kind {
+    match event.kind {
         EventKind::Stored(place) => {
             out.extend_from_slice(b" stored")?;
             put_place(out, place)
@@ -76,30 +133,36 @@ fn put_kind<A: Allocator>(out: &mut Vec<u8, A>, kind: EventKind) -> Result<(), A
         }
         EventKind::Left(cause) => {
             out.extend_from_slice(b" left ")?;
-            out.extend_from_slice(cause_word(cause))
+            put_left(out, log, event.node, cause)
         }
     }
 }
 
 // Writes the line of an event.
-fn put_event<A: Allocator>(out: &mut Vec<u8, A>, event: Event) -> Result<(), AllocError>
-    ensures { OnOk result (out.new.items ≡ out.old.items ++ event_text event) }
+fn put_event<A: Allocator + Clone>(
+    out: &mut Vec<u8, A>,
+    log: &LogNotes<A>,
+    event: Event,
+) -> Result<(), AllocError>
+    ensures { OnOk result (out.new.items ≡ out.old.items ++ event_text log.now event) }
 {
     put_number(out, event.node.0 as u64)?;
-    put_kind(out, event.kind)?;
+    put_kind(out, log, event)?;
     out.extend_from_slice(b"\r\n")
 }
 
-/// Writes a line for each event of the key on the way from the root to the current node, and `END`.
+/// Writes a line for each event of the key on the way from the root to the current node, with what the log tells of
+/// it, and `END`.
 pub fn put_story<A: Allocator + Clone>(
     session: &Session<A>,
+    log: &LogNotes<A>,
     key: &Key<A>,
     out: &mut Vec<u8, A>,
 ) -> Result<(), AllocError>
-    ensures { OnOk result (out.new.items ≡ out.old.items ++ events_text (story_of session.now.root session.now.rows session.now.current key.now)) }
+    ensures { OnOk result (out.new.items ≡ out.old.items ++ events_text log.now (story_of session.now.root session.now.rows session.now.current key.now)) }
 {
     for event in story(session, key)? {
-        put_event(out, event)?;
+        put_event(out, log, event)?;
     }
     put_output(out, b"END")
 }

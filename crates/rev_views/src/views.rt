@@ -6,8 +6,9 @@ ghost use Rattle.rev_explain.specs.Departures.{departures as departures_of, last
 ghost use Rattle.rev_explain.specs.Clocks.{node_by};
 ghost use Rattle.rev_views.specs.Views.{departure_text, departures_text, client_subject, queue_name, step_subject, played_text, numbers_text, root_text, step_text, time_text, after_time};
 
-use crate::reasons::cause_word;
+use crate::reasons::put_left;
 use crate::tree::put_go;
+use rev_evidence::notes::LogNotes;
 use rev_explain::events::Departure;
 use rev_explain::{clock_at, departures, node_by_time};
 use rev_model::{Outcome, Queue};
@@ -18,30 +19,33 @@ use rev_undotree::{NodeId, Session};
 use std::alloc::{AllocError, Allocator};
 
 // Writes the line of a key that left.
-fn put_departure<A: Allocator, B: Allocator>(
-    departure: &Departure<'_, B>,
+fn put_departure<A: Allocator + Clone>(
+    log: &LogNotes<A>,
+    departure: &Departure<'_, A>,
     out: &mut Vec<u8, A>,
 ) -> Result<(), AllocError>
-    ensures { OnOk result (out.new.items ≡ out.old.items ++ departure_text departure.now) }
+    ensures { OnOk result (out.new.items ≡ out.old.items ++ departure_text log.now departure.now) }
 {
     put_number(out, departure.node.0 as u64)?;
     out.extend_from_slice(b" ")?;
     out.extend_from_slice(departure.key.bytes())?;
     out.extend_from_slice(b" ")?;
-    put_output(out, cause_word(departure.cause))
+    put_left(out, log, departure.node, departure.cause)?;
+    out.extend_from_slice(b"\r\n")
 }
 
-/// Writes a line for each key that left on the way from the root to the current node, the last `limit` of them or all,
-/// and `END`.
+/// Writes a line for each key that left on the way from the root to the current node, with what the log tells of it,
+/// the last `limit` of them or all, and `END`.
 pub fn put_gone<A: Allocator + Clone>(
     session: &Session<A>,
+    log: &LogNotes<A>,
     limit: Option<u32>,
     out: &mut Vec<u8, A>,
 ) -> Result<(), AllocError>
-    ensures { OnOk result (out.new.items ≡ out.old.items ++ departures_text (last_of limit (departures_of session.now.root session.now.rows session.now.current))) }
+    ensures { OnOk result (out.new.items ≡ out.old.items ++ departures_text log.now (last_of limit (departures_of session.now.root session.now.rows session.now.current))) }
 {
     for departure in departures(session, limit)? {
-        put_departure(&departure, out)?;
+        put_departure(log, &departure, out)?;
     }
     put_output(out, b"END")
 }

@@ -1,7 +1,7 @@
 use Rattle.std.proofs.Common.{◌≡◌, drop}
 use Rattle.rev_lives.specs.Follow.{follow_all}
 use Rattle.rev_lives.specs.Told.{facts}
-use Rattle.rev_lives.specs.Lives.{plain_key}
+use Rattle.rev_life.specs.Lives.{plain_key}
 use Rattle.rev_lives.proofs.follow.follow_events.Given as goal
 
 -- what is left to follow leads to where all leads

@@ -1,5 +1,6 @@
 use Rattle.std.proofs.Common.{◌≡◌, ◌++◌, drop, map, None, All}
-use Rattle.rev_lives.specs.Leaving.{plain_leaving, with_class, departed, HasClass}
+use Rattle.rev_life.specs.Leaving.{plain_leaving}
+use Rattle.rev_lives.specs.Leaving.{with_class, departed, HasClass}
 use Rattle.rev_lives.proofs.leaving.all_told.Given as goal
 
 -- what is told, with what is left to tell, is all, and the classes are right

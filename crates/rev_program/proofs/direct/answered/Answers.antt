@@ -13,5 +13,5 @@ returns-in-Ok-clause-ends g c = record {
   failures = g.E.Sink.failures c.tell_bytes.new.errors;
   noted = c.tell_bytes.ensures;
   quiet = c.ended-in-Ok.ensures.quiet;
-  early = λ n. inl (stopped_of _ _ _ _ c.answer.result _ c.ended-in-Ok.ensures.status c.ended-in-Ok.ensures.told n);
+  early = λ n. inl (stopped_of _ _ _ _ c.answer_opened.result _ c.ended-in-Ok.ensures.status c.ended-in-Ok.ensures.told n);
 }

@@ -2,7 +2,7 @@ use Rattle.std.proofs.Common.{◌∙◌, true}
 use Rattle.std.proofs.lemmas.Result.{IfOk-weaker, IfErr-weaker}
 use Rattle.rev_script.specs.Exchange.{told_in}
 use Rattle.rev_shell.specs.Run.{without_bookmarks}
-use Rattle.rev_shell.specs.Answers.{with_bookmarks}
+use Rattle.rev_shell.specs.Answers.{beside}
 use Rattle.rev_shell.specs.declared.run.Prompts.TheVariants.{Hidden}
 use Rattle.rev_program.proofs.Running.{told, run_behind, stopped_behind}
 use Rattle.rev_program.proofs.json.run_as_json_on.Goals as goal
@@ -11,17 +11,17 @@ pub returns-clause-ok : goal.returns-clause-ok
 returns-clause-ok g c =
     let old = c.args.exchange.now in
     let mid = c.run_as_json-done.new.streams in
-    let x = told c.args.dialect Hidden (told_in old) (told_in mid) (told_in old).beside.sink (told_in mid).beside.sink (without_bookmarks c.args.session) (λ names. with_bookmarks c.run_as_json-done.new.session names) c.run_as_json-done.result c.run_as_json-done.ensures.ok c.run_as_json-done.ensures.err in
+    let x = told c.args.dialect Hidden (told_in old) (told_in mid) (told_in old).beside.sink (told_in mid).beside.sink (without_bookmarks c.args.session c.args.log.now) (λ names. beside c.run_as_json-done.new.session names c.args.log.now) c.run_as_json-done.result c.run_as_json-done.ensures.ok c.run_as_json-done.ensures.err in
     IfOk-weaker c.sent_behind.result _ _
-    (λ sum h. run_behind true c.args.dialect Hidden old mid c.sent_behind.new.exchange (without_bookmarks c.args.session) c.run_as_json-done.result sum c.sent_behind.ensures.kept x h.0 h.1) c.sent_behind.ensures.ok
+    (λ sum h. run_behind true c.args.dialect Hidden old mid c.sent_behind.new.exchange (without_bookmarks c.args.session c.args.log.now) c.run_as_json-done.result sum c.sent_behind.ensures.kept x h.0 h.1) c.sent_behind.ensures.ok
 
 pub returns-clause-err : goal.returns-clause-err
 returns-clause-err g c =
     let old = c.args.exchange.now in
     let mid = c.run_as_json-done.new.streams in
-    let x = told c.args.dialect Hidden (told_in old) (told_in mid) (told_in old).beside.sink (told_in mid).beside.sink (without_bookmarks c.args.session) (λ names. with_bookmarks c.run_as_json-done.new.session names) c.run_as_json-done.result c.run_as_json-done.ensures.ok c.run_as_json-done.ensures.err in
+    let x = told c.args.dialect Hidden (told_in old) (told_in mid) (told_in old).beside.sink (told_in mid).beside.sink (without_bookmarks c.args.session c.args.log.now) (λ names. beside c.run_as_json-done.new.session names c.args.log.now) c.run_as_json-done.result c.run_as_json-done.ensures.ok c.run_as_json-done.ensures.err in
     IfErr-weaker c.sent_behind.result _ _
-    (λ stop h. stopped_behind true c.args.dialect Hidden old mid c.sent_behind.new.exchange (without_bookmarks c.args.session) c.run_as_json-done.result stop c.sent_behind.ensures.kept x h) c.sent_behind.ensures.err
+    (λ stop h. stopped_behind true c.args.dialect Hidden old mid c.sent_behind.new.exchange (without_bookmarks c.args.session c.args.log.now) c.run_as_json-done.result stop c.sent_behind.ensures.kept x h) c.sent_behind.ensures.err
 
 pub returns-clause-same : goal.returns-clause-same
 returns-clause-same g c = c.sent_behind.ensures.same ∙ c.run_as_json-done.ensures.writer

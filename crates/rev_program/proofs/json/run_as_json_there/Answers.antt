@@ -7,8 +7,8 @@ returns-in-Err-clause-err g c = inl (refl, c.in-Err.ensures.err)
 
 pub returns-in-Ok-clause-ok : goal.returns-in-Ok-clause-ok
 returns-in-Ok-clause-ok g c =
-    IfOk-weaker c.run_as_json_on.result _ _ (λ sum h. record { m = c.in-Ok.session; starts_are = c.in-Ok.ensures.ok; run = h }) c.run_as_json_on.ensures.ok
+    IfOk-weaker c.run_as_json_on.result _ _ (λ sum h. record { m = c.in-Ok.session; starts_are = c.in-Ok.ensures.ok; run = rw c.none-log.ensures at h }) c.run_as_json_on.ensures.ok
 
 pub returns-in-Ok-clause-err : goal.returns-in-Ok-clause-err
 returns-in-Ok-clause-err g c =
-    IfErr-weaker c.run_as_json_on.result _ _ (λ stop h. inr (record { m = c.in-Ok.session; starts_are = c.in-Ok.ensures.ok; stopped = h })) c.run_as_json_on.ensures.err
+    IfErr-weaker c.run_as_json_on.result _ _ (λ stop h. inr (record { m = c.in-Ok.session; starts_are = c.in-Ok.ensures.ok; stopped = rw c.none-log.ensures at h })) c.run_as_json_on.ensures.err

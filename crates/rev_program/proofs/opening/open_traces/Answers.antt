@@ -17,5 +17,5 @@ returns-in-Ok-clause-ends g c = record {
   failures = g.E.Sink.failures c.note.new.errors;
   noted = c.note.ensures;
   quiet = c.ended-in-Ok.ensures.quiet;
-  early = λ n. inl (stopped_of _ _ _ _ c.answer.result _ c.ended-in-Ok.ensures.status c.ended-in-Ok.ensures.told n);
+  early = λ n. inl (stopped_of _ _ _ _ c.answer-answered.result _ c.ended-in-Ok.ensures.status c.ended-in-Ok.ensures.told n);
 }

@@ -1,5 +1,5 @@
 use Rattle.std.proofs.Common.{inl, rules, Err, sym, ◌∙◌}
-use Rattle.rev_program.proofs.Ends.{asked_stopped, stopped_of, plainly, plain_of, unnoted, noted_of, noted_plainly, behind_of, early_of}
+use Rattle.rev_program.proofs.Ends.{asked_stopped, no_place, stopped_of, plainly, plain_of, unnoted, noted_of, noted_plainly, behind_of, early_of}
 use Rattle.rev_program.proofs.Tallies.{run_stopped, some_status}
 use Rattle.rev_program.proofs.Running.{keep, ends_refused}
 use Rattle.rev_program.proofs.program.program_with.Goals as goal
@@ -33,26 +33,49 @@ returns-in-Ok-Record-clause-behind g c =
 
 pub returns-in-Err-clause-noted : goal.returns-in-Err-clause-noted
 returns-in-Err-clause-noted g c =
-    λ i r l. unnoted _ _ _ _ _ c.ended.ensures.quiet (λ n. inl (stopped_of _ _ _ _ (Err c.from.result) _ c.ended.ensures.status c.ended.ensures.told n))
+    λ i r l s. unnoted _ _ _ _ _ c.ended.ensures.quiet (λ n. inl (stopped_of _ _ _ _ (Err c.from.result) _ c.ended.ensures.status c.ended.ensures.told n))
 
 pub returns-in-Ok-Record-clause-noted : goal.returns-in-Ok-Record-clause-noted
 returns-in-Ok-Record-clause-noted g c =
-    λ i r l. unnoted _ _ _ _ _ c.record_files.ensures.quiet (λ n. early_of _ _ _ _ _ _ _ (c.record_files.ensures.early n))
+    λ i r l s. unnoted _ _ _ _ _ c.record_files.ensures.quiet (λ n. early_of _ _ _ _ _ _ _ (c.record_files.ensures.early n))
 
 pub returns-in-Ok-Open-clause-noted : goal.returns-in-Ok-Open-clause-noted
-returns-in-Ok-Open-clause-noted g c = λ i r l. noted_of _ _ _ _ _ c.open_traces.ensures.ends
+returns-in-Ok-Open-clause-noted g c = λ i r l s. noted_of _ _ _ _ _ c.open_traces.ensures.ends
 
 pub returns-in-Ok-OpenWatch-clause-noted : goal.returns-in-Ok-OpenWatch-clause-noted
-returns-in-Ok-OpenWatch-clause-noted g c = λ i r l. c.open_watch.ensures.ends
+returns-in-Ok-OpenWatch-clause-noted g c = λ i r l s. absurd (no_place _ _ (rw c.in-Ok-OpenWatch.field-0-is at c.in-Ok-OpenWatch.ensures.opens) (rw c.in-Ok-OpenWatch.field-0-is at c.in-Ok-OpenWatch.ensures.brings) s)
+
+pub returns-in-Ok-OpenWatch-clause-status : goal.returns-in-Ok-OpenWatch-clause-status
+returns-in-Ok-OpenWatch-clause-status g c = λ w s. absurd (no_place _ _ (rw c.in-Ok-OpenWatch.field-0-is at c.in-Ok-OpenWatch.ensures.opens) (rw c.in-Ok-OpenWatch.field-0-is at c.in-Ok-OpenWatch.ensures.brings) s)
+
+pub returns-in-Err-clause-placed : goal.returns-in-Err-clause-placed
+returns-in-Err-clause-placed g c =
+    λ i r l. inl (c.ended.ensures.range, unnoted _ _ _ _ _ c.ended.ensures.quiet (λ n. inl (stopped_of _ _ _ _ (Err c.from.result) _ c.ended.ensures.status c.ended.ensures.told n)))
+
+pub returns-in-Ok-Record-clause-placed : goal.returns-in-Ok-Record-clause-placed
+returns-in-Ok-Record-clause-placed g c =
+    λ i r l. inl (c.record_files.ensures.status, unnoted _ _ _ _ _ c.record_files.ensures.quiet (λ n. early_of _ _ _ _ _ _ _ (c.record_files.ensures.early n)))
+
+pub returns-in-Ok-Open-clause-placed : goal.returns-in-Ok-Open-clause-placed
+returns-in-Ok-Open-clause-placed g c = λ i r l. inl (c.open_traces.ensures.status, noted_of _ _ _ _ _ c.open_traces.ensures.ends)
+
+pub returns-in-Ok-OpenWatch-clause-placed : goal.returns-in-Ok-OpenWatch-clause-placed
+returns-in-Ok-OpenWatch-clause-placed g c = λ i r l. c.open_watch.ensures
+
+pub returns-in-Ok-OpenCsv-clause-placed : goal.returns-in-Ok-OpenCsv-clause-placed
+returns-in-Ok-OpenCsv-clause-placed g c = λ i r l. inl (c.open_csv.ensures.status, c.open_csv.ensures.ends)
+
+pub returns-in-Ok-Report-clause-placed : goal.returns-in-Ok-Report-clause-placed
+returns-in-Ok-Report-clause-placed g c = λ i r l. inl (c.report.ensures.ends.status_is, noted_plainly _ _ _ _ _ c.report.ensures.ends)
 
 pub returns-in-Ok-OpenCsv-clause-noted : goal.returns-in-Ok-OpenCsv-clause-noted
-returns-in-Ok-OpenCsv-clause-noted g c = λ i r l. c.open_csv.ensures.ends
+returns-in-Ok-OpenCsv-clause-noted g c = λ i r l s. c.open_csv.ensures.ends
 
 pub returns-in-Err-clause-report : goal.returns-in-Err-clause-report
 returns-in-Err-clause-report g c = λ asks. plain_of _ _ _ _ (Err c.from.result) _ c.ended.ensures.range c.ended.ensures.status c.ended.ensures.quiet c.ended.ensures.told
 
 pub returns-in-Ok-Report-clause-status : goal.returns-in-Ok-Report-clause-status
-returns-in-Ok-Report-clause-status g c = λ w. c.report.ensures.ends.status_is
+returns-in-Ok-Report-clause-status g c = λ w s. c.report.ensures.ends.status_is
 
 pub returns-in-Ok-Report-clause-early : goal.returns-in-Ok-Report-clause-early
 returns-in-Ok-Report-clause-early g c = λ some other lives. inl (c.report.ensures.ends.stopped some)
@@ -61,7 +84,7 @@ pub returns-in-Ok-Report-clause-quiet : goal.returns-in-Ok-Report-clause-quiet
 returns-in-Ok-Report-clause-quiet g c = λ none i o r l. c.report.ensures.ends.quiet none
 
 pub returns-in-Ok-Report-clause-noted : goal.returns-in-Ok-Report-clause-noted
-returns-in-Ok-Report-clause-noted g c = λ i r l. noted_plainly _ _ _ _ _ c.report.ensures.ends
+returns-in-Ok-Report-clause-noted g c = λ i r l s. noted_plainly _ _ _ _ _ c.report.ensures.ends
 
 pub returns-in-Ok-Report-clause-behind : goal.returns-in-Ok-Report-clause-behind
 returns-in-Ok-Report-clause-behind g c = λ i r l b. behind_of _ _ _ _ _ c.report.ensures.ends
@@ -79,4 +102,4 @@ pub returns-in-Ok-Gone-clause-lives : goal.returns-in-Ok-Gone-clause-lives
 returns-in-Ok-Gone-clause-lives g c = λ asks. c.gone.ensures.ends
 
 pub returns-in-Ok-Gone-clause-status : goal.returns-in-Ok-Gone-clause-status
-returns-in-Ok-Gone-clause-status g c = λ w. c.gone.ensures.status
+returns-in-Ok-Gone-clause-status g c = λ w s. c.gone.ensures.status

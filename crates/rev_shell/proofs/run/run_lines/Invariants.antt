@@ -1,5 +1,5 @@
 use Rattle.std.proofs.Common.{◌≡◌, ◌≤◌, ◌-◌, None}
-use Rattle.rev_shell.specs.Answers.{with_bookmarks}
+use Rattle.rev_shell.specs.Answers.{beside}
 use Rattle.rev_shell.proofs.Runs.{IsSoFar}
 use Rattle.rev_shell.proofs.run.run_lines.Given as goal
 
@@ -7,7 +7,7 @@ abbrev pub invariant-lines : goal.invariant-lines
 invariant-lines g l = (l.lines.fault ≡ None) × (l.count ≤ l.lines.input.bytes.given) × (l.lines.input.bytes.given ≤ 4294967296)
     × IsSoFar l.fn.lines.input.dialect l.fn.prompts l.fn.lines.input l.lines.input
     l.fn.lines.input.bytes.source.beside.sink l.lines.input.bytes.source.beside.sink
-    (with_bookmarks l.fn.session l.fn.bookmarks) (with_bookmarks l.session l.bookmarks) l.count l.bad l.refused
+    (beside l.fn.session l.fn.bookmarks l.fn.log) (beside l.session l.bookmarks l.log) l.count l.bad l.refused
     × (l.lines.input.bytes.source.beside.writer ≡ l.fn.lines.input.bytes.source.beside.writer)
 
 abbrev pub decreases-lines : goal.decreases-lines

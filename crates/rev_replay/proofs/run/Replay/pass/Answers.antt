@@ -1,6 +1,8 @@
-use Rattle.std.proofs.Common.{false}
+use Rattle.std.proofs.Common.{false, length, ap, sym, ◌∙◌}
 use Rattle.rev_replay.proofs.Going.{goes_passed}
 use Rattle.rev_replay.proofs.run.Replay.pass.Goals as goal
 
-pub returns-in-Nothing : goal.returns-in-Nothing
-returns-in-Nothing g c = rw (c.in-Nothing.is, c.restart.ensures) (goes_passed false _ _)
+pub returns-then-passes : goal.returns-then-passes
+returns-then-passes g c =
+    rw (c.played-self.ensures, c.restart.ensures)
+    (goes_passed false _ _ _ c.issued-nodes.result (c.issued-nodes.ensures ∙ ap (λ m. length m.rows) c.session.ensures) (sym c.passes.ensures ∙ c.if-passes.true))

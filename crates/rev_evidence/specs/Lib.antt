@@ -1,0 +1,5 @@
+pub mod Verdicts
+pub mod Words
+pub mod Heard
+pub mod Blame
+pub mod Notes

@@ -1,4 +1,0 @@
-use Rattle.rev_lives.proofs.lines.put_end.Goals as goal
-
-pub returns-clause-tokens : goal.returns-clause-tokens
-returns-clause-tokens g c = rw (← c.word.ensures, ← c.word-2.ensures) c.put_parts.ensures.tokens

@@ -1,7 +1,0 @@
-use Rattle.std.proofs.Common.{◌≡◌, ◌++◌, drop}
-use Rattle.rev_lives.specs.Parts.{parts_tokens}
-use Rattle.rev_lives.proofs.parts.put_parts.Given as goal
-
--- what was put, and what is left to put, are all
-abbrev pub invariant-loop-part : goal.invariant-loop-part
-invariant-loop-part g l = (l.out.tokens ++ parts_tokens (drop l.part-index l.parts) ≡ l.initial.out.tokens ++ parts_tokens l.parts) × (l.out.before ≡ l.initial.out.before)

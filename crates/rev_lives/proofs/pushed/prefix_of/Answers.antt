@@ -1,6 +1,0 @@
-use Rattle.std.proofs.Common.{ap, ◌∙◌}
-use Rattle.rev_lives.specs.Pushed.{cut_behind}
-use Rattle.rev_lives.proofs.pushed.prefix_of.Goals as goal
-
-pub returns : goal.returns
-returns c = c.cut_behind.ensures ∙ ap (cut_behind c.args.key.now) c.colon_in.ensures.place
