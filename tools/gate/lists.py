@@ -250,10 +250,11 @@ def list_of_crates():
 
 
 def sums():
-    crates = crates_in_order()
+    crates, it = crates_in_order(), numbers()
+    edits = "%d edits of %d crates, " % it["edits"] if it["edits"][0] else ""
     return (
-        f"There are {len(crates)} crates, {numbers()['definitions']} lines in {numbers()['files']} files of `specs/`,\n"
-        f"{'%d edits of %d crates' % numbers()['edits']}, and {'%d mistakes of %d crates' % numbers()['mistakes']}."
+        f"There are {len(crates)} crates, {it['definitions']} lines in {it['files']} files of `specs/`,\n"
+        f"{edits}and {'%d mistakes of %d crates' % it['mistakes']}."
     )
 
 

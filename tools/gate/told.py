@@ -29,6 +29,7 @@ PRUNED {node}
 MARK {name} {node}
 LEFT {node} {cause}
 LEFT {node} {cause} {evidence} {ts}
+NEVER since {since}
 ERROR {message}
 CLIENT_ERROR {message}
 SERVER_ERROR {message}

@@ -2,4 +2,6 @@ pub mod Verdicts
 pub mod Words
 pub mod Heard
 pub mod Blame
+pub mod Departed
+pub mod Parts
 pub mod Notes

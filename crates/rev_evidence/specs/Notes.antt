@@ -2,37 +2,32 @@
 -- front of the root.
 -- Rule of this project: the role of a node's step decides, and what the log says at the node. What was restored since the
 -- log shows it pushes a key out by the rules alone, so there the rules' cause does. Where the log says nothing of a node,
--- nothing is told. A key that the server held when it was started anew is gone with all that it held.
-use Rattle.std.specs.Prelude.{ℕ, zero, suc, ◌==◌, Bool, if◌then◌else◌, List, [], length, Option, Some, None, slice_get, unwrap_or}
-use Rattle.std.specs.List.{list_any}
+-- nothing is told.
+use Rattle.std.specs.Prelude.{ℕ, zero, suc, ◌==◌, Bool, not, ◌&&◌, is_some, List, [], length, Option, Some, None, slice_get, unwrap_or}
 use Rattle.rev_lead.specs.declared.role.Role.{Role}
-use Rattle.rev_model.specs.Track.{same_key}
 use Rattle.rev_model.specs.declared.Cause.{Cause}
 use Rattle.rev_watch.specs.declared.event.Timestamp.{Timestamp}
 use Rattle.rev_evidence.specs.Verdicts.{by_cause, verdict_of}
 use Rattle.rev_evidence.specs.declared.notes.Moment.{Moment}
-use Rattle.rev_evidence.specs.declared.notes.Told.{Told}
+use Rattle.rev_evidence.specs.Departed.{PlainDeparted, told_of}
+use Rattle.rev_evidence.specs.declared.departed.Told.{Told}
 use Rattle.rev_evidence.specs.declared.verdict.Verdict.{Verdict}
 
--- the role and the moment of each node, those of node 1 first; and the keys that the server held when it was started
--- anew in front of the root, and when that was
+-- the role and the moment of each node, those of node 1 first; and where the log goes back behind the root, the keys that
+-- left in front of that, and when it was
 pub record PlainNotes : Type 0 where
   pub roles : List Role
   pub moments : List Moment
-  pub lost : List (List ℕ)
-  pub anew : Timestamp
+  pub departed : Option PlainDeparted
+  pub since : Option Timestamp
 
--- a moment at which nothing was started
-abbrev pub never : Timestamp
-never = record { seconds = 0; microseconds = 0 }
-
--- no node has a note, and no key was lost
+-- no node has a note, and no key left in front of the root
 abbrev pub no_notes : PlainNotes
-no_notes = record { roles = []; moments = []; lost = []; anew = never }
+no_notes = record { roles = []; moments = []; departed = None; since = None }
 
--- the log says nothing of any node
+-- the log says nothing of any node, and does not go back behind the root
 abbrev pub is_none : PlainNotes → Bool
-is_none notes = length notes.moments == 0
+is_none notes = (length notes.moments == 0) && not (is_some notes.since)
 
 -- what a list holds for node n
 abbrev pub of_node : {X : Type 0} → List X → ℕ → Option X
@@ -61,14 +56,11 @@ told_by (Some r) c m = told_in r c m
 abbrev pub told_at : PlainNotes → ℕ → Cause → Option Told
 told_at notes n c = told_by (of_node notes.roles n) c (moment_at notes n)
 
--- a key is among these
-abbrev pub has_key : List (List ℕ) → List ℕ → Bool
-has_key keys k = list_any (λ held. same_key held k) keys
+-- what is told of the last leaving of a key, where some left
+abbrev pub told_by_those : Option PlainDeparted → List ℕ → Option Told
+told_by_those None k = None
+told_by_those (Some departed) k = told_of departed k
 
--- the time, where a key was lost at it
-abbrev pub time_if : Bool → Timestamp → Option Timestamp
-time_if is_lost time = if is_lost then Some time else None
-
--- when the server was started anew, where it held the key then
-abbrev pub lost_at : PlainNotes → List ℕ → Option Timestamp
-lost_at notes k = time_if (has_key notes.lost k) notes.anew
+-- what is told of the last leaving of a key in front of the root
+abbrev pub told_before : PlainNotes → List ℕ → Option Told
+told_before notes k = told_by_those notes.departed k

@@ -1,9 +1,9 @@
 //! What a log says of the nodes of a session that it led.
-ghost use Rattle.std.specs.Prelude.{◌≡◌, []};
+ghost use Rattle.std.specs.Prelude.{◌≡◌, ◌==◌, ◌&&◌, not, is_some, length};
 ghost use Rattle.std.specs.Option.{option_copied};
 ghost use Rattle.rev_evidence.specs.Notes as rule;
 
-use crate::keys::is_key;
+use crate::departed::{Departed, Told};
 use crate::verdict::{Said, Verdict, by_cause, verdict_of};
 use rev_items::Key;
 use rev_lead::Role;
@@ -26,27 +26,14 @@ pub struct Moment {
     pub connection: Option<i32>,
 }
 
-/// The keys that a server held when it was started anew, and when that was.
-#[derive(Drop)]
-pub struct Lost<A: Allocator> {
-    pub keys: Vec<Key<A>, A>,
-    pub time: Timestamp,
-}
-
-/// What a log says of the nodes of a session, that of node 1 first, and what was lost in front of its root. A session on
-/// a script has none.
+/// What a log says of the nodes of a session, that of node 1 first; and where the log goes back behind the session's
+/// root, which keys left in front of that, and when it was. A session on a script has none.
 #[derive(Drop)]
 pub struct LogNotes<A: Allocator> {
     roles: Vec<Role, A>,
     moments: Vec<Moment, A>,
-    lost: Lost<A>,
-}
-
-/// What is told of a key that left: why, what tells it, and when.
-#[derive(Clone, Copy)]
-pub struct Told {
-    pub verdict: Verdict,
-    pub time: Timestamp,
+    departed: Option<Departed<A>>,
+    since: Option<Timestamp>,
 }
 
 impl<A: Allocator> Model for LogNotes<A> {
@@ -57,7 +44,7 @@ impl<A: Allocator> Model for LogNotes<A> {
 
     ghost coded = { Prim.hlevel codes };
 
-    ghost view = { λ n. record { roles = n.roles.items; moments = n.moments.items; lost = n.lost.keys.items; anew = n.lost.time } };
+    ghost view = { λ n. record { roles = n.roles.items; moments = n.moments.items; departed = n.departed; since = n.since } };
 }
 
 // What a list holds for a node, that of node 1 first.
@@ -68,19 +55,6 @@ fn of_node<T>(items: &[T], node: NodeId) -> Option<&T>
         return None;
     }
     items.get(node.0 as usize - 1)
-}
-
-// Whether a key is among these.
-fn has_key<A: Allocator>(keys: &[Key<A>], key: &Key<A>) -> bool
-    ensures { result ≡ rule.has_key keys.now key.now }
-{
-    keys.iter().any(|held| is_key(held, key))
-}
-
-fn time_if(is_lost: bool, time: Timestamp) -> Option<Timestamp>
-    ensures { result ≡ rule.time_if is_lost time }
-{
-    if is_lost { Some(time) } else { None }
 }
 
 // Why a key left at a step of this role, with this cause. What is restored for a key that the log shows pushes another
@@ -94,45 +68,56 @@ fn verdict_in(role: Role, cause: Cause, moment: Moment) -> Verdict
     }
 }
 
-impl<A: Allocator> Lost<A> {
-    /// No key was lost.
-    pub fn nothing(alloc: A) -> Lost<A>
-        ensures keys { result.keys.items ≡ [] }
-        ensures time { result.time ≡ rule.never }
-    {
-        Lost {
-            keys: Vec::new(alloc),
-            time: Timestamp {
-                seconds: 0,
-                microseconds: 0,
-            },
-        }
-    }
+/// What is told of a key that left at a node, with this cause, by the role of each node's step and what the log says at
+/// it, those of node 1 first. None where the log says nothing of the node.
+pub fn told_by(roles: &[Role], moments: &[Moment], node: NodeId, cause: Cause) -> Option<Told>
+    ensures { result ≡ rule.told_by (rule.of_node roles.now node.0) cause (rule.of_node moments.now node.0) }
+{
+    let role = *of_node(roles, node)?;
+    let moment = *of_node(moments, node)?;
+    Some(Told {
+        verdict: verdict_in(role, cause, moment),
+        time: moment.time,
+    })
+}
+
+// Whether nothing is said of any node, and nothing goes back behind the root.
+fn says_nothing(moments: &[Moment], since: Option<Timestamp>) -> bool
+    ensures { result ≡ ((length moments.now == 0) && not (is_some since)) }
+{
+    moments.is_empty() && since.is_none()
 }
 
 impl<A: Allocator + Copy> LogNotes<A> {
-    /// No node has a note, and no key was lost.
+    /// No node has a note, and no key left in front of the root.
     pub fn none(alloc: A) -> LogNotes<A>
         ensures { result ≡ rule.no_notes }
     {
         LogNotes {
             roles: Vec::new(alloc),
             moments: Vec::new(alloc),
-            lost: Lost::nothing(alloc),
+            departed: None,
+            since: None,
         }
     }
 }
 
 impl<A: Allocator> LogNotes<A> {
-    /// The role of each node's step, and what the log says at it, those of node 1 first; and what was lost in front of
-    /// the root.
-    pub fn new(roles: Vec<Role, A>, moments: Vec<Moment, A>, lost: Lost<A>) -> LogNotes<A>
-        ensures { result ≡ record { roles = roles.items; moments = moments.items; lost = lost.keys.items; anew = lost.time } }
+    /// The role of each node's step, and what the log says at it, those of node 1 first; and where the log goes back behind
+    /// the root, which keys left in front of that, and when it was.
+    pub fn new(
+        roles: Vec<Role, A>,
+        moments: Vec<Moment, A>,
+        departed: Option<Departed<A>>,
+        since: Option<Timestamp>,
+    ) -> LogNotes<A>
+        ensures { result ≡ record { roles = roles.items; moments = moments.items; departed = departed; since = since } }
     {
         LogNotes {
             roles,
             moments,
-            lost,
+            departed,
+            since,
         }
     }
 
@@ -143,11 +128,11 @@ impl<A: Allocator> LogNotes<A> {
         self.roles.as_slice()
     }
 
-    /// Whether the log says nothing of any node.
+    /// Whether the log says nothing of any node, and does not go back behind the root.
     pub fn is_none(&self) -> bool
         ensures { result ≡ rule.is_none self.now }
     {
-        self.moments.is_empty()
+        says_nothing(self.moments.as_slice(), self.since)
     }
 
     /// What the log says at a node. None where it says nothing of it.
@@ -164,18 +149,23 @@ impl<A: Allocator> LogNotes<A> {
     pub fn told_at(&self, node: NodeId, cause: Cause) -> Option<Told>
         ensures { result ≡ rule.told_at self.now node.0 cause }
     {
-        let role = *of_node(self.roles.as_slice(), node)?;
-        let moment = self.moment(node)?;
-        Some(Told {
-            verdict: verdict_in(role, cause, moment),
-            time: moment.time,
-        })
+        told_by(self.roles.as_slice(), self.moments.as_slice(), node, cause)
     }
 
-    /// When the server was started anew in front of the session's root, where it held the key then.
-    pub fn lost_at(&self, key: &Key<A>) -> Option<Timestamp>
-        ensures { result ≡ rule.lost_at self.now key.now }
+    /// What is told of the last leaving of a key in front of the root, as far as it is remembered.
+    pub fn told_before(&self, key: &Key<A>) -> Option<Told>
+        ensures { result ≡ rule.told_before self.now key.now }
     {
-        time_if(has_key(self.lost.keys.as_slice(), key), self.lost.time)
+        match &self.departed {
+            Some(departed) => departed.told_of(key),
+            None => None,
+        }
+    }
+
+    /// When the root was, where the log goes back behind it.
+    pub fn since(&self) -> Option<Timestamp>
+        ensures { result ≡ self.now.since }
+    {
+        self.since
     }
 }

@@ -7,7 +7,7 @@ use crate::files::copied;
 use crate::import::{settings_of, setup_by};
 use crate::state::bad_file;
 use rev_choices::Factor;
-use rev_import::setup::Setup;
+use rev_import::setup::{PAGE_SIZE, Setup};
 use rev_intake::report::put_unfollowed;
 use rev_messages::Stop;
 use rev_replay::coverage::Coverage;
@@ -94,12 +94,46 @@ fn coverage_of(settings: &Settings, anyway: bool) -> Coverage {
     }
 }
 
-/// What lrudb is opened with in the place of the server whose settings the file of this name has, where its logs are to
-/// lead; and what is to become of logs that show items which the rules do not cover. Behind `notes` goes what they do not
-/// cover of the settings.
+/// A server whose logs are to lead.
+#[derive(Drop)]
+pub struct LeadingServer {
+    /// What lrudb is opened with in its place.
+    pub setup: Setup,
+    /// What is to become of logs that show items which the rules do not cover.
+    pub coverage: Coverage,
+    /// How many pages it has, which may be more than lrudb is opened with.
+    pub pages: u64,
+}
+
+/// The server whose settings the file of this name has, where its logs are to lead. Behind `notes` goes what the rules do
+/// not cover of the settings.
 ///
 /// Err: memory was refused; the file can't be read, or is no text of settings; or the server has a setting under which
 /// other keys leave than the rules say, unless the logs are to be read `anyway`.
+pub fn leading_server<R: Files + AllocGlobal>(
+    rt: &R,
+    name: &str,
+    factor: Option<Factor>,
+    anyway: bool,
+    notes: &mut Vec<u8>,
+) -> Result<LeadingServer, Stop>
+    ensures { IfOk result (λ server. IsWithinLimits server.setup.config) }
+{
+    let settings = settings_of(rt, name)?;
+    see_obstacles(rt.alloc(), name, &settings, anyway, notes)?;
+    let setup = setup_by(&settings, factor)?;
+    put_unfollowed(notes, &setup.unfollowed)?;
+    Ok(LeadingServer {
+        setup,
+        coverage: coverage_of(&settings, anyway),
+        pages: settings.max_bytes / u64::from(PAGE_SIZE),
+    })
+}
+
+/// What lrudb is opened with in the place of that server, and what is to become of logs that show items which the rules
+/// do not cover.
+///
+/// Err: as of `leading_server`.
 pub fn leading_setup<R: Files + AllocGlobal>(
     rt: &R,
     name: &str,
@@ -109,11 +143,12 @@ pub fn leading_setup<R: Files + AllocGlobal>(
 ) -> Result<(Setup, Coverage), Stop>
     ensures { IfOk result (λ leading. IsWithinLimits leading.0.config) }
 {
-    let settings = settings_of(rt, name)?;
-    see_obstacles(rt.alloc(), name, &settings, anyway, notes)?;
-    let setup = setup_by(&settings, factor)?;
-    put_unfollowed(notes, &setup.unfollowed)?;
-    Ok((setup, coverage_of(&settings, anyway)))
+    let LeadingServer {
+        setup,
+        coverage,
+        ..
+    } = leading_server(rt, name, factor, anyway, notes)?;
+    Ok((setup, coverage))
 }
 
 // Why there is nothing to tell of a life of the server that was not there.

@@ -40,7 +40,7 @@ pub struct Form {
 }
 
 /// The rows that begin with their kind, but for `STEP`. Any other row is its own kind.
-static NAMED: [Form; 16] = [
+static NAMED: [Form; 17] = [
     Form {
         kind: "VALUE",
         parts: &[
@@ -151,6 +151,10 @@ static NAMED: [Form; 16] = [
     Form {
         kind: "LEFT",
         parts: &[Part::Number("node"), Part::Left],
+    },
+    Form {
+        kind: "NEVER",
+        parts: &[Part::Label, Part::Number("since")],
     },
     Form {
         kind: "ERROR",

@@ -16,4 +16,6 @@ mod lives;
 pub mod tell;
 
 pub use asked::asked_key;
+pub use gone::Gone;
+pub use lives::Lives;
 pub use rev_life::filter::Filter;

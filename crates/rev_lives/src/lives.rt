@@ -5,7 +5,7 @@ use rev_evidence::blame::key_of;
 use rev_evidence::heard::key_in;
 use rev_inverse::{Change, RecordRef, Store};
 use rev_items::{Item, Key};
-use rev_life::life::KeyLives;
+use rev_life::life::{Ended, KeyLives};
 use rev_log::held_key::{HeldKey, SoughtKey};
 use rev_model::ChunkRef;
 use rev_pushers::counted::{ClassStart, Classes};
@@ -67,7 +67,30 @@ fn chunks_in<A: Allocator>(undo: &Change<A>) -> (Option<ChunkRef>, Option<ChunkR
     }
 }
 
+// Forgets the connections of a life that has ended.
+fn forget_in<A: Allocator>(ended: &mut Ended<A>) {
+    ended.life.stored.connection = None;
+    if let Some(culprit) = &mut ended.left.culprit {
+        culprit.connection = None;
+    }
+    if let Some(pushed) = &mut ended.pushed {
+        for share in pushed.connections.iter_mut() {
+            share.connection = None;
+        }
+    }
+}
+
 impl<A: Allocator + Copy> Asked<A> {
+    // Forgets the connections of all that is known of the key.
+    fn forget_connections(&mut self) {
+        for ended in self.lives.ended.iter_mut() {
+            forget_in(ended);
+        }
+        if let Some(life) = &mut self.lives.held {
+            life.stored.connection = None;
+        }
+    }
+
     // Tells who pushed the key out, where its last life was evicted.
     fn tell_pushed(&mut self, classes: &Classes<A>, now: Timestamp) -> Result<(), AllocError> {
         let Some((number, start)) = &self.begun else {
@@ -155,6 +178,13 @@ impl<A: Allocator + Copy> Lives<A> {
     /// The keys that were asked for, in the order in which they were first asked for.
     pub fn keys(&self) -> &[Asked<A>] {
         self.keys.as_slice()
+    }
+
+    /// Forgets the connections of all that is known: a script has none.
+    pub fn forget_connections(&mut self) {
+        for key in self.keys.iter_mut() {
+            key.forget_connections();
+        }
     }
 
     /// The time of the last event.

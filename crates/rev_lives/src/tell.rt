@@ -14,6 +14,7 @@ use rev_replay::coverage::Coverage;
 use rev_replay::fault::ReplayFault;
 use rev_replay::notes::put_notes;
 use rev_replay::run::{Replay, replay_logs};
+use rev_replay::sampling::Sampling;
 use std::alloc::{AllocError, Allocator};
 use std::io::Read;
 use std::mem;
@@ -42,8 +43,13 @@ pub struct Found {
     pub all_seen: bool,
 }
 
-// The keys that are asked for, of which nothing is known yet.
-fn asked_for<A: Allocator + Copy>(alloc: A, asked: &LivesAsked<A>) -> Result<Lives<A>, AllocError> {
+/// The keys that are asked for, of which nothing is known yet.
+///
+/// Err: memory was refused.
+pub fn asked_for<A: Allocator + Copy>(
+    alloc: A,
+    asked: &LivesAsked<A>,
+) -> Result<Lives<A>, AllocError> {
     let mut lives = Lives::new(alloc, asked.last, asked.life);
     for key in &asked.keys {
         lives.ask(key)?;
@@ -57,8 +63,10 @@ fn lives_of<A: Allocator>(key: &KeyLives<A>) -> u64 {
     if key.held.is_some() { ended + 1 } else { ended }
 }
 
-// Writes the lives of all keys, and counts them.
-fn send_lives<A: Allocator + Copy, K: Sink>(
+/// Writes the lives of all keys, and counts them.
+///
+/// Err: memory was refused, or a write failed.
+pub fn send_lives<A: Allocator + Copy, K: Sink>(
     alloc: A,
     lives: &Lives<A>,
     as_json: bool,
@@ -94,16 +102,20 @@ fn send_lives<A: Allocator + Copy, K: Sink>(
     Ok(found)
 }
 
-// A replay of which no log was read.
+// A replay of which no log was read, of all keys or of a sample.
 fn opened<'a, A: Allocator + Copy>(
     alloc: A,
     setup: &'a Setup,
     coverage: Coverage,
+    sampling: Option<&'a Sampling<A>>,
 ) -> Result<Replay<'a, A>, (usize, ReplayFault)>
     requires { IsWithinLimits setup.now.config }
 {
     match Replay::open(alloc, setup, coverage) {
-        Ok(replay) => Ok(replay),
+        Ok(mut replay) => {
+            replay.limit_to_sample(sampling);
+            Ok(replay)
+        }
         Err(fault) => Err((0, fault)),
     }
 }
@@ -161,7 +173,7 @@ fn follow_asked<A: Allocator + Copy, F: Read + Drop, K: Sink>(
 }
 
 /// Tells the lives of the keys that are asked for, from the logs that the files hold, in their order, of a server with
-/// this setup. They are written behind the last log. What is told of the logs themselves goes behind `notes`.
+/// this setup; of a sample, where there is one. They are written behind the last log. What is told of the logs themselves goes behind `notes`.
 ///
 /// Err: the place of a log, from 0 on, and why nothing is told: memory was refused, a read or a write failed, a line
 /// that begins like one of the log is none, a log shows an item that the rules do not cover, or there are more lines
@@ -171,6 +183,7 @@ pub fn tell_lives<A: Allocator + Copy, F: Read + Drop, K: Sink>(
     alloc: A,
     setup: &Setup,
     coverage: Coverage,
+    sampling: Option<&Sampling<A>>,
     logs: Vec<F, A>,
     asked: &LivesAsked<A>,
     sink: &mut K,
@@ -178,7 +191,7 @@ pub fn tell_lives<A: Allocator + Copy, F: Read + Drop, K: Sink>(
 ) -> Result<Found, (usize, ReplayFault)>
     requires { IsWithinLimits setup.now.config }
 {
-    let mut replay = opened(alloc, setup, coverage)?;
+    let mut replay = opened(alloc, setup, coverage, sampling)?;
     let told = follow_asked(alloc, &mut replay, logs, asked, sink);
     let ended = noted(told, &replay, notes);
     drop(replay);
@@ -208,14 +221,15 @@ fn tell_leaving<A: Allocator + Copy, F: Read + Drop, K: Sink>(
 }
 
 /// Tells the keys that left and pass the filter, in the order in which they did, from the logs that the files hold, in
-/// their order, of a server with this setup. They are written as the logs are read. What is told of the logs themselves
-/// goes behind `notes`.
+/// their order, of a server with this setup; of a sample, where there is one. They are written as the logs are read. What
+/// is told of the logs themselves goes behind `notes`.
 ///
 /// Err: as of `tell_lives`; what was told before is written, or a part of it.
 pub fn tell_gone<A: Allocator + Copy, F: Read + Drop, K: Sink>(
     alloc: A,
     setup: &Setup,
     coverage: Coverage,
+    sampling: Option<&Sampling<A>>,
     logs: Vec<F, A>,
     filter: &Filter<'_>,
     as_json: bool,
@@ -224,7 +238,7 @@ pub fn tell_gone<A: Allocator + Copy, F: Read + Drop, K: Sink>(
 ) -> Result<Found, (usize, ReplayFault)>
     requires { IsWithinLimits setup.now.config }
 {
-    let mut replay = opened(alloc, setup, coverage)?;
+    let mut replay = opened(alloc, setup, coverage, sampling)?;
     let mut gone = Gone::new(alloc, filter, as_json, sink);
     let told = tell_leaving(&mut replay, logs, &mut gone);
     drop(gone);

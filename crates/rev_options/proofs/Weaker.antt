@@ -21,8 +21,8 @@ no_opening asks (Ok other) h = tt
 no_opening asks (Err e) h = tt
 
 -- and what is no import of an opening
-pub brings_none : {E : Type 0} (brings : Bool) (r : Result Request E) → IfOk r (BringsBy false) → IfOk r (BringsBy brings)
-brings_none brings (Ok (OpenWatch asked)) h = absurd (let e : false ≡ true = h in cc)
-brings_none brings (Ok (OpenCsv asked)) h = absurd (let e : false ≡ true = h in cc)
-brings_none brings (Ok other) h = tt
-brings_none brings (Err e) h = tt
+pub brings_none : {E : Type 0} (brings seeks : Bool) (r : Result Request E) → IfOk r (BringsBy false false) → IfOk r (BringsBy brings seeks)
+brings_none brings seeks (Ok (OpenWatch asked)) h = absurd (let e : false ≡ true = h.0 in cc)
+brings_none brings seeks (Ok (OpenCsv asked)) h = absurd (let e : false ≡ true = h in cc)
+brings_none brings seeks (Ok other) h = tt
+brings_none brings seeks (Err e) h = tt

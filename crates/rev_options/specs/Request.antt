@@ -1,13 +1,16 @@
 -- What holds of a request that was read. Rule of this project: the bounds of `--temp-ttl`, `--heap` and the number of
--- files; and which words ask for an import, for traces to be opened, for what `open` imports, for a run, for a report, and
--- for what logs tell of keys.
-use Rattle.std.specs.Prelude.{ℕ, ℤ, pos, negsuc, Bool, true, false, nat_eq, ◌||◌, ◌≡◌, ◌≤◌, ◌⊎◌, List, [], ◌∷◌, take, length, IfSome, Option, None, is_some, Vec, String, codes}
+-- files; and which words ask for an import, for traces to be opened, for what `open` imports, for the place where a key is
+-- gone, for a run, for a report, and for what logs tell of keys.
+use Rattle.std.specs.Prelude.{ℕ, ℤ, pos, negsuc, Bool, true, false, nat_eq, ◌||◌, ◌≡◌, ◌≤◌, ◌⊎◌, List, [], ◌∷◌, take, length, IfSome, Option, None, Some, is_some, Vec, String, string_bytes, codes}
 use Rattle.std.specs.Str.{bytes_eq}
 use Rattle.std.specs.declared.alloc.Global.{Global}
 use Rattle.rev_options.specs.declared.Request.{Request}
-use Rattle.rev_options.specs.declared.Request.TheVariants.{Run, Record, ImportWatch, ImportCsv, ImportState, Open, OpenWatch, OpenCsv, Report, Why, Gone}
+use Rattle.rev_options.specs.declared.Request.TheVariants.{Run, Record, ImportWatch, ImportCsv, ImportState, Open, OpenWatch, OpenCsv, Report, Why, Gone, WhyTraces, GoneTraces, Top}
 use Rattle.rev_options.specs.declared.asking.AskedLogs.{AskedLogs}
+use Rattle.rev_options.specs.declared.ruled.AskedTraces.{AskedTraces}
 use Rattle.rev_options.specs.declared.standing.Standing.{Standing}
+use Rattle.rev_options.specs.declared.standing.Until.{Until}
+use Rattle.rev_options.specs.declared.standing.Until.TheVariants as untils
 use Rattle.rev_options.specs.declared.reporting.Played.{Played}
 use Rattle.rev_options.specs.declared.reporting.Played.TheVariants.{Traces, Logs, Rows}
 
@@ -43,13 +46,17 @@ IsPlayedInRange (Rows asked) = is_temp_ttl asked.config.temp_ttl ≡ true
 abbrev pub AreAsked : AskedLogs → Type 0
 AreAsked asked = (1 ≤ length asked.logs.items) × (length asked.logs.items ≤ 64) × IsLife asked.life
 
+-- one trace or more, and a time to live that there is
+abbrev pub AreTraces : AskedTraces → Type 0
+AreTraces asked = (is_temp_ttl asked.config.temp_ttl ≡ true) × (1 ≤ length asked.traces.items)
+
 -- there is a key, or a file of keys
 abbrev pub HasKeys : Vec (String Global) Global → Option (String Global) → Type 0
 HasKeys keys key_file = (1 ≤ length keys.items) ⊎ (is_some key_file ≡ true)
 
 -- a time to live that there is; for a run a heap that may be asked for, where one is, and none where JSON is; for a
 -- recording one to eight files; for an import a log, or a trace; a life of a server that there may be; steps in front of
--- a place, as many as may be kept; logs that may be asked, of a key where keys are told of
+-- a place, as many as may be kept; logs or traces that may be asked, of a key where keys are told of
 abbrev pub IsInRange : Request → Type 0
 IsInRange (Run config heap dialect starts json) = (is_temp_ttl config.temp_ttl ≡ true) × IfSome heap IsHeap × (json ≡ true → heap ≡ None)
 IsInRange (Record config dialect starts files) = (is_temp_ttl config.temp_ttl ≡ true) × (1 ≤ length files.items) × (length files.items ≤ 8)
@@ -62,6 +69,9 @@ IsInRange (OpenCsv asked) = is_temp_ttl asked.config.temp_ttl ≡ true
 IsInRange (Report asked) = IsPlayedInRange asked.played
 IsInRange (Why asked) = AreAsked asked.logs × HasKeys asked.keys asked.key_file
 IsInRange (Gone asked) = AreAsked asked.logs
+IsInRange (WhyTraces asked) = AreTraces asked.traces × HasKeys asked.keys asked.key_file
+IsInRange (GoneTraces asked) = AreTraces asked.traces
+IsInRange (Top asked) = AreAsked asked.logs
 
 -- the first word says `import`
 abbrev pub asks_import : List (List ℕ) → Bool
@@ -96,11 +106,26 @@ abbrev pub brings : List (List ℕ) → Bool
 brings [] = false
 brings (word ∷ words) = (begins_with (codes "--watch") word || begins_with (codes "--csv") word) || brings words
 
--- what `open` imports is asked for by such words alone
-abbrev pub BringsBy : Bool → Request → Type 0
-BringsBy brings (OpenWatch asked) = brings ≡ true
-BringsBy brings (OpenCsv asked) = brings ≡ true
-BringsBy brings other = Unit {0}
+-- a word begins with `--until-gone`
+abbrev pub seeks_key : List (List ℕ) → Bool
+seeks_key [] = false
+seeks_key (word ∷ words) = begins_with (codes "--until-gone") word || seeks_key words
+
+-- the key that is to be gone at a place, where the place is one of a key
+abbrev pub key_until : Until → Option (List ℕ)
+key_until (untils.Gone key) = Some (string_bytes key)
+key_until other = None
+
+-- the same of where a session stands, where that is asked for
+abbrev pub sought_key : Option Standing → Option (List ℕ)
+sought_key None = None
+sought_key (Some standing) = key_until standing.until
+
+-- what `open` imports is asked for by words that bring it alone, and the place where a key is gone by words that seek one
+abbrev pub BringsBy : (brings seeks : Bool) → Request → Type 0
+BringsBy brings seeks (OpenWatch asked) = (brings ≡ true) × IfSome (sought_key asked.standing) (λ key. seeks ≡ true)
+BringsBy brings seeks (OpenCsv asked) = brings ≡ true
+BringsBy brings seeks other = Unit {0}
 
 -- the first word says `run`
 abbrev pub asks_run : List (List ℕ) → Bool
@@ -132,12 +157,20 @@ abbrev pub asks_gone : List (List ℕ) → Bool
 asks_gone [] = false
 asks_gone (word ∷ words) = bytes_eq word (codes "gone")
 
--- the first word says either
-abbrev pub asks_lives : List (List ℕ) → Bool
-asks_lives words = asks_why words || asks_gone words
+-- the first word says `top`
+abbrev pub asks_top : List (List ℕ) → Bool
+asks_top [] = false
+asks_top (word ∷ words) = bytes_eq word (codes "top")
 
--- logs are asked of keys by either of these words, and nothing else is; the lives of keys by `why` alone
+-- the first word says one of these
+abbrev pub asks_lives : List (List ℕ) → Bool
+asks_lives words = (asks_why words || asks_gone words) || asks_top words
+
+-- logs and traces are asked by one of these words, and nothing else is; the lives of keys by `why` alone
 abbrev pub LivesBy : (lives why : Bool) → Request → Type 0
 LivesBy lives why (Why asked) = (lives ≡ true) × (why ≡ true)
 LivesBy lives why (Gone asked) = lives ≡ true
+LivesBy lives why (WhyTraces asked) = (lives ≡ true) × (why ≡ true)
+LivesBy lives why (GoneTraces asked) = lives ≡ true
+LivesBy lives why (Top asked) = lives ≡ true
 LivesBy lives why other = lives ≡ false

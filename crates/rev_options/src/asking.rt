@@ -1,14 +1,19 @@
-//! The words of `lrudb why` and `lrudb gone`.
-ghost use Rattle.std.specs.Prelude.{◌≡◌, ◌≤◌, length, map, true, false, IfOk, IfSome};
-ghost use Rattle.rev_options.specs.Request.{IsInRange, IsOfWords, OpensBy, BringsBy, ReportsBy, RunsBy, LivesBy, AreAsked, HasKeys, IsLife, asks_gone, asks_lives, asks_why};
+//! The words of `lrudb why`, `lrudb gone` and `lrudb top`.
+ghost use Rattle.std.specs.Prelude.{◌≡◌, ◌≤◌, Bool, length, map, true, false, IfOk, IfSome};
+ghost use Rattle.rev_options.specs.Request.{IsInRange, IsOfWords, OpensBy, BringsBy, ReportsBy, RunsBy, LivesBy, AreAsked, HasKeys, IsLife, asks_gone, asks_lives, asks_top, asks_why};
 
 use crate::import::{MOST_LOGS, factor_of, given, required, some_names};
+use crate::ruled::{gone_traces, why_traces};
+use crate::sampled::{AskedSample, asked_sample};
 use crate::{Request, fault, files_of};
 use clap::error::ErrorKind;
 use clap::{ArgMatches, Error};
 use rev_choices::{Factor, Loss};
 use std::alloc::Global;
 use std::convert::AsStr;
+
+/// So many rows are told where no number is given (this project's own figure).
+const MOST_ROWS: u32 = 20;
 
 /// Logs of a server's `watch` that are asked about keys.
 #[derive(Drop)]
@@ -25,6 +30,8 @@ pub struct AskedLogs {
     pub json: bool,
     /// Whether logs are read where the server has a setting that the rules do not cover.
     pub anyway: bool,
+    /// Which keys are replayed.
+    pub sampled: AskedSample,
 }
 
 /// Keys, and logs that tell what became of them.
@@ -54,6 +61,19 @@ pub struct GoneAsked {
     pub last: u32,
 }
 
+/// Logs that tell where a cache's room goes, and how that is told.
+#[derive(Drop)]
+pub struct TopAsked {
+    pub logs: AskedLogs,
+    /// Whether it is summed by slab class, and not by prefix.
+    pub by_class: bool,
+    /// How many prefixes or classes are told one by one.
+    pub most: u32,
+    /// The first and the last second of the events that are counted, by the Unix clock.
+    pub first: u32,
+    pub last: u32,
+}
+
 /// Whether the first word says `why`.
 pub(crate) fn asks_why<S: AsStr>(words: &[S]) -> bool
     ensures { result ≡ asks_why (map S.text words.now) }
@@ -74,11 +94,21 @@ pub(crate) fn asks_gone<S: AsStr>(words: &[S]) -> bool
     }
 }
 
-/// Whether the first word says `why` or `gone`.
+/// Whether the first word says `top`.
+pub(crate) fn asks_top<S: AsStr>(words: &[S]) -> bool
+    ensures { result ≡ asks_top (map S.text words.now) }
+{
+    match words.first() {
+        Some(word) => word.as_str() == "top",
+        None => false,
+    }
+}
+
+/// Whether the first word says `why`, `gone` or `top`.
 pub(crate) fn asks_lives<S: AsStr>(words: &[S]) -> bool
     ensures { result ≡ asks_lives (map S.text words.now) }
 {
-    asks_why(words) || asks_gone(words)
+    asks_why(words) || asks_gone(words) || asks_top(words)
 }
 
 fn logs_of(alloc: Global, matches: &ArgMatches<'_>) -> Result<Vec<String>, Error>
@@ -120,6 +150,7 @@ fn asked_logs(alloc: Global, matches: &ArgMatches<'_>) -> Result<AskedLogs, Erro
     Ok(AskedLogs {
         factor: factor_of(alloc, matches)?,
         life: life_of(alloc, matches)?,
+        sampled: asked_sample(alloc, matches)?,
         logs: logs_of(alloc, matches)?,
         settings: required(alloc, matches, "settings")?,
         json: matches.get_flag("json"),
@@ -127,8 +158,11 @@ fn asked_logs(alloc: Global, matches: &ArgMatches<'_>) -> Result<AskedLogs, Erro
     })
 }
 
-// The keys that the words ask for, and the file of more, or the parser's error.
-fn keys_of(alloc: Global, matches: &ArgMatches<'_>) -> Result<(Vec<String>, Option<String>), Error>
+/// The keys that the words ask for, and the file of more, or the parser's error.
+pub(crate) fn keys_of(
+    alloc: Global,
+    matches: &ArgMatches<'_>,
+) -> Result<(Vec<String>, Option<String>), Error>
     ensures { IfOk result (λ asked. HasKeys asked.0 asked.1) }
 {
     let keys = files_of(alloc, matches, "key")?;
@@ -153,8 +187,8 @@ fn why_of(alloc: Global, matches: &ArgMatches<'_>) -> Result<WhyAsked, Error>
     })
 }
 
-// Why the keys left that the words ask for, where they say it, or the parser's error.
-fn cause_of(alloc: Global, matches: &ArgMatches<'_>) -> Result<Option<Loss>, Error> {
+/// Why the keys left that the words ask for, where they say it, or the parser's error.
+pub(crate) fn cause_of(alloc: Global, matches: &ArgMatches<'_>) -> Result<Option<Loss>, Error> {
     match matches.get_str("cause") {
         None => Ok(None),
         Some(word) => match Loss::of(word) {
@@ -179,7 +213,52 @@ fn gone_of(alloc: Global, matches: &ArgMatches<'_>) -> Result<GoneAsked, Error>
     })
 }
 
-/// What the words ask of logs by the parser's reading of them, or the parser's error. Whether the first word says `why`
+// What the words that begin with `why` ask for, or the parser's error.
+fn why_request(alloc: Global, matches: &ArgMatches<'_>) -> Result<Request, Error>
+    ensures range { IfOk result IsInRange }
+    ensures words { IfOk result (IsOfWords false) }
+    ensures opens { IfOk result (OpensBy false) }
+    ensures brings { IfOk result (BringsBy false false) }
+    ensures runs { IfOk result (RunsBy false) }
+    ensures reports { IfOk result (ReportsBy false) }
+    ensures lives { IfOk result (LivesBy true true) }
+{
+    match why_traces(alloc, matches)? {
+        Some(asked) => Ok(Request::WhyTraces(asked)),
+        None => Ok(Request::Why(why_of(alloc, matches)?)),
+    }
+}
+
+// What the words that begin with `gone` ask for, or the parser's error.
+fn gone_request(alloc: Global, matches: &ArgMatches<'_>) -> Result<Request, Error>
+    ensures range { IfOk result IsInRange }
+    ensures words { IfOk result (IsOfWords false) }
+    ensures opens { IfOk result (OpensBy false) }
+    ensures brings { IfOk result (BringsBy false false) }
+    ensures runs { IfOk result (RunsBy false) }
+    ensures reports { IfOk result (ReportsBy false) }
+    ensures lives { (why : Bool) → IfOk result (LivesBy true why) }
+{
+    match gone_traces(alloc, matches)? {
+        Some(asked) => Ok(Request::GoneTraces(asked)),
+        None => Ok(Request::Gone(gone_of(alloc, matches)?)),
+    }
+}
+
+// Where the room goes that the words ask for, or the parser's error.
+fn top_of(alloc: Global, matches: &ArgMatches<'_>) -> Result<TopAsked, Error>
+    ensures { IfOk result (λ asked. AreAsked asked.logs) }
+{
+    Ok(TopAsked {
+        logs: asked_logs(alloc, matches)?,
+        by_class: matches.get_str("by") == Some("class"),
+        most: matches.get_one("most").unwrap_or(MOST_ROWS),
+        first: matches.get_one("from").unwrap_or(0),
+        last: matches.get_one("to").unwrap_or(u32::MAX),
+    })
+}
+
+/// What the words ask of logs and traces by the parser's reading of them, or the parser's error. Whether the first word says `why`
 /// is told apart, since the parser's contracts do not say so.
 pub(crate) fn asking_of(
     alloc: Global,
@@ -189,18 +268,21 @@ pub(crate) fn asking_of(
     ensures range { IfOk result IsInRange }
     ensures words { IfOk result (IsOfWords false) }
     ensures opens { IfOk result (OpensBy false) }
-    ensures brings { IfOk result (BringsBy false) }
+    ensures brings { IfOk result (BringsBy false false) }
     ensures runs { IfOk result (RunsBy false) }
     ensures reports { IfOk result (ReportsBy false) }
     ensures lives { IfOk result (LivesBy true asks_why) }
 {
     if asks_why {
         if let Some(inner) = matches.subcommand_matches("why") {
-            return Ok(Request::Why(why_of(alloc, inner)?));
+            return why_request(alloc, inner);
         }
     }
     if let Some(inner) = matches.subcommand_matches("gone") {
-        return Ok(Request::Gone(gone_of(alloc, inner)?));
+        return gone_request(alloc, inner);
+    }
+    if let Some(inner) = matches.subcommand_matches("top") {
+        return Ok(Request::Top(top_of(alloc, inner)?));
     }
     Err(fault(alloc, ErrorKind::MissingSubcommand, "why"))
 }

@@ -74,6 +74,13 @@ const SAMPLE: OptionSpec = OptionSpec {
     ..TEXT
 };
 
+const KEEP_KEY: OptionSpec = OptionSpec {
+    name: "keep-key",
+    unit: "KEY",
+    help: "Replays this key whatever the sample is [may be given again]",
+    ..TEXTS
+};
+
 // What tells of the cache.
 fn config() -> &'static [OptionSpec] {
     &NUMBERS
@@ -315,7 +322,6 @@ static PLAYED: [OptionSpec; 6] = [
         excludes: Some(&[
             "traces",
             "csv",
-            "sample",
             "temp-ttl",
             "page-size",
             "pages",
@@ -351,8 +357,8 @@ static PLAYED: [OptionSpec; 6] = [
     OptionSpec {
         name: "sample",
         unit: "1/N",
-        help: "With --csv: takes one key of N, and makes pages N times smaller",
-        needs: Some(&["csv"]),
+        help: "With --csv: takes one key of N, and makes pages N times smaller; with open --watch: replays one key of N, and pages stay whole",
+        excludes: Some(&["traces", "free"]),
         ..TEXT
     },
     OptionSpec {
@@ -398,20 +404,20 @@ fn followed() -> &'static [OptionSpec] {
     &FOLLOWED
 }
 
-// Where a session stands on logs that lead.
-static STOOD: [OptionSpec; 3] = [
+// Where a session stands on logs that lead, and which keys it has.
+static STOOD: [OptionSpec; 4] = [
     OptionSpec {
         name: "until",
         unit: "PLACE",
         help: "With --watch: the session stands behind the step of this number, as `lrudb why` counts them, behind the last step up to @SECONDS by the Unix clock, or at the end [without it: at the end]",
-        excludes: Some(&["free", "steps", "sample", "life", "until-gone"]),
+        excludes: Some(&["free", "steps", "life", "until-gone"]),
         ..TEXT
     },
     OptionSpec {
         name: "until-gone",
         unit: "KEY",
         help: "With --watch: the session stands behind the last step at which this key left",
-        excludes: Some(&["free", "steps", "sample", "life"]),
+        excludes: Some(&["free", "steps", "life"]),
         ..TEXT
     },
     OptionSpec {
@@ -420,6 +426,10 @@ static STOOD: [OptionSpec; 3] = [
         help: "With --until or --until-gone: how many steps in front of the place are kept: 1 to 1048576; node 0 is the state before them [without it: 500000]",
         values: ValueParser::Signed(1, 1048576),
         ..TEXT
+    },
+    OptionSpec {
+        needs: Some(&["watch", "sample"]),
+        ..KEEP_KEY
     },
 ];
 
@@ -504,36 +514,107 @@ fn report() -> CommandSpec {
     }
 }
 
+// The scripts and the published traces that `why` and `gone` play by the rules alone.
+static RULED: [OptionSpec; 5] = [
+    OptionSpec {
+        name: "trace",
+        unit: "TRACE",
+        help: "In the place of logs: scripts without questions, whose steps are played in order; - is the standard input",
+        least: 1,
+        most: usize::MAX,
+        excludes: Some(&["csv"]),
+        ..TEXTS
+    },
+    OptionSpec {
+        name: "csv",
+        unit: "TRACE",
+        help: "In the place of logs: what `import csv` makes of published traces of a cache; - is the standard input",
+        least: 1,
+        most: usize::MAX,
+        ..TEXTS
+    },
+    OptionSpec {
+        name: "steps",
+        unit: "WHICH",
+        help: "With --csv: steps of the LRU maintainer: lean, none, or every:N lines of clients [without it: lean]",
+        needs: Some(&["csv"]),
+        excludes: Some(&["trace"]),
+        ..TEXT
+    },
+    OptionSpec {
+        excludes: Some(&["watch"]),
+        ..START
+    },
+    OptionSpec {
+        excludes: Some(&["watch"]),
+        ..LINE_FEED
+    },
+];
+
+fn ruled() -> &'static [OptionSpec] {
+    &RULED
+}
+
 // The logs that `why` and `gone` read, and how they are read.
-static ASKED: [OptionSpec; 6] = [
+static ASKED: [OptionSpec; 8] = [
     OptionSpec {
         name: "watch",
         unit: "LOG",
         help: "Logs of memcached's watch, in their order: 1 to 64 files; - is the standard input",
         least: 1,
         most: MOST_LOGS,
-        is_needed: true,
+        needs: Some(&["settings"]),
+        stands_for: Some(&["trace", "csv"]),
+        excludes: Some(&[
+            "trace",
+            "csv",
+            "temp-ttl",
+            "page-size",
+            "pages",
+            "num",
+            "den",
+            "bump",
+            "hash-power",
+            "now",
+        ]),
         ..TEXTS
     },
     OptionSpec {
         name: "settings",
         unit: "FILE",
         help: "The server's text of `stats settings`",
-        is_needed: true,
+        stands_for: Some(&["trace", "csv"]),
+        excludes: Some(&["trace", "csv"]),
         ..TEXT
     },
-    FACTOR,
+    OptionSpec {
+        excludes: Some(&["trace", "csv"]),
+        ..FACTOR
+    },
     OptionSpec {
         name: "life",
         unit: "N",
         help: "Tells only of the server's life of this number: 1 to 4294967295, the first is 1, and each start of the server begins one [without it: of all]",
         values: ValueParser::Signed(1, 4294967295),
+        excludes: Some(&["trace", "csv"]),
         ..TEXT
     },
     OptionSpec {
         name: "anyway",
         help: "Goes on where the server has a setting that the rules do not cover",
+        excludes: Some(&["trace", "csv"]),
         ..FLAG
+    },
+    OptionSpec {
+        name: "sample",
+        unit: "1/N",
+        help: "Replays one key of N, and the stores that evict it; pages stay whole [without it: all keys, or of a server of more than 4096 pages as many as go in]. With --csv: takes one key of N, and makes pages N times smaller",
+        excludes: Some(&["trace"]),
+        ..TEXT
+    },
+    OptionSpec {
+        excludes: Some(&["trace", "csv"]),
+        ..KEEP_KEY
     },
     PROGRESS,
 ];
@@ -573,8 +654,8 @@ static WHY: [OptionSpec; 4] = [
 fn why() -> CommandSpec {
     CommandSpec {
         name: "why",
-        about: "Tells from logs what became of keys: each of their lives, and why it ended",
-        options: [&WHY, asked(), &[], &[], &[]],
+        about: "Tells from logs what became of keys, or from traces: each of their lives, and why it ended",
+        options: [&WHY, asked(), ruled(), config(), &[]],
     }
 }
 
@@ -610,7 +691,7 @@ static GONE: [OptionSpec; 6] = [
     OptionSpec {
         name: "from",
         unit: "SECONDS",
-        help: "Only those that left in this second or behind it, by the Unix clock",
+        help: "Only those that left in this second or behind it, by the Unix clock, or of traces by the cache's",
         default: Some(&["0"]),
         ..NUMBER
     },
@@ -631,8 +712,98 @@ static GONE: [OptionSpec; 6] = [
 fn gone() -> CommandSpec {
     CommandSpec {
         name: "gone",
-        about: "Tells from logs which keys left, when and why",
-        options: [&GONE, asked(), &[], &[], &[]],
+        about: "Tells from logs which keys left, or from traces: when and why",
+        options: [&GONE, asked(), ruled(), config(), &[]],
+    }
+}
+
+static TOP: [OptionSpec; 5] = [
+    OptionSpec {
+        name: "by",
+        unit: "WORD",
+        help: "What it is summed by: a key's bytes up to its first colon, or the slab class",
+        values: ValueParser::Names(&["prefix", "class"]),
+        default: Some(&["prefix"]),
+        ..TEXT
+    },
+    OptionSpec {
+        name: "most",
+        unit: "N",
+        help: "So many prefixes or classes are told, those with most evictions; the others in one row",
+        default: Some(&["20"]),
+        ..NUMBER
+    },
+    OptionSpec {
+        name: "from",
+        unit: "SECONDS",
+        help: "Counts only what happened in this second or behind it, by the Unix clock",
+        default: Some(&["0"]),
+        ..NUMBER
+    },
+    OptionSpec {
+        name: "to",
+        unit: "SECONDS",
+        help: "Counts only what happened in this second or before it",
+        default: Some(&["4294967295"]),
+        ..NUMBER
+    },
+    OptionSpec {
+        name: "json",
+        help: "Tells each row in a line of JSON",
+        ..FLAG
+    },
+];
+
+// The logs that are counted, and how they are read.
+static COUNTED: [OptionSpec; 8] = [
+    OptionSpec {
+        name: "watch",
+        unit: "LOG",
+        help: "Logs of memcached's watch, in their order: 1 to 64 files; - is the standard input",
+        least: 1,
+        most: MOST_LOGS,
+        is_needed: true,
+        ..TEXTS
+    },
+    OptionSpec {
+        name: "settings",
+        unit: "FILE",
+        help: "The server's text of `stats settings`",
+        is_needed: true,
+        ..TEXT
+    },
+    FACTOR,
+    OptionSpec {
+        name: "life",
+        unit: "N",
+        help: "Counts only the server's life of this number: 1 to 4294967295, the first is 1, and each start of the server begins one [without it: all]",
+        values: ValueParser::Signed(1, 4294967295),
+        ..TEXT
+    },
+    OptionSpec {
+        name: "anyway",
+        help: "Goes on where the server has a setting that the rules do not cover",
+        ..FLAG
+    },
+    OptionSpec {
+        name: "sample",
+        unit: "1/N",
+        help: "Counts one key of N [without it: all keys, or of a server of more than 4096 pages as many as go in]",
+        ..TEXT
+    },
+    KEEP_KEY,
+    PROGRESS,
+];
+
+fn counted() -> &'static [OptionSpec] {
+    &COUNTED
+}
+
+fn top() -> CommandSpec {
+    CommandSpec {
+        name: "top",
+        about: "Tells from logs where the cache's room goes: stores, hits, misses and evictions by prefix or class",
+        options: [&TOP, counted(), &[], &[], &[]],
     }
 }
 
@@ -671,5 +842,6 @@ pub fn whole_command<'a>(alloc: Global) -> Result<Command<'a>, AllocError> {
     let command = with_command(alloc, command, open());
     let command = with_command(alloc, command, report());
     let command = with_command(alloc, command, why());
-    with_command(alloc, command, gone())
+    let command = with_command(alloc, command, gone());
+    with_command(alloc, command, top())
 }

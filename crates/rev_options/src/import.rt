@@ -133,7 +133,7 @@ pub fn rhythm_of(alloc: Global, matches: &ArgMatches<'_>) -> Result<Rhythm, Erro
     }
 }
 
-fn stands_twice(names: &Vec<String>) -> bool {
+pub(crate) fn stands_twice(names: &Vec<String>) -> bool {
     let mut standard: usize = 0;
     for name in names {
         if name.as_str() == STANDARD {
@@ -218,7 +218,7 @@ pub fn import(alloc: Global, matches: &ArgMatches<'_>) -> Result<Request, Error>
     ensures range { IfOk result IsInRange }
     ensures words { IfOk result (IsOfWords true) }
     ensures opens { IfOk result (OpensBy false) }
-    ensures brings { IfOk result (BringsBy false) }
+    ensures brings { IfOk result (BringsBy false false) }
     ensures runs { IfOk result (RunsBy false) }
     ensures reports { IfOk result (ReportsBy false) }
     ensures lives { IfOk result (LivesBy false false) }

@@ -9,19 +9,21 @@ mod leader;
 mod number;
 mod opening;
 mod reporting;
+mod ruled;
+mod sampled;
 mod standing;
 mod state;
 mod table;
 
 ghost use Rattle.std.specs.Prelude.{◌≡◌, ◌≤◌, length, map, IfOk, IfSome, true, false};
-ghost use Rattle.rev_options.specs.Request.{IsInRange, IsHeap, IsOfWords, OpensBy, BringsBy, ReportsBy, RunsBy, LivesBy, asks_import, asks_lives, asks_open, asks_report, asks_run, asks_why, brings, is_temp_ttl};
+ghost use Rattle.rev_options.specs.Request.{IsInRange, IsHeap, IsOfWords, OpensBy, BringsBy, ReportsBy, RunsBy, LivesBy, asks_import, asks_lives, asks_open, asks_report, asks_run, asks_why, brings, is_temp_ttl, seeks_key};
 
 use crate::asking::{asking_of, asks_lives, asks_why};
 use crate::commands::whole_command;
 use crate::import::{asks_import, import};
-use crate::opening::{asks_open, brings, opening_of};
+use crate::opening::{OpeningWords, asks_open, opening_of, opening_words};
 use crate::reporting::{asks_report, reporting_of};
-pub use asking::{AskedLogs, GoneAsked, WhyAsked};
+pub use asking::{AskedLogs, GoneAsked, TopAsked, WhyAsked};
 use clap::error::ErrorKind;
 use clap::{ArgMatches, Error};
 pub use csv::CsvImport;
@@ -32,6 +34,8 @@ pub use opening::{CsvOpening, Manner, Opening, WatchOpening};
 pub use reporting::{Played, Reporting, WhatIf};
 use rev_classes::Config;
 use rev_script::dialect::Dialect;
+pub use ruled::{AskedRows, AskedTraces, GoneTraces, WhyTraces};
+pub use sampled::AskedSample;
 pub use standing::{KEPT, Standing, Until};
 pub use state::StateImport;
 use std::alloc::{AllocError, Global};
@@ -88,6 +92,12 @@ pub enum Request {
     Why(WhyAsked),
     /// Tell from logs which keys left.
     Gone(GoneAsked),
+    /// Tell from traces what became of keys.
+    WhyTraces(WhyTraces),
+    /// Tell from traces which keys left.
+    GoneTraces(GoneTraces),
+    /// Tell from logs where the cache's room goes.
+    Top(TopAsked),
 }
 
 /// Why there is no request.
@@ -153,7 +163,7 @@ fn run(alloc: Global, matches: &ArgMatches<'_>) -> Result<Request, Error>
     ensures range { IfOk result IsInRange }
     ensures words { IfOk result (IsOfWords false) }
     ensures opens { IfOk result (OpensBy false) }
-    ensures brings { IfOk result (BringsBy false) }
+    ensures brings { IfOk result (BringsBy false false) }
     ensures runs { IfOk result (RunsBy true) }
     ensures reports { IfOk result (ReportsBy false) }
     ensures lives { IfOk result (LivesBy false false) }
@@ -210,7 +220,7 @@ fn recording(alloc: Global, matches: &ArgMatches<'_>) -> Result<Request, Error>
     ensures range { IfOk result IsInRange }
     ensures words { IfOk result (IsOfWords false) }
     ensures opens { IfOk result (OpensBy false) }
-    ensures brings { IfOk result (BringsBy false) }
+    ensures brings { IfOk result (BringsBy false false) }
     ensures runs { IfOk result (RunsBy false) }
     ensures reports { IfOk result (ReportsBy false) }
     ensures lives { IfOk result (LivesBy false false) }
@@ -235,19 +245,19 @@ fn recording(alloc: Global, matches: &ArgMatches<'_>) -> Result<Request, Error>
 }
 
 // What the words ask for other than a run, by the parser's reading of them, or the parser's error. Whether the first
-// word says `import` or `open`, and whether one names what `open` is to import, is told apart, since the parser's
-// contracts do not say so.
+// word says `import` or `open`, and what the words say of an opening, is told apart, since the parser's contracts do not
+// say so.
 fn other_request(
     alloc: Global,
     matches: &ArgMatches<'_>,
     asks_import: bool,
     asks_open: bool,
-    brings: bool,
+    said: OpeningWords,
 ) -> Result<Request, Error>
     ensures range { IfOk result IsInRange }
     ensures words { IfOk result (IsOfWords asks_import) }
     ensures opens { IfOk result (OpensBy asks_open) }
-    ensures brings { IfOk result (BringsBy brings) }
+    ensures brings { IfOk result (BringsBy said.brings said.seeks_key) }
     ensures runs { IfOk result (RunsBy false) }
     ensures reports { IfOk result (ReportsBy false) }
     ensures lives { IfOk result (LivesBy false false) }
@@ -262,7 +272,7 @@ fn other_request(
     }
     if asks_open {
         if let Some(inner) = matches.subcommand_matches("open") {
-            return opening_of(alloc, inner, brings);
+            return opening_of(alloc, inner, said);
         }
     }
     Err(fault(alloc, ErrorKind::MissingSubcommand, "run"))
@@ -273,7 +283,7 @@ fn run_request(alloc: Global, matches: &ArgMatches<'_>) -> Result<Request, Error
     ensures range { IfOk result IsInRange }
     ensures words { IfOk result (IsOfWords false) }
     ensures opens { IfOk result (OpensBy false) }
-    ensures brings { IfOk result (BringsBy false) }
+    ensures brings { IfOk result (BringsBy false false) }
     ensures runs { IfOk result (RunsBy true) }
     ensures reports { IfOk result (ReportsBy false) }
     ensures lives { IfOk result (LivesBy false false) }
@@ -289,7 +299,7 @@ fn report_request(alloc: Global, matches: &ArgMatches<'_>) -> Result<Request, Er
     ensures range { IfOk result IsInRange }
     ensures words { IfOk result (IsOfWords false) }
     ensures opens { IfOk result (OpensBy false) }
-    ensures brings { IfOk result (BringsBy false) }
+    ensures brings { IfOk result (BringsBy false false) }
     ensures runs { IfOk result (RunsBy false) }
     ensures reports { IfOk result (ReportsBy true) }
     ensures lives { IfOk result (LivesBy false false) }
@@ -307,7 +317,7 @@ fn request_of(
     matches: &ArgMatches<'_>,
     asks_import: bool,
     asks_open: bool,
-    brings: bool,
+    said: OpeningWords,
     asks_run: bool,
     asks_report: bool,
 ) -> Result<Request, Error>
@@ -315,7 +325,7 @@ fn request_of(
     ensures range { IfOk result IsInRange }
     ensures words { IfOk result (IsOfWords asks_import) }
     ensures opens { IfOk result (OpensBy asks_open) }
-    ensures brings { IfOk result (BringsBy brings) }
+    ensures brings { IfOk result (BringsBy said.brings said.seeks_key) }
     ensures runs { IfOk result (RunsBy asks_run) }
     ensures reports { IfOk result (ReportsBy asks_report) }
     ensures lives { IfOk result (LivesBy false false) }
@@ -325,7 +335,7 @@ fn request_of(
     } else if asks_report {
         report_request(alloc, matches)
     } else {
-        other_request(alloc, matches, asks_import, asks_open, brings)
+        other_request(alloc, matches, asks_import, asks_open, said)
     }
 }
 
@@ -344,7 +354,7 @@ fn parsed<S: AsStr>(alloc: Global, words: &[S]) -> Result<Request, Error>
     ensures range { IfOk result IsInRange }
     ensures words { IfOk result (IsOfWords (asks_import (map S.text words.now))) }
     ensures opens { IfOk result (OpensBy (asks_open (map S.text words.now))) }
-    ensures brings { IfOk result (BringsBy (brings (map S.text words.now))) }
+    ensures brings { IfOk result (BringsBy (brings (map S.text words.now)) (seeks_key (map S.text words.now))) }
     ensures runs { IfOk result (RunsBy (asks_run (map S.text words.now))) }
     ensures reports { IfOk result (ReportsBy (asks_report (map S.text words.now))) }
     ensures lives { IfOk result (LivesBy (asks_lives (map S.text words.now)) (asks_why (map S.text words.now))) }
@@ -358,7 +368,7 @@ fn parsed<S: AsStr>(alloc: Global, words: &[S]) -> Result<Request, Error>
             &matches,
             asks_import(words),
             asks_open(words),
-            brings(words),
+            opening_words(words),
             asks_run(words),
             asks_report(words),
         )
@@ -379,14 +389,14 @@ fn told(alloc: Global, error: Error) -> Refused {
 ///
 /// Words that ask for nothing that there is are refused with the parser's text, and so is a wish for help; a want of
 /// memory is told apart. An import is asked for by the first word `import` alone, an opening by `open`, a run by `run`,
-/// a report by `report`, the lives of keys by `why`, and the keys that left by `gone`. An opening imports only where a
-/// word begins with `--watch` or `--csv`. Whether a store can be opened with the numbers is `rev_classes::fault_of`'s
-/// to say.
+/// a report by `report`, the lives of keys by `why`, the keys that left by `gone`, and where the room goes by `top`. An
+/// opening imports only where a word begins with `--watch` or `--csv`, and looks for a key's leaving only where one begins with `--until-gone`.
+/// Whether a store can be opened with the numbers is `rev_classes::fault_of`'s to say.
 pub fn parse_words<S: AsStr>(alloc: Global, words: &[S]) -> Result<Request, Refused>
     ensures range { IfOk result IsInRange }
     ensures words { IfOk result (IsOfWords (asks_import (map S.text words.now))) }
     ensures opens { IfOk result (OpensBy (asks_open (map S.text words.now))) }
-    ensures brings { IfOk result (BringsBy (brings (map S.text words.now))) }
+    ensures brings { IfOk result (BringsBy (brings (map S.text words.now)) (seeks_key (map S.text words.now))) }
     ensures runs { IfOk result (RunsBy (asks_run (map S.text words.now))) }
     ensures reports { IfOk result (ReportsBy (asks_report (map S.text words.now))) }
     ensures lives { IfOk result (LivesBy (asks_lives (map S.text words.now)) (asks_why (map S.text words.now))) }

@@ -1,12 +1,13 @@
 //! The words of `lrudb open`.
 ghost use Rattle.std.specs.Prelude.{◌≡◌, map, true, false, IfOk, IfSome};
-ghost use Rattle.rev_options.specs.Request.{IsInRange, IsLife, IsOfWords, asks_open, OpensBy, BringsBy, ReportsBy, RunsBy, LivesBy, begins_with, brings, is_temp_ttl};
+ghost use Rattle.rev_options.specs.Request.{IsInRange, IsLife, IsOfWords, asks_open, OpensBy, BringsBy, ReportsBy, RunsBy, LivesBy, begins_with, brings, is_temp_ttl, seeks_key, sought_key};
 
 use crate::asking::life_of;
 use crate::csv::sample_of;
 use crate::import::{STANDARD, factor_of, required, rhythm_of};
 use crate::leader::{Leader, leader_of};
-use crate::standing::{Standing, standing_of, stands_at_end};
+use crate::sampled::{AskedSample, led_sample, says_nothing_of_logs, takes_all};
+use crate::standing::{Standing, standing_of};
 use crate::{Request, config_of, dialect_of, fault, files_of};
 use clap::error::ErrorKind;
 use clap::{ArgMatches, Error};
@@ -56,6 +57,8 @@ pub struct WatchOpening {
     pub life: Option<u32>,
     /// Where the session stands, where that is asked for.
     pub standing: Option<Standing>,
+    /// Which keys are replayed, where the log leads.
+    pub sampled: AskedSample,
 }
 
 /// Published traces to look around in: what they become is played as they are read.
@@ -71,6 +74,15 @@ pub struct CsvOpening {
     pub rhythm: Rhythm,
     /// Which keys are taken, of how many.
     pub sample: Sample,
+}
+
+/// What the words say of an opening, and the parser's contracts do not.
+#[derive(Clone, Copy)]
+pub struct OpeningWords {
+    /// Whether one names what is to be imported.
+    pub brings: bool,
+    /// Whether one asks for the place where a key is gone.
+    pub seeks_key: bool,
 }
 
 /// Whether the first word says `open`.
@@ -101,7 +113,32 @@ pub fn brings<S: AsStr>(words: &[S]) -> bool
     false
 }
 
+/// Whether a word asks for the place where a key is gone: it begins with `--until-gone`.
+pub fn seeks_key<S: AsStr>(words: &[S]) -> bool
+    ensures { result ≡ seeks_key (map S.text words.now) }
+{
+    for word in words {
+        if begins_with(word.as_str(), "--until-gone") {
+            return true;
+        }
+    }
+    false
+}
+
+/// What words say of an opening.
+pub fn opening_words<S: AsStr>(words: &[S]) -> OpeningWords
+    ensures brings { result.brings ≡ brings (map S.text words.now) }
+    ensures seeks { result.seeks_key ≡ seeks_key (map S.text words.now) }
+{
+    OpeningWords {
+        brings: brings(words),
+        seeks_key: seeks_key(words),
+    }
+}
+
 const NO_STANDARD: &str = "open: - is no trace, since the session is read from the standard input";
+
+const NO_SAMPLE: &str = "--sample is for --watch LOG and --csv TRACE";
 
 fn has_standard(names: &Vec<String>) -> bool {
     names.iter().any(|name| name.as_str() == STANDARD)
@@ -136,6 +173,7 @@ pub(crate) fn watch_opening(
     manner: Manner,
     logs: Vec<String>,
     standing: Option<Standing>,
+    sampled: AskedSample,
 ) -> Result<WatchOpening, Error>
     ensures life { IfOk result (λ asked. IsLife asked.life) }
     ensures standing { IfOk result (λ asked. asked.standing ≡ standing) }
@@ -149,6 +187,7 @@ pub(crate) fn watch_opening(
         manner,
         logs,
         standing,
+        sampled,
     })
 }
 
@@ -170,12 +209,17 @@ pub(crate) fn csv_opening(
     })
 }
 
-// What is to be imported by the words, where something is, or the parser's error.
-fn brought(alloc: Global, matches: &ArgMatches<'_>) -> Result<Option<Request>, Error>
+// What is to be imported by the words, where something is, or the parser's error. They may ask for the place where a key
+// is gone.
+fn brought(
+    alloc: Global,
+    matches: &ArgMatches<'_>,
+    seeks_key: bool,
+) -> Result<Option<Request>, Error>
     ensures range { IfOk result (λ asked. IfSome asked IsInRange) }
     ensures words { IfOk result (λ asked. IfSome asked (IsOfWords false)) }
     ensures opens { IfOk result (λ asked. IfSome asked (OpensBy true)) }
-    ensures brings { IfOk result (λ asked. IfSome asked (BringsBy true)) }
+    ensures brings { IfOk result (λ asked. IfSome asked (BringsBy true seeks_key)) }
     ensures runs { IfOk result (λ asked. IfSome asked (RunsBy false)) }
     ensures reports { IfOk result (λ asked. IfSome asked (ReportsBy false)) }
     ensures lives { IfOk result (λ asked. IfSome asked (LivesBy false false)) }
@@ -183,11 +227,12 @@ fn brought(alloc: Global, matches: &ArgMatches<'_>) -> Result<Option<Request>, E
     let manner = manner_of(matches);
     let logs = named(alloc, matches, "watch", NO_STANDARD)?;
     if !logs.is_empty() {
-        let standing = standing_of(alloc, matches)?;
-        let asked = watch_opening(alloc, matches, manner, logs, standing)?;
+        let standing = standing_of(alloc, matches, seeks_key)?;
+        let sampled = led_sample(alloc, matches)?;
+        let asked = watch_opening(alloc, matches, manner, logs, standing, sampled)?;
         return Ok(Some(Request::OpenWatch(asked)));
     }
-    stands_at_end(alloc, matches)?;
+    says_nothing_of_logs(alloc, matches)?;
     let traces = named(alloc, matches, "csv", NO_STANDARD)?;
     if !traces.is_empty() {
         let asked = csv_opening(alloc, matches, manner, traces)?;
@@ -196,23 +241,28 @@ fn brought(alloc: Global, matches: &ArgMatches<'_>) -> Result<Option<Request>, E
     Ok(None)
 }
 
-/// The session that the words ask for, or the parser's error. Whether a word names what is to be imported is told
-/// apart, since the parser's contracts do not say so.
-pub fn opening_of(alloc: Global, matches: &ArgMatches<'_>, brings: bool) -> Result<Request, Error>
+/// The session that the words ask for, or the parser's error. What the words say is told apart, since the parser's
+/// contracts do not say so.
+pub fn opening_of(
+    alloc: Global,
+    matches: &ArgMatches<'_>,
+    said: OpeningWords,
+) -> Result<Request, Error>
     ensures range { IfOk result IsInRange }
     ensures words { IfOk result (IsOfWords false) }
     ensures opens { IfOk result (OpensBy true) }
-    ensures brings { IfOk result (BringsBy brings) }
+    ensures brings { IfOk result (BringsBy said.brings said.seeks_key) }
     ensures runs { IfOk result (RunsBy false) }
     ensures reports { IfOk result (ReportsBy false) }
     ensures lives { IfOk result (LivesBy false false) }
 {
-    if brings {
-        if let Some(asked) = brought(alloc, matches)? {
+    if said.brings {
+        if let Some(asked) = brought(alloc, matches, said.seeks_key)? {
             return Ok(asked);
         }
     }
-    stands_at_end(alloc, matches)?;
+    says_nothing_of_logs(alloc, matches)?;
+    takes_all(alloc, matches, NO_SAMPLE)?;
     Ok(Request::Open(Opening {
         config: config_of(matches),
         manner: manner_of(matches),

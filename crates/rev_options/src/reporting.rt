@@ -6,6 +6,7 @@ use crate::import::{STANDARD, factor, given, number, required};
 use crate::opening::{
     CsvOpening, Manner, Opening, WatchOpening, csv_opening, named, watch_opening,
 };
+use crate::sampled::{no_sample, takes_all};
 use crate::{Request, config_of, dialect_of, fault, files_of};
 use clap::error::ErrorKind;
 use clap::{ArgMatches, Error};
@@ -62,6 +63,8 @@ pub(crate) fn asks_report<S: AsStr>(words: &[S]) -> bool
 
 const NO_STANDARD: &str = "report: - is no trace, since nothing is read from the standard input";
 
+const NO_SAMPLE: &str = "--sample: report takes one of --csv TRACE alone";
+
 // What is played by the words, or the parser's error.
 fn played_of(alloc: Global, matches: &ArgMatches<'_>) -> Result<Played, Error>
     ensures { IfOk result IsPlayedInRange }
@@ -73,7 +76,8 @@ fn played_of(alloc: Global, matches: &ArgMatches<'_>) -> Result<Played, Error>
     };
     let logs = named(alloc, matches, "watch", NO_STANDARD)?;
     if !logs.is_empty() {
-        let asked = watch_opening(alloc, matches, manner, logs, None)?;
+        takes_all(alloc, matches, NO_SAMPLE)?;
+        let asked = watch_opening(alloc, matches, manner, logs, None, no_sample(alloc))?;
         return Ok(Played::Logs(asked));
     }
     let rows = named(alloc, matches, "csv", NO_STANDARD)?;
@@ -201,7 +205,7 @@ pub(crate) fn reporting_of(alloc: Global, matches: &ArgMatches<'_>) -> Result<Re
     ensures range { IfOk result IsInRange }
     ensures words { IfOk result (IsOfWords false) }
     ensures opens { IfOk result (OpensBy false) }
-    ensures brings { IfOk result (BringsBy false) }
+    ensures brings { IfOk result (BringsBy false false) }
     ensures runs { IfOk result (RunsBy false) }
     ensures reports { IfOk result (ReportsBy true) }
     ensures lives { IfOk result (LivesBy false false) }

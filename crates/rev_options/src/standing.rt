@@ -1,6 +1,6 @@
 //! Where a session on logs that lead stands.
-ghost use Rattle.std.specs.Prelude.{IfOk, IfSome};
-ghost use Rattle.rev_options.specs.Request.{IsKept, IsStanding};
+ghost use Rattle.std.specs.Prelude.{◌≡◌, None, IfOk, IfSome, true};
+ghost use Rattle.rev_options.specs.Request.{IsKept, IsStanding, key_until, sought_key};
 
 use crate::fault;
 use crate::import::{given, number};
@@ -36,7 +36,9 @@ pub struct Standing {
 }
 
 // The place of this text, if it is one.
-fn place_of(text: &str) -> Option<Until> {
+fn place_of(text: &str) -> Option<Until>
+    ensures { IfSome result (λ until. key_until until ≡ None) }
+{
     match text {
         "end" => Some(Until::End),
         _ => match text.strip_prefix("@") {
@@ -46,10 +48,18 @@ fn place_of(text: &str) -> Option<Until> {
     }
 }
 
-// The place that the words ask for, where they ask for one, or the parser's error.
-fn until_of(alloc: Global, matches: &ArgMatches<'_>) -> Result<Option<Until>, Error> {
-    if let Some(key) = given(alloc, matches, "until-gone")? {
-        return Ok(Some(Until::Gone(key)));
+// The place that the words ask for, where they ask for one, or the parser's error. They may ask for one of a key.
+fn until_of(
+    alloc: Global,
+    matches: &ArgMatches<'_>,
+    seeks_key: bool,
+) -> Result<Option<Until>, Error>
+    ensures { IfOk result (λ until. IfSome until (λ place. IfSome (key_until place) (λ key. seeks_key ≡ true))) }
+{
+    if seeks_key {
+        if let Some(key) = given(alloc, matches, "until-gone")? {
+            return Ok(Some(Until::Gone(key)));
+        }
     }
     match matches.get_str("until") {
         None => Ok(None),
@@ -80,15 +90,18 @@ fn keep_of(alloc: Global, matches: &ArgMatches<'_>) -> Result<u32, Error>
     }
 }
 
-/// Where the session stands by the words, where they say it, or the parser's error.
+/// Where the session stands by the words, where they say it, or the parser's error. They may ask for the place where a
+/// key is gone.
 pub(crate) fn standing_of(
     alloc: Global,
     matches: &ArgMatches<'_>,
+    seeks_key: bool,
 ) -> Result<Option<Standing>, Error>
-    ensures { IfOk result (λ standing. IfSome standing IsStanding) }
+    ensures range { IfOk result (λ standing. IfSome standing IsStanding) }
+    ensures seeks { IfOk result (λ standing. IfSome (sought_key standing) (λ key. seeks_key ≡ true)) }
 {
     let keep = keep_of(alloc, matches)?;
-    match until_of(alloc, matches)? {
+    match until_of(alloc, matches, seeks_key)? {
         Some(until) => Ok(Some(Standing { until, keep })),
         None if matches.get_str("keep").is_some() => Err(fault(
             alloc,

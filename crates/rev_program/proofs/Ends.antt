@@ -1,10 +1,14 @@
 -- What the status tells of how the program ended.
-use Rattle.std.proofs.Common.{◌≡◌, ◌≢◌, ◌≤◌, inl, inr, ℕ, Bool, true, false, ◌&&◌, List, [], Option, None, Some, String, Result, Ok, Err, IfErr, MatchResult, refl, sym, ◌∙◌, append-nil, arith}
+use Rattle.std.proofs.Common.{◌≡◌, ◌≢◌, ◌≤◌, inl, inr, ℕ, Bool, true, false, ◌&&◌, List, [], Option, None, Some, IfSome, String, Result, Ok, Err, IfErr, MatchResult, refl, sym, subst, ◌∙◌, append-nil, arith}
 use Rattle.std.specs.declared.alloc.Global.{Global}
 use Rattle.std.specs.Io.KnownBytes.{Keeps, Appends}
 use Rattle.rev_program.specs.Opening.{IsNoted, full_text}
+use Rattle.rev_options.specs.Request.{OpensBy, BringsBy, sought_key}
+use Rattle.rev_options.specs.declared.Request.{Request}
+use Rattle.rev_options.specs.declared.Request.TheVariants.{OpenWatch}
+use Rattle.rev_options.specs.declared.opening.WatchOpening.{WatchOpening}
 use Rattle.rev_messages.specs.Ends.{StopsBy, EndsPlainly, IsStatus}
-use Rattle.rev_program.specs.Program.{EndsAsked, EndsEarly, EndsBehind, EndsNoted, EndsUnwritten}
+use Rattle.rev_program.specs.Program.{EndsAsked, EndsEarly, EndsBehind, EndsNoted, EndsPlaced, EndsSought, EndsUnwritten}
 use Rattle.rev_script.specs.declared.dialect.Dialect.{Dialect}
 use Rattle.rev_recordings.specs.Recordings.{HasNoRows}
 use Rattle.rev_messages.specs.Stop as stop
@@ -81,11 +85,28 @@ behind_of told tells before after n h = plainly told tells before after n h.quie
 pub noted_plainly : (told tells : Option (List ℕ)) (before after n : ℕ) → EndsPlainly told tells before after n → EndsNoted told tells before after n
 noted_plainly told tells before after n h = noted_of told tells before after n (behind_of told tells before after n h)
 
--- no place is looked for where `open` is not asked for, or imports nothing
-pub no_place : (asks brings : Bool) → asks ≡ true → brings ≡ true → (asks && brings) ≡ false → ⊥
-no_place true true e f h = absurd (let x : true ≡ false = h in cc)
-no_place true false e f h = absurd (let x : false ≡ true = f in cc)
-no_place false brings e f h = absurd (let x : false ≡ true = e in cc)
+-- a key is to be gone only where all three say so
+pub sought_by : (asks brings seeks : Bool) (sought : Option (List ℕ)) → asks ≡ true → brings ≡ true → IfSome sought (λ key. seeks ≡ true) → IfSome sought (λ key. (asks && (brings && seeks)) ≡ true)
+sought_by asks brings seeks None a b h = tt
+sought_by asks brings seeks (Some key) a b h = rw (a, b, h) refl
+
+-- what logs are opened for is asked for by words, and so is a key that is to be gone
+pub sought_watch : (asks brings seeks : Bool) (asked : WatchOpening) (r : Request) → r ≡ OpenWatch asked → OpensBy asks r → BringsBy brings seeks r →
+    IfSome (sought_key asked.standing) (λ key. (asks && (brings && seeks)) ≡ true)
+sought_watch asks brings seeks asked r is opens brought =
+    let o : OpensBy asks (OpenWatch asked) = subst (λ q. OpensBy asks q) is opens in
+    let b : BringsBy brings seeks (OpenWatch asked) = subst (λ q. BringsBy brings seeks q) is brought in
+    sought_by asks brings seeks (sought_key asked.standing) o b.0 b.1
+
+-- no key is to be gone, and the program ended as any other
+pub sought_none : (seeks : Bool) (told tells : Option (List ℕ)) (before after n : ℕ) → IsStatus n → EndsNoted told tells before after n → EndsSought seeks told tells before after n
+sought_none seeks told tells before after n status ends = (None, tt, inl (status, ends))
+
+-- where no word seeks a key it did
+pub not_sought : (seeks : Bool) (sought told tells : Option (List ℕ)) (before after n : ℕ) → seeks ≡ false → IfSome sought (λ key. seeks ≡ true) → EndsPlaced sought told tells before after n → IsStatus n × EndsNoted told tells before after n
+not_sought seeks None told tells before after n none h (inl x) = x
+not_sought seeks None told tells before after n none h (inr x) = absurd (let e : None ≡ Some x.1.1.key = x.1.1.is_sought in cc)
+not_sought seeks (Some key) told tells before after n none h x = absurd (let e : true ≡ false = sym h ∙ none in cc)
 
 -- a program that is stopped ends with neither 0 nor 1
 pub stop_status : (s : Stop) → 2 ≤ stop.status s

@@ -1,4 +1,5 @@
 mod Ends
+mod Places
 mod Traced
 mod Tallies
 mod Running

@@ -10,10 +10,10 @@ use Rattle.rev_script.specs.Exchange.{PlainExchange, exchange_at, told_in}
 use Rattle.rev_script.specs.declared.dialect.Dialect.{Dialect}
 use Rattle.rev_script.specs.declared.source.LastRead.TheVariants.{Gave}
 use Rattle.rev_output.specs.Sink.{PlainSink, sink_at}
-use Rattle.rev_output.specs.Outbox.{PlainOutbox, known_since, contents}
+use Rattle.rev_output.specs.Outbox.{known_since, contents}
 use Rattle.rev_shell.specs.Answers.{BookmarkedSession}
 use Rattle.rev_evidence.specs.Notes.{no_notes}
-use Rattle.rev_shell.specs.Run.{Because, IsDone, IsLeft, IsStopped, without_bookmarks}
+use Rattle.rev_shell.specs.Run.{Because, IsDone, IsStopped, without_bookmarks}
 use Rattle.rev_shell.specs.declared.run.Prompts.{Prompts}
 use Rattle.rev_shell.specs.declared.run.Prompts.TheVariants.{Hidden}
 use Rattle.rev_shell.specs.declared.run.RunFault.{RunFault}
@@ -23,7 +23,7 @@ use Rattle.rev_json.specs.Told.{IsTold, IsStoppedTelling}
 use Rattle.rev_messages.specs.declared.stop.Stop.{Stop}
 use Rattle.rev_messages.specs.Ends.{StopsBy}
 use Rattle.rev_program.specs.Program.{IsCounted}
-use Rattle.rev_program.specs.Running.{HasDone, HasFaulted, HasEnded, Stops, HasRun, HasStopped, HasRunBehind, HasStoppedBehind, StopsBehind, Reaches, Answers, AnswersSome, AnswersLess, AnswersNamed, StopsNamed, HaveNames, EndsAnswering}
+use Rattle.rev_program.specs.Running.{HasDone, HasEnded, Stops, HasRun, HasStopped, HasRunBehind, StopsBehind, Answers, AnswersLess, AnswersNamed, StopsNamed, HaveNames, EndsAnswering}
 
 -- ---- what is known of the writer
 

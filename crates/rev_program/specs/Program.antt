@@ -1,8 +1,8 @@
 -- How the program may end.
 -- Rule of this project: what its user is told, and when nothing.
-use Rattle.std.specs.Prelude.{◌≡◌, ◌≢◌, ◌≤◌, ◌⊎◌, ℕ, Bool, ◌&&◌, List, [], ◌∷◌, Option, cond, nat_eq, codes, decimal}
+use Rattle.std.specs.Prelude.{◌≡◌, ◌≢◌, ◌≤◌, ◌⊎◌, ℕ, Bool, ◌&&◌, true, List, [], ◌∷◌, Option, IfSome, cond, nat_eq, codes, decimal}
 use Rattle.std.specs.Io.KnownBytes.{Keeps}
-use Rattle.rev_options.specs.Request.{asks_open, brings}
+use Rattle.rev_options.specs.Request.{asks_open, brings, seeks_key}
 use Rattle.rev_recordings.specs.Fault as fault
 use Rattle.rev_messages.specs.Ends.{IsStatus, StopsBy}
 use Rattle.rev_messages.specs.Telling.{Told, joined}
@@ -12,6 +12,7 @@ use Rattle.rev_recordings.specs.declared.fault.RecordingFault.{RecordingFault}
 use Rattle.rev_recordings.specs.declared.fault.RecordingFault.TheVariants.{CannotWrite}
 use Rattle.rev_messages.specs.declared.stop.Stop.{Stop}
 use Rattle.rev_program.specs.Opening.{IsNoted}
+use Rattle.rev_program.specs.Placed.{TellsNever}
 use Rattle.rev_program.specs.declared.opening.Full.{Full}
 
 -- a recording ended so: this is the status, and the user was told why
@@ -42,15 +43,21 @@ pub record EndsNoted (told tells : Option (List ℕ)) (before after : ℕ) (resu
   pub quiet : result ≡ 0 → Keeps between tells
   pub early : result ≢ 0 → EndsEarly between tells failures after result
 
--- `open` is asked for, of what it imports: only there a place may be looked for
+-- `open` is asked for, of what it imports, at the place where a key is gone
 abbrev pub seeks : List (List ℕ) → Bool
-seeks words = asks_open words && brings words
+seeks words = asks_open words && (brings words && seeks_key words)
 
--- logs were opened: as above, or a key is asked for that never left, which was told behind what may have been told of the
--- logs, and nothing else
-abbrev pub EndsPlaced : Option (List ℕ) → Option (List ℕ) → ℕ → ℕ → ℕ → Type 0
-EndsPlaced told tells before after result =
-    (IsStatus result × EndsNoted told tells before after result) ⊎ ((result ≡ 1) × ((notes : List ℕ) × Told told tells before after notes))
+-- logs were opened, where this key is to be gone, if there is one: as above; or it never left, which was told behind what
+-- may have been told of the logs, and nothing else
+abbrev pub EndsPlaced : Option (List ℕ) → Option (List ℕ) → Option (List ℕ) → ℕ → ℕ → ℕ → Type 0
+EndsPlaced sought told tells before after result =
+    (IsStatus result × EndsNoted told tells before after result)
+    ⊎ ((result ≡ 1) × ((text : List ℕ) × TellsNever sought text × Told told tells before after text))
+
+-- the same of words: a key is to be gone only where they seek one
+abbrev pub EndsSought : Bool → Option (List ℕ) → Option (List ℕ) → ℕ → ℕ → ℕ → Type 0
+EndsSought seeks told tells before after result =
+    (sought : Option (List ℕ)) × IfSome sought (λ key. seeks ≡ true) × EndsPlaced sought told tells before after result
 
 -- ended early as above, and nothing was written but where a write failed
 abbrev pub EndsUnwritten : Option (List ℕ) → Option (List ℕ) → ℕ → ℕ → ℕ → Option (List ℕ) → Option (List ℕ) → Type 0

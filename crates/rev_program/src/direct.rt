@@ -1,11 +1,14 @@
 //! `lrudb open` of logs and of published traces: what logs lead to, or what an import would write, is played as they
 //! are read, and then a session is answered.
-ghost use Rattle.std.specs.Prelude.{IfSome};
+ghost use Rattle.std.specs.Prelude.{IfOk, IfSome};
 ghost use Rattle.rev_classes.specs.Limits.{IsWithinLimits, fault_of};
 ghost use Rattle.rev_messages.specs.Ends.{IsStatus, StopsBy};
 ghost use Rattle.rev_messages.specs.Stop.{stop_of_config};
+ghost use Rattle.rev_options.specs.Request.{sought_key};
+ghost use Rattle.rev_program.specs.Placed.{IsPlacedBy};
 ghost use Rattle.rev_program.specs.Program.{EndsNoted, EndsPlaced};
 
+use crate::lives::{keep_word, sampling_of};
 use crate::opening::{Full, answer, told_files};
 use crate::placed::{LedLogs, Opened, Placed, from_begin, placed_on, unled};
 use crate::starts::started;
@@ -28,12 +31,14 @@ use rev_messages::ends::ended;
 use rev_messages::opened::{OpenedAt, put_opened, put_opened_object};
 use rev_messages::progress::Progress;
 use rev_messages::telling::tell_bytes;
-use rev_options::{CsvOpening, Leader, Manner, WatchOpening};
+use rev_options::{CsvOpening, Leader, Manner, Standing, Until, WatchOpening};
 use rev_output::Sink;
 use rev_plays::trace::{TraceEnd, play_trace};
 use rev_pushers::times::{micros, seconds_text};
 use rev_replay::coverage::Coverage;
+use rev_replay::grown::Server;
 use rev_replay::keeping::Place;
+use rev_replay::sampling::Sampling;
 use rev_script::dialect::Dialect;
 use rev_script::source::FromRead;
 use rev_undotree::Session;
@@ -226,13 +231,37 @@ pub(crate) fn add_end(
     )
 }
 
-// The logs that are asked for, which lead, of a server with this setup.
-fn led<'a>(setup: &'a Setup, coverage: Coverage, asked: &'a WatchOpening) -> LedLogs<'a>
+// The sample that is asked for, where one is. The key whose leaving is looked for is in it.
+fn sampling_for(alloc: Global, asked: &WatchOpening) -> Result<Option<Sampling<Global>>, Stop> {
+    match sampling_of(alloc, asked.sampled.sample, asked.sampled.kept.as_slice())? {
+        None => Ok(None),
+        Some(mut sampling) => {
+            if let Some(
+                Standing {
+                    until: Until::Gone(word),
+                    ..
+                },
+            ) = &asked.standing
+            {
+                keep_word(alloc, &mut sampling, word.as_str())?;
+            }
+            Ok(Some(sampling))
+        }
+    }
+}
+
+// The logs that are asked for, which lead, of a server with this setup, and the sample of them.
+fn led<'a>(
+    setup: &'a Setup,
+    coverage: Coverage,
+    sampling: &'a Option<Sampling<Global>>,
+    asked: &'a WatchOpening,
+) -> LedLogs<'a>
     requires { IsWithinLimits setup.now.config }
 {
     LedLogs {
-        setup,
-        coverage,
+        server: Server { setup, coverage },
+        sampling: sampling.as_ref(),
         dialect: asked.manner.dialect,
         starts: asked.starts.as_slice(),
         names: asked.logs.as_slice(),
@@ -257,9 +286,10 @@ pub(crate) fn with_logs<R: Files + AllocGlobal, C: Clock, W: Sink>(
                 anyway,
                 notes,
             )?;
+            let sampling = sampling_for(rt.alloc(), &asked)?;
             match from_begin(
                 rt,
-                &led(&setup, coverage, &asked),
+                &led(&setup, coverage, &sampling, &asked),
                 asked.life,
                 notes,
                 progress,
@@ -272,12 +302,15 @@ pub(crate) fn with_logs<R: Files + AllocGlobal, C: Clock, W: Sink>(
 }
 
 // The session on the logs at the place that is asked for, if it is there.
+#[tactic(auto, using(crate::proofs::Places::placed_by_log))]
 fn placed_as<R: Files + AllocGlobal, C: Clock, W: Sink>(
     rt: &R,
     asked: WatchOpening,
     notes: &mut Vec<u8>,
     progress: &Progress<C, W>,
-) -> Result<Placed, Stop> {
+) -> Result<Placed, Stop>
+    ensures { IfOk result (λ placed. IsPlacedBy asked.leader asked.standing notes.new.items placed) }
+{
     match asked.leader {
         Leader::Rules(rhythm) => match with_rules(rt, asked, rhythm, notes, progress) {
             Err(stop) => Err(stop),
@@ -291,7 +324,8 @@ fn placed_as<R: Files + AllocGlobal, C: Clock, W: Sink>(
                 anyway,
                 notes,
             )?;
-            let logs = led(&setup, coverage, &asked);
+            let sampling = sampling_for(rt.alloc(), &asked)?;
+            let logs = led(&setup, coverage, &sampling, &asked);
             placed_on(rt, &logs, asked.life, &asked.standing, notes, progress)
         }
     }
@@ -414,7 +448,7 @@ pub fn open_watch<
     errors: &mut E,
     progress: &Progress<C, W>,
 ) -> u8
-    ensures { EndsPlaced (E.contents errors.old) (E.contents errors.new) (E.failures errors.old) (E.failures errors.new) result }
+    ensures { EndsPlaced (sought_key asked.standing) (E.contents errors.old) (E.contents errors.new) (E.failures errors.old) (E.failures errors.new) result }
 {
     let manner = asked.manner;
     let mut notes = Vec::new(rt.alloc());

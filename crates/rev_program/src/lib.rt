@@ -9,8 +9,10 @@ pub mod opening;
 mod placed;
 pub mod program;
 pub mod report;
+pub mod ruled;
 mod starts;
 mod stopping;
+mod top;
 mod trials;
 
 pub use rev_messages::Stop;

@@ -6,11 +6,11 @@ ghost use Rattle.rev_evidence.specs.Words.{reason_word};
 ghost use Rattle.rev_messages.specs.Ends.{IsStatus};
 ghost use Rattle.rev_program.specs.Program.{EndsAsked};
 
-use rev_choices::Loss;
+use rev_choices::{Loss, Sample};
 use rev_evidence::verdict::Reason;
-use rev_import::setup::Setup;
+use rev_import::setup::MOST_PAGES;
 use rev_import_commands::import::{all_opened, name_in, text_of};
-use rev_import_commands::leading::{leading_setup, stop_of_replay};
+use rev_import_commands::leading::{LeadingServer, leading_server, stop_of_replay};
 use rev_import_commands::state::bad_file;
 use rev_items::{Key, KeyFault};
 use rev_lives::tell::{Found, LivesAsked, tell_gone, tell_lives};
@@ -22,8 +22,9 @@ use rev_messages::telling::tell_bytes;
 use rev_options::{AskedLogs, GoneAsked, WhyAsked};
 use rev_output::Sink;
 use rev_output::outbox::{Outbox, Room};
-use rev_replay::coverage::Coverage;
 use rev_replay::fault::ReplayFault;
+use rev_replay::notes::put_sample;
+use rev_replay::sampling::{Sampling, fitting};
 use std::alloc::Global;
 use std::io::{Read, Write};
 use std::rt::{Clock, Files};
@@ -60,13 +61,18 @@ fn add_key(keys: &mut Vec<Key<Global>>, key: Key<Global>) -> Result<(), Stop> {
     }
 }
 
+// The key that a word names.
+fn key_of(alloc: Global, word: &str) -> Result<Key<Global>, Stop> {
+    match asked_key(alloc, word.as_bytes()) {
+        Ok(key) => Ok(key),
+        Err(fault) => Err(bad_word(alloc, fault)),
+    }
+}
+
 // Adds the keys that words name.
 fn add_words(alloc: Global, words: &[String], keys: &mut Vec<Key<Global>>) -> Result<(), Stop> {
     for word in words {
-        match asked_key(alloc, word.as_bytes()) {
-            Ok(key) => add_key(keys, key)?,
-            Err(fault) => return Err(bad_word(alloc, fault)),
-        }
+        add_key(keys, key_of(alloc, word.as_str())?)?;
     }
     Ok(())
 }
@@ -101,8 +107,8 @@ fn add_lines(
     Ok(())
 }
 
-// The keys of the words and then those of the file, where there is one.
-fn keys_of<R: Files + AllocGlobal>(
+/// The keys of the words and then those of the file, where there is one.
+pub(crate) fn keys_of<R: Files + AllocGlobal>(
     rt: &R,
     words: &[String],
     file: &Option<String>,
@@ -116,21 +122,92 @@ fn keys_of<R: Files + AllocGlobal>(
     Ok(keys)
 }
 
-// The server followed by lrudb, where the rules cover its settings, with notes of what they do not cover.
-fn setup_of<R: Files + AllocGlobal>(
+// The server whose logs are asked, with notes of what the rules do not cover of its settings.
+pub(crate) fn server_of<R: Files + AllocGlobal>(
     rt: &R,
     asked: &AskedLogs,
     notes: &mut Vec<u8>,
-) -> Result<(Setup, Coverage), Stop>
-    ensures { IfOk result (λ leading. IsWithinLimits leading.0.config) }
+) -> Result<LeadingServer, Stop>
+    ensures { IfOk result (λ server. IsWithinLimits server.setup.config) }
 {
-    leading_setup(
+    leading_server(
         rt,
         asked.settings.as_str(),
         asked.factor,
         asked.anyway,
         notes,
     )
+}
+
+// Of how many keys one is replayed: as it is asked for, or where a server has too many pages, of so many that the sample
+// goes in, with a note of that. None where all keys are.
+fn sample_of(
+    asked: Option<Sample>,
+    pages: u64,
+    notes: &mut Vec<u8>,
+) -> Result<Option<Sample>, Stop> {
+    match asked {
+        Some(sample) => Ok(Some(sample)),
+        None if pages > u64::from(MOST_PAGES) => {
+            let sample = fitting(pages);
+            put_sample(notes, sample, pages)?;
+            Ok(Some(sample))
+        }
+        None => Ok(None),
+    }
+}
+
+/// The sample of one key of so many, and of the keys that words name; none where all keys are replayed.
+pub(crate) fn sampling_of(
+    alloc: Global,
+    sample: Option<Sample>,
+    words: &[String],
+) -> Result<Option<Sampling<Global>>, Stop> {
+    let Some(sample) = sample else {
+        return Ok(None);
+    };
+    let mut sampling = Sampling::new(alloc, sample);
+    for word in words {
+        keep_word(alloc, &mut sampling, word.as_str())?;
+    }
+    Ok(Some(sampling))
+}
+
+/// Takes the key that a word names into a sample.
+pub(crate) fn keep_word(
+    alloc: Global,
+    sampling: &mut Sampling<Global>,
+    word: &str,
+) -> Result<(), Stop> {
+    let key = key_of(alloc, word)?;
+    sampling.keep(&key)?;
+    Ok(())
+}
+
+// Takes these keys into a sample.
+fn keep_all(sampling: &mut Sampling<Global>, keys: &[Key<Global>]) -> Result<(), Stop> {
+    for key in keys {
+        sampling.keep(key)?;
+    }
+    Ok(())
+}
+
+// The sample that logs of a server of so many pages are asked for, with these keys in it.
+pub(crate) fn asked_sampling(
+    alloc: Global,
+    asked: &AskedLogs,
+    pages: u64,
+    keys: &[Key<Global>],
+    notes: &mut Vec<u8>,
+) -> Result<Option<Sampling<Global>>, Stop> {
+    let sample = sample_of(asked.sampled.sample, pages, notes)?;
+    match sampling_of(alloc, sample, asked.sampled.kept.as_slice())? {
+        Some(mut sampling) => {
+            keep_all(&mut sampling, keys)?;
+            Ok(Some(sampling))
+        }
+        None => Ok(None),
+    }
 }
 
 // What was found, where all went well and what was told is sent. What was told before a fault is sent all the same.
@@ -165,7 +242,12 @@ fn tell_lives_of<R: Files + AllocGlobal, I: Read + Drop, O: Write + Drop, C: Clo
     } = asked;
     let alloc = rt.alloc();
     let keys = keys_of(rt, keys.as_slice(), &key_file)?;
-    let (setup, coverage) = setup_of(rt, &logs, notes)?;
+    let LeadingServer {
+        setup,
+        coverage,
+        pages,
+    } = server_of(rt, &logs, notes)?;
+    let sampling = asked_sampling(alloc, &logs, pages, keys.as_slice(), notes)?;
     let names = logs.logs.as_slice();
     progress.expect(rt, names);
     let files = all_opened(rt, alloc, names, reader, progress)?;
@@ -180,12 +262,21 @@ fn tell_lives_of<R: Files + AllocGlobal, I: Read + Drop, O: Write + Drop, C: Clo
     };
     let mut writer = BesideProgress::new(writer, progress);
     let mut outbox = Outbox::new(room, &mut writer);
-    let told = tell_lives(alloc, &setup, coverage, files, &asked, &mut outbox, notes);
+    let told = tell_lives(
+        alloc,
+        &setup,
+        coverage,
+        sampling.as_ref(),
+        files,
+        &asked,
+        &mut outbox,
+        notes,
+    );
     sent(alloc, names, told, &mut outbox)
 }
 
-// The reason of this word.
-fn reason_of(loss: Loss) -> Reason
+/// The reason of this word.
+pub(crate) fn reason_of(loss: Loss) -> Reason
     ensures { reason_word result ≡ word_of loss }
 {
     match loss {
@@ -225,7 +316,12 @@ fn tell_gone_of<R: Files + AllocGlobal, I: Read + Drop, O: Write + Drop, C: Cloc
 ) -> Result<Found, Stop> {
     let logs = &asked.logs;
     let alloc = rt.alloc();
-    let (setup, coverage) = setup_of(rt, logs, notes)?;
+    let LeadingServer {
+        setup,
+        coverage,
+        pages,
+    } = server_of(rt, logs, notes)?;
+    let sampling = asked_sampling(alloc, logs, pages, &[], notes)?;
     let names = logs.logs.as_slice();
     progress.expect(rt, names);
     let files = all_opened(rt, alloc, names, reader, progress)?;
@@ -239,6 +335,7 @@ fn tell_gone_of<R: Files + AllocGlobal, I: Read + Drop, O: Write + Drop, C: Cloc
         alloc,
         &setup,
         coverage,
+        sampling.as_ref(),
         files,
         &filter,
         logs.json,
@@ -248,9 +345,9 @@ fn tell_gone_of<R: Files + AllocGlobal, I: Read + Drop, O: Write + Drop, C: Cloc
     sent(alloc, names, told, &mut outbox)
 }
 
-// The status of logs that were asked so, where it is said whether all was seen that they were asked for. Where all went
-// well the notes are told, and else why nothing more is.
-fn end_asking<E: Sink>(done: Result<bool, Stop>, notes: &[u8], errors: &mut E) -> u8
+/// The status of logs that were asked so, where it is said whether all was seen that they were asked for. Where all went
+/// well the notes are told, and else why nothing more is.
+pub(crate) fn end_asking<E: Sink>(done: Result<bool, Stop>, notes: &[u8], errors: &mut E) -> u8
     ensures ends { EndsAsked (E.contents errors.old) (E.contents errors.new) (E.failures errors.old) (E.failures errors.new) result }
     ensures status { IfOk done (λ all_seen. all_seen ≡ true) → IsStatus result }
 {
@@ -263,8 +360,8 @@ fn end_asking<E: Sink>(done: Result<bool, Stop>, notes: &[u8], errors: &mut E) -
     }
 }
 
-// Where all keys that left are told, there is no key that was asked for and is missing.
-fn all_told(done: Result<Found, Stop>) -> Result<bool, Stop>
+/// Where all keys that left are told, there is no key that was asked for and is missing.
+pub(crate) fn all_told(done: Result<Found, Stop>) -> Result<bool, Stop>
     ensures { IfOk result (λ all_seen. all_seen ≡ true) }
 {
     match done {

@@ -1,10 +1,14 @@
 //! `lrudb open` of logs that lead, and where in them a session stands.
+ghost use Rattle.std.specs.Prelude.{◌≡◌, Some, IfOk, OnOk};
 ghost use Rattle.rev_classes.specs.Limits.{IsWithinLimits};
+ghost use Rattle.rev_evidence.specs.Notes.{no_notes};
+ghost use Rattle.rev_options.specs.Request.{key_until};
+ghost use Rattle.rev_program.specs.Placed.{IsGrown, IsNowhere, IsPlaced, IsPlacedAt, LooksFor, Opens, OpensAt, stood_behind, with_never};
+ghost use Rattle.rev_replay.specs.Seeking.{IsPlaceOf, plain_sought};
 
 use crate::agreement::copies;
 use crate::direct::{add_end, begun};
 use rev_evidence::notes::LogNotes;
-use rev_import::setup::Setup;
 use rev_import_commands::import::{all_opened, name_in};
 use rev_import_commands::leading::stop_of_replay;
 use rev_import_commands::state::bad_file;
@@ -15,10 +19,10 @@ use rev_messages::opened::{OpenedAt, put_opened};
 use rev_messages::progress::Progress;
 use rev_options::{KEPT, Standing, Until};
 use rev_output::Sink;
-use rev_replay::coverage::Coverage;
-use rev_replay::grown::{Grown, grow};
+use rev_replay::grown::{Grown, Server, grow};
 use rev_replay::keeping::Keeping;
 use rev_replay::notes::put_life;
+use rev_replay::sampling::Sampling;
 use rev_replay::seeking::{Sought, Spot};
 use rev_script::dialect::Dialect;
 use rev_undotree::{MAX_NODES, Session};
@@ -38,7 +42,9 @@ pub(crate) struct Opened {
 }
 
 /// A session that no log led to, which stands behind all that was played.
-pub(crate) fn unled(alloc: Global, session: Session<Global>) -> Opened {
+pub(crate) fn unled(alloc: Global, session: Session<Global>) -> Opened
+    ensures { result.log ≡ no_notes }
+{
     Opened {
         session,
         log: LogNotes::none(alloc),
@@ -46,15 +52,16 @@ pub(crate) fn unled(alloc: Global, session: Session<Global>) -> Opened {
     }
 }
 
-/// Logs, which lead, of a server with this setup, and the files whose steps are played before them.
+/// Logs, which lead, of this server, and the files whose steps are played before them.
 #[derive(Drop)]
 pub(crate) struct LedLogs<'a> {
-    pub(crate) setup: &'a Setup,
-    pub(crate) coverage: Coverage,
+    pub(crate) server: Server<'a>,
+    /// The sample that is played, where not all keys are.
+    pub(crate) sampling: Option<&'a Sampling<Global>>,
     pub(crate) dialect: Dialect,
     pub(crate) starts: &'a [String],
     pub(crate) names: &'a [String],
-    ghost sound: { IsWithinLimits setup.now.config },
+    ghost sound: { IsWithinLimits server.setup.now.config },
 }
 
 // Reads the logs, behind the starts, and keeps so much of the steps.
@@ -65,19 +72,28 @@ fn grown_by<R: Files + AllocGlobal, C: Clock, W: Sink>(
     sought: &Sought<Global>,
     notes: &mut Vec<u8>,
     progress: &Progress<C, W>,
-) -> Result<Grown<Global>, Stop> {
+) -> Result<Grown<Global>, Stop>
+    ensures grown { IfOk result (IsGrown logs.now.server.setup.now.config) }
+    ensures spot { IfOk result (λ grown. IsPlaceOf (plain_sought sought.now) grown.spot) }
+{
     let alloc = rt.alloc();
     let names = logs.names;
     progress.expect(rt, logs.starts);
     progress.expect(rt, names);
     let files = all_opened(rt, alloc, names, io::empty(), progress)?;
     let starts = copies(alloc, logs.starts)?;
-    match begun(rt, &logs.setup.config, logs.dialect, starts, progress) {
+    match begun(
+        rt,
+        &logs.server.setup.config,
+        logs.dialect,
+        starts,
+        progress,
+    ) {
         Err(stop) => Err(stop),
         Ok(session) => match grow(
             alloc,
-            logs.setup,
-            logs.coverage,
+            logs.server,
+            logs.sampling,
             session,
             keeping,
             sought,
@@ -129,7 +145,10 @@ fn finished(
     grown: Grown<Global>,
     life: u64,
     at: Option<OpenedAt>,
-) -> Result<Opened, Stop> {
+) -> Result<Opened, Stop>
+    ensures session { IfOk result (λ opened. opened.session ≡ grown.session) }
+    ensures log { IfOk result (λ opened. opened.log ≡ grown.notes) }
+{
     let told = add_told(alloc, notes, names, &grown, life, at);
     let Grown {
         session,
@@ -154,7 +173,9 @@ pub(crate) fn from_begin<R: Files + AllocGlobal, C: Clock, W: Sink>(
     life: Option<u32>,
     notes: &mut Vec<u8>,
     progress: &Progress<C, W>,
-) -> Result<Opened, Stop> {
+) -> Result<Opened, Stop>
+    ensures { IfOk result (Opens logs.now.server.setup.now.config) }
+{
     let keeping = Keeping::Tree { life };
     match grown_by(rt, logs, keeping, &Sought::Nowhere, notes, progress) {
         Err(stop) => Err(stop),
@@ -178,7 +199,10 @@ fn read_again<R: Files + AllocGlobal, C: Clock, W: Sink>(
     keep: u32,
     notes: &mut Vec<u8>,
     progress: &Progress<C, W>,
-) -> Result<Opened, Stop> {
+) -> Result<Opened, Stop>
+    ensures there { IfOk result (OpensAt logs.now.server.setup.now.config (Some spot.step)) }
+    ensures opens { IfOk result (Opens logs.now.server.setup.now.config) }
+{
     let mut known = Vec::new(rt.alloc());
     let keeping = Keeping::Behind {
         steps: spot.step.saturating_sub(u64::from(keep)),
@@ -198,7 +222,10 @@ fn stand(
     grown: Grown<Global>,
     spot: Spot,
     steps: u64,
-) -> Result<Opened, Stop> {
+) -> Result<Opened, Stop>
+    ensures session { IfOk result (λ opened. opened.session ≡ stood_behind (Some spot.step) grown.before grown.session) }
+    ensures log { IfOk result (λ opened. opened.log ≡ grown.notes) }
+{
     let mut grown = grown;
     grown.go_behind(spot.step);
     let at = if grown.before == 0 {
@@ -228,7 +255,9 @@ fn at_end<R: Files + AllocGlobal, C: Clock, W: Sink>(
     life: Option<u32>,
     notes: &mut Vec<u8>,
     progress: &Progress<C, W>,
-) -> Result<Opened, Stop> {
+) -> Result<Opened, Stop>
+    ensures { IfOk result (Opens logs.now.server.setup.now.config) }
+{
     if life.is_some() || read_once(rt, logs.names).is_some() {
         return from_begin(rt, logs, life, notes, progress);
     }
@@ -245,7 +274,10 @@ fn at_end_of<R: Files + AllocGlobal, C: Clock, W: Sink>(
     grown: Grown<Global>,
     notes: &mut Vec<u8>,
     progress: &Progress<C, W>,
-) -> Result<Opened, Stop> {
+) -> Result<Opened, Stop>
+    requires { IsGrown logs.now.server.setup.now.config grown }
+    ensures { IfOk result (Opens logs.now.server.setup.now.config) }
+{
     let (steps, lives) = (grown.last(), grown.lives);
     if grown.is_whole() {
         return finished(rt.alloc(), notes, logs.names, grown, lives, None);
@@ -264,7 +296,9 @@ fn at_end_of<R: Files + AllocGlobal, C: Clock, W: Sink>(
 }
 
 // What is looked for in the logs.
-fn sought_of(alloc: Global, until: &Until) -> Result<Sought<Global>, Stop> {
+fn sought_of(alloc: Global, until: &Until) -> Result<Sought<Global>, Stop>
+    ensures { IfOk result (λ sought. LooksFor until.now (plain_sought sought)) }
+{
     match until {
         Until::Step(step) => Ok(Sought::Step(*step)),
         Until::Second(second) => Ok(Sought::Second(*second)),
@@ -290,7 +324,9 @@ pub(crate) enum Placed {
 }
 
 // Adds that a key never left.
-fn add_never(notes: &mut Vec<u8>, word: &str) -> Result<(), AllocError> {
+fn add_never(notes: &mut Vec<u8>, word: &str) -> Result<(), AllocError>
+    ensures { OnOk result (notes.new.items ≡ with_never notes.old.items word.now) }
+{
     notes.extend_from_slice(b"lrudb: ")?;
     notes.extend_from_slice(word.as_bytes())?;
     notes.extend_from_slice(b": by the replay of the logs this key never left\n")
@@ -303,7 +339,9 @@ fn no_place(
     until: &Until,
     steps: u64,
     notes: &mut Vec<u8>,
-) -> Result<Placed, Stop> {
+) -> Result<Placed, Stop>
+    ensures { IfOk result (IsNowhere (key_until until.now) notes.new.items) }
+{
     match until {
         Until::Gone(word) => {
             add_never(notes, word.as_str())?;
@@ -325,7 +363,10 @@ fn at_spot<R: Files + AllocGlobal, C: Clock, W: Sink>(
     keep: u32,
     notes: &mut Vec<u8>,
     progress: &Progress<C, W>,
-) -> Result<Opened, Stop> {
+) -> Result<Opened, Stop>
+    requires { IsGrown logs.now.server.setup.now.config grown }
+    ensures { IfOk result (OpensAt logs.now.server.setup.now.config (Some spot.step)) }
+{
     let steps = grown.last();
     if grown.serves(spot, keep) {
         return stand(rt.alloc(), notes, logs.names, grown, spot, steps);
@@ -341,6 +382,32 @@ fn at_spot<R: Files + AllocGlobal, C: Clock, W: Sink>(
     }
 }
 
+// The session on logs, where a place is asked for, behind a first reading, if that found it.
+fn found_in<R: Files + AllocGlobal, C: Clock, W: Sink>(
+    rt: &R,
+    logs: &LedLogs<'_>,
+    grown: Grown<Global>,
+    standing: &Standing,
+    notes: &mut Vec<u8>,
+    progress: &Progress<C, W>,
+) -> Result<Placed, Stop>
+    requires { IsGrown logs.now.server.setup.now.config grown }
+    ensures { IfOk result (IsPlacedAt logs.now.server.setup.now.config grown.spot (key_until standing.now.until) notes.new.items) }
+{
+    match grown.spot {
+        None => {
+            let steps = grown.last();
+            grown.let_go();
+            let first = name_in(logs.names, 0);
+            no_place(rt.alloc(), first, &standing.until, steps, notes)
+        }
+        Some(spot) => match at_spot(rt, logs, grown, spot, standing.keep, notes, progress) {
+            Ok(opened) => Ok(Placed::There(opened)),
+            Err(stop) => Err(stop),
+        },
+    }
+}
+
 // The session on logs, where a place is asked for, if it is there.
 fn at_place<R: Files + AllocGlobal, C: Clock, W: Sink>(
     rt: &R,
@@ -348,24 +415,13 @@ fn at_place<R: Files + AllocGlobal, C: Clock, W: Sink>(
     standing: &Standing,
     notes: &mut Vec<u8>,
     progress: &Progress<C, W>,
-) -> Result<Placed, Stop> {
-    let alloc = rt.alloc();
-    let sought = sought_of(alloc, &standing.until)?;
+) -> Result<Placed, Stop>
+    ensures { IfOk result (IsPlaced logs.now.server.setup.now.config (Some standing.now) notes.new.items) }
+{
+    let sought = sought_of(rt.alloc(), &standing.until)?;
     match grown_by(rt, logs, sought.keeping(), &sought, notes, progress) {
         Err(stop) => Err(stop),
-        Ok(grown) => match grown.spot {
-            None => {
-                let steps = grown.last();
-                grown.let_go();
-                no_place(alloc, name_in(logs.names, 0), &standing.until, steps, notes)
-            }
-            Some(spot) => {
-                match at_spot(rt, logs, grown, spot, standing.keep, notes, progress) {
-                    Ok(opened) => Ok(Placed::There(opened)),
-                    Err(stop) => Err(stop),
-                }
-            }
-        },
+        Ok(grown) => found_in(rt, logs, grown, standing, notes, progress),
     }
 }
 
@@ -378,7 +434,9 @@ pub(crate) fn placed_on<R: Files + AllocGlobal, C: Clock, W: Sink>(
     standing: &Option<Standing>,
     notes: &mut Vec<u8>,
     progress: &Progress<C, W>,
-) -> Result<Placed, Stop> {
+) -> Result<Placed, Stop>
+    ensures { IfOk result (IsPlaced logs.now.server.setup.now.config standing.now notes.new.items) }
+{
     match standing {
         Some(standing) => at_place(rt, logs, standing, notes, progress),
         None => match at_end(rt, logs, life, notes, progress) {

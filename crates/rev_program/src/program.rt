@@ -12,15 +12,17 @@ ghost use Rattle.rev_script.specs.declared.dialect.Dialect.TheVariants.{CrLf};
 ghost use Rattle.rev_shell.specs.Run.{without_bookmarks};
 ghost use Rattle.rev_shell.specs.declared.run.Summary.{Summary};
 ghost use Rattle.rev_program.specs.Running.{Stops, HasRun, HasStopped, HasRunBehind, StopsBehind, Answers, AnswersLess, AnswersNamed, StopsNamed, HaveNames, EndsAnswering};
-ghost use Rattle.rev_program.specs.Program.{EndsAsked, EndsEarly, EndsBehind, EndsNoted, EndsPlaced, EndsUnwritten, EndsRun, IsCounted, seeks, tally_text};
+ghost use Rattle.rev_program.specs.Program.{EndsAsked, EndsEarly, EndsBehind, EndsNoted, EndsSought, EndsUnwritten, EndsRun, IsCounted, seeks, tally_text};
 
 use crate::direct::{open_csv, open_watch};
 use crate::json::run_script_as_json;
 use crate::lives::{gone, why};
 use crate::opening::open_traces;
 use crate::report::report;
+use crate::ruled::{gone_of_traces, why_of_traces};
 use crate::starts::started;
 use crate::stopping::stop_of_run;
+use crate::top::top;
 use itoa::Buffer;
 use linked_list_allocator::LocalHeap;
 use rev_classes::{Config, fault_of};
@@ -418,7 +420,7 @@ fn program_with<
     ensures run { asks_run (map S.text words.now) ≡ true → EndsRun (E.contents errors.old) (E.contents errors.new) (E.failures errors.old) (E.failures errors.new) result }
     ensures answers { asks_run (map S.text words.now) ≡ true → EndsAnswering R.File.Read.remaining (E.contents errors.old) (E.contents errors.new) (E.failures errors.old) (E.failures errors.new)
         (I.remaining reader) (O.contents writer.old) (O.contents writer.new) result }
-    ensures placed { asks_import (map S.text words.now) ≡ false → asks_run (map S.text words.now) ≡ false → asks_lives (map S.text words.now) ≡ false → EndsPlaced (E.contents errors.old) (E.contents errors.new) (E.failures errors.old) (E.failures errors.new) result }
+    ensures placed { asks_import (map S.text words.now) ≡ false → asks_run (map S.text words.now) ≡ false → asks_lives (map S.text words.now) ≡ false → EndsSought (seeks (map S.text words.now)) (E.contents errors.old) (E.contents errors.new) (E.failures errors.old) (E.failures errors.new) result }
     ensures noted { asks_import (map S.text words.now) ≡ false → asks_run (map S.text words.now) ≡ false → asks_lives (map S.text words.now) ≡ false → seeks (map S.text words.now) ≡ false → EndsNoted (E.contents errors.old) (E.contents errors.new) (E.failures errors.old) (E.failures errors.new) result }
     ensures behind { asks_import (map S.text words.now) ≡ false → asks_run (map S.text words.now) ≡ false → asks_lives (map S.text words.now) ≡ false → brings (map S.text words.now) ≡ false → EndsBehind (E.contents errors.old) (E.contents errors.new) (E.failures errors.old) (E.failures errors.new) result }
     ensures report { asks_report (map S.text words.now) ≡ true → EndsPlainly (E.contents errors.old) (E.contents errors.new) (E.failures errors.old) (E.failures errors.new) result }
@@ -458,6 +460,13 @@ fn program_with<
         Ok(Request::Report(asked)) => report(rt, asked, errors, progress),
         Ok(Request::Why(asked)) => why(rt, asked, reader, writer, errors, progress),
         Ok(Request::Gone(asked)) => gone(rt, asked, reader, writer, errors, progress),
+        Ok(Request::WhyTraces(asked)) => {
+            why_of_traces(rt, asked, reader, writer, errors, progress)
+        }
+        Ok(Request::GoneTraces(asked)) => {
+            gone_of_traces(rt, asked, reader, writer, errors, progress)
+        }
+        Ok(Request::Top(asked)) => top(rt, asked, reader, writer, errors, progress),
     }
 }
 
@@ -484,7 +493,7 @@ pub fn program<
     ensures run { asks_run (map S.text words.now) ≡ true → EndsRun (E.contents errors.old) (E.contents errors.new) (E.failures errors.old) (E.failures errors.new) result }
     ensures answers { asks_run (map S.text words.now) ≡ true → EndsAnswering R.File.Read.remaining (E.contents errors.old) (E.contents errors.new) (E.failures errors.old) (E.failures errors.new)
         (I.remaining reader) (O.contents writer.old) (O.contents writer.new) result }
-    ensures placed { asks_import (map S.text words.now) ≡ false → asks_run (map S.text words.now) ≡ false → asks_lives (map S.text words.now) ≡ false → EndsPlaced (E.contents errors.old) (E.contents errors.new) (E.failures errors.old) (E.failures errors.new) result }
+    ensures placed { asks_import (map S.text words.now) ≡ false → asks_run (map S.text words.now) ≡ false → asks_lives (map S.text words.now) ≡ false → EndsSought (seeks (map S.text words.now)) (E.contents errors.old) (E.contents errors.new) (E.failures errors.old) (E.failures errors.new) result }
     ensures noted { asks_import (map S.text words.now) ≡ false → asks_run (map S.text words.now) ≡ false → asks_lives (map S.text words.now) ≡ false → seeks (map S.text words.now) ≡ false → EndsNoted (E.contents errors.old) (E.contents errors.new) (E.failures errors.old) (E.failures errors.new) result }
     ensures behind { asks_import (map S.text words.now) ≡ false → asks_run (map S.text words.now) ≡ false → asks_lives (map S.text words.now) ≡ false → brings (map S.text words.now) ≡ false → EndsBehind (E.contents errors.old) (E.contents errors.new) (E.failures errors.old) (E.failures errors.new) result }
     ensures report { asks_report (map S.text words.now) ≡ true → EndsPlainly (E.contents errors.old) (E.contents errors.new) (E.failures errors.old) (E.failures errors.new) result }

@@ -1,1 +1,4 @@
 pub mod Going
+pub mod Noting
+mod Limited
+mod Places

@@ -33,7 +33,8 @@ read_kinds c = (c.lines, codes " lines") ∷ (c.events, codes " events") ∷ (c.
 unfoldable pub left_out_kinds : LineCounts → (late repeated : ℕ) → List (ℕ × List ℕ)
 left_out_kinds c late repeated =
     (c.outside, codes " outside the range") ∷ (c.other, codes " of no log") ∷ (late, codes " too late for their place")
-    ∷ (repeated, codes " with the number of another") ∷ (c.cut_off, codes " cut off at an end") ∷ (c.skipped, codes " skipped by the server for a slow watcher") ∷ []
+    ∷ (repeated, codes " with the number of another") ∷ (c.cut_off, codes " cut off at an end") ∷ (c.skipped, codes " skipped by the server for a slow watcher")
+    ∷ (c.of_other_keys, codes " of keys outside the sample") ∷ (c.page_moves, codes " page moves outside the sample") ∷ []
 
 unfoldable pub eviction_kinds : Tally → List (ℕ × List ℕ)
 eviction_kinds t =
@@ -85,3 +86,9 @@ with_life old life lives =
     cond (nat_lt 1 lives)
     ((old ++ kind_text (codes "life: ") (life, codes " of ")) ++ kind_text [] (lives, codes " that the server had; --life N takes another one\n"))
     old
+
+-- a text, and behind it of how many keys one is taken, since the server has so many pages
+abbrev pub with_sample : List ℕ → (one_of pages : ℕ) → List ℕ
+with_sample old one_of pages =
+    (old ++ kind_text (codes "sample: 1 of ") (one_of, codes " keys, since the server has "))
+    ++ kind_text [] (pages, codes " pages; --sample takes another one\n")

@@ -1,7 +1,7 @@
 -- Where in logs a place is, as its events are heard.
 -- Rule of this project: the end is behind the last step. A step is where so many were played for the first time. A second
 -- is behind the last event that is not later, or in front of all. A key is gone behind the last step at which it left.
-use Rattle.std.specs.Prelude.{ℕ, ◌-◌, ◌==◌, min, Bool, not, ◌&&◌, nat_le, cond, List, [], ◌∷◌, length, Option, None, Some}
+use Rattle.std.specs.Prelude.{ℕ, ◌-◌, ◌==◌, min, ◌≡◌, Bool, true, not, ◌&&◌, nat_le, cond, List, [], ◌∷◌, length, Option, None, Some, IfSome, is_some}
 use Rattle.rev_model.specs.Track.{same_key}
 use Rattle.rev_tree.specs.Positions.{SessionState}
 use Rattle.rev_tree.specs.Finds.{is_held}
@@ -43,10 +43,32 @@ seen (Step step) is_found before time m = cond (not is_found && nat_le step (ste
 seen (Second second) is_found before time m = cond (nat_le time.seconds second) (Some (step_number before (length m.rows))) None
 seen (Gone key) is_found before time m = left_last before key None (departures m.root m.rows m.current)
 
--- where all events are later than a second, the place is in front of them all
-abbrev pub or_first : PlainSought → Option Spot → Option Spot
-or_first (Second second) None = Some (record { step = 0; life = 1; begin = 0 })
-or_first s found = found
+-- a place in front of all events, where none was found
+abbrev pub or_first : Option Spot → Option Spot
+or_first None = Some (record { step = 0; life = 1; begin = 0 })
+or_first (Some spot) = Some spot
+
+-- a place behind so many steps, where it was found
+abbrev pub behind : ℕ → Option Spot → Option Spot
+behind step None = None
+behind step (Some spot) = Some (record spot { step = step })
+
+-- the place, where this was heard of it: where all events are later than a second, it is in front of them all; and a place
+-- behind so many steps is behind as many
+abbrev pub place_of : PlainSought → Option Spot → Option Spot
+place_of Nowhere found = None
+place_of End found = found
+place_of (Step step) found = behind step found
+place_of (Second second) found = or_first found
+place_of (Gone key) found = found
+
+-- what may come of a place that is looked for: one behind so many steps is behind as many, if it is there, and one of a
+-- second always is
+abbrev pub IsPlaceOf : PlainSought → Option Spot → Type 0
+IsPlaceOf Nowhere spot = spot ≡ None
+IsPlaceOf (Step step) spot = IfSome spot (λ found. found.step ≡ step)
+IsPlaceOf (Second second) spot = is_some spot ≡ true
+IsPlaceOf s spot = Unit {0}
 
 -- what is kept where that is looked for: nothing where a key's leaving is read off each event, else the last steps
 abbrev pub keeping_for : PlainSought → Keeping

@@ -7,6 +7,9 @@ use Rattle.std.specs.Prelude.{◌≡◌, ℕ, ◌==◌, nat_le, Bool, true, fals
 use Rattle.rev_classes.specs.declared.Config.{Config}
 use Rattle.rev_tree.specs.Positions.{SessionState}
 use Rattle.rev_plays.specs.Begin.{opened}
+use Rattle.rev_model.specs.Actor.{Client}
+use Rattle.rev_model.specs.Client.{Deletes}
+use Rattle.rev_lead.specs.declared.role.Role.TheVariants.{Actor}
 use Rattle.rev_lead.specs.Acts.{StageState, Act, after, begun}
 use Rattle.rev_evidence.specs.Heard.{step_number}
 use Rattle.rev_evidence.specs.Notes.{PlainNotes}
@@ -60,6 +63,10 @@ pub data Turn : Type 0 where
 -- an empty cache
 abbrev pub fresh : Config → StageState
 fresh c = record { session = opened c; roles = [] }
+
+-- a stage behind a delete of a key, by no client that the log tells of
+abbrev pub without : StageState → List ℕ → StageState
+without s key = after s (record { step = Client (Deletes key); role = Actor })
 
 -- the stage behind a turn
 abbrev pub turned : Config → CountedStage → Turn → CountedStage

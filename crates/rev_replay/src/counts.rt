@@ -1,5 +1,8 @@
 //! What became of the lines of logs.
 
+use rev_watch::event::Event;
+use std::alloc::Allocator;
+
 /// What became of the lines of logs. Each count stays at the most that 64 bits hold.
 #[derive(Clone, Copy, Debug, PartialEq, Eq)]
 pub struct LineCounts {
@@ -17,6 +20,9 @@ pub struct LineCounts {
     pub events: u64,
     /// How often the server was started anew.
     pub restarts: u64,
+    /// Events that a sample leaves out: of other keys, and page moves.
+    pub of_other_keys: u64,
+    pub page_moves: u64,
 }
 
 impl LineCounts {
@@ -30,6 +36,8 @@ impl LineCounts {
             skipped: 0,
             events: 0,
             restarts: 0,
+            of_other_keys: 0,
+            page_moves: 0,
         }
     }
 }
@@ -37,4 +45,13 @@ impl LineCounts {
 /// Counts so many more.
 pub fn add(count: &mut u64, more: u64) {
     *count = count.saturating_add(more);
+}
+
+/// Counts an event that a sample leaves out.
+pub(crate) fn leave_out<A: Allocator>(counts: &mut LineCounts, event: &Event<A>) {
+    let count = match event {
+        Event::PageMove { .. } => &mut counts.page_moves,
+        _ => &mut counts.of_other_keys,
+    };
+    add(count, 1);
 }

@@ -1,8 +1,10 @@
 //! Logs in, and a session out: the steps of one life of the server, each as a node.
-ghost use Rattle.std.specs.Prelude.{◌≡◌, ◌==◌, length, IfOk};
+ghost use Rattle.std.specs.Prelude.{◌≡◌, ◌==◌, length, IfOk, OnOk};
+ghost use Rattle.std.specs.Option.{option_copied};
 ghost use Rattle.rev_classes.specs.Limits.{IsWithinLimits};
 ghost use Rattle.rev_evidence.specs.Heard.{step_number as number_of};
-ghost use Rattle.rev_replay.specs.Replayed.{state_of};
+ghost use Rattle.rev_replay.specs.Moments as moments;
+ghost use Rattle.rev_replay.specs.Replayed.{state_of, noting_of};
 ghost use Rattle.rev_replay.specs.Seeking as rule;
 ghost use Rattle.rev_replay.specs.Turns.{Grows};
 
@@ -11,10 +13,11 @@ use crate::fault::ReplayFault;
 use crate::heard::{Heard, Listener};
 use crate::keeping::{Keeping, Place};
 use crate::logs::replay_logs;
-use crate::moments::{Noted, Noting};
+use crate::moments::{Noted, Noting, or_never};
 use crate::notes::put_notes;
 use crate::run::Replay;
-use crate::seeking::{Seeker, Sought, Spot};
+use crate::sampling::Sampling;
+use crate::seeking::{Seeker, Sought, Spot, place_of};
 use rev_evidence::heard::step_number;
 use rev_evidence::notes::LogNotes;
 use rev_import::setup::Setup;
@@ -24,12 +27,19 @@ use rev_watch::event::Timestamp;
 use std::alloc::{AllocError, Allocator};
 use std::io::Read;
 
+/// A server of which there are logs: what it was set to, and whether the rules cover each of its items.
+#[derive(Clone, Copy)]
+pub struct Server<'a> {
+    pub setup: &'a Setup,
+    pub coverage: Coverage,
+}
+
 /// What logs became.
 #[derive(Drop)]
 pub struct Grown<A: Allocator> {
     /// A node for each step that is kept.
     pub session: Session<A>,
-    /// What the log says of each node.
+    /// What the log says of each node, and which keys left in front of the root.
     pub notes: LogNotes<A>,
     /// How many steps lie in front of the root, over all lives of the server.
     pub before: u64,
@@ -72,7 +82,8 @@ impl<A: Allocator + Copy> Grown<A> {
     /// Goes to the node behind so many steps, over all lives of the server: to the root where that is behind them, and to
     /// the last node where it is in front of them.
     pub fn go_behind(&mut self, step: u64)
-        ensures { self.new.session ≡ rule.stood self.old.session (rule.node_behind self.old.before (length self.old.session.rows) step) }
+        ensures session { self.new.session ≡ rule.stood self.old.session (rule.node_behind self.old.before (length self.old.session.rows) step) }
+        ensures notes { self.new.notes ≡ self.old.notes }
     {
         let nodes = u64::from(self.session.issued());
         let node = step.saturating_sub(self.before).min(nodes);
@@ -93,12 +104,19 @@ struct Ears<'a, A: Allocator> {
 }
 
 impl<A: Allocator + Copy> Listener<A> for Ears<'_, A> {
-    fn heard(&mut self, heard: &Heard<'_, A>) -> Result<(), ReplayFault> {
+    ghost use Rattle.rev_replay.specs.Moments as moments;
+    ghost use Rattle.rev_replay.specs.Replayed.{noting_of};
+
+    fn heard(&mut self, heard: &Heard<'_, A>) -> Result<(), ReplayFault>
+        ensures { OnOk result (noting_of self.new.noting ≡ moments.heard (noting_of self.old.noting) (option_copied heard.now.event) heard.now.time heard.now.roles.now heard.now.before) }
+    {
         self.noting.heard(heard)?;
         self.seeker.heard(heard)
     }
 
-    fn restarted(&mut self, at: Timestamp, steps: u64) -> Result<(), ReplayFault> {
+    fn restarted(&mut self, at: Timestamp, steps: u64) -> Result<(), ReplayFault>
+        ensures { OnOk result (noting_of self.new.noting ≡ moments.restarted (noting_of self.old.noting) at) }
+    {
         self.noting.restarted(at, steps)?;
         self.seeker.restarted(at, steps)
     }
@@ -126,20 +144,25 @@ fn notes_of<A: Allocator + Copy>(
     let nodes = replay.session().issued() as usize;
     let Noted {
         moments,
-        lost,
+        departed,
         since,
     } = noting.finish(replay.before(), nodes)?;
-    Ok((LogNotes::new(roles, moments, lost), since))
+    Ok((
+        LogNotes::new(roles, moments, Some(departed), since),
+        or_never(since),
+    ))
 }
 
-// What a replay became, of which this was heard.
+// What a replay became, of which this was heard while that was looked for.
 fn grown_of<A: Allocator + Copy>(
     alloc: A,
     replay: Replay<'_, A>,
     ears: Ears<'_, A>,
+    sought: &Sought<A>,
 ) -> Result<Grown<A>, ReplayFault>
     ensures stage { IfOk result (λ grown. (state_of replay.entry).counted ≡ record { before = grown.before; stage = record { session = grown.session; roles = grown.notes.roles } }) }
     ensures moments { IfOk result (λ grown. length grown.notes.moments ≡ length grown.session.rows) }
+    ensures spot { IfOk result (λ grown. rule.IsPlaceOf (rule.plain_sought sought.now) grown.spot) }
 {
     let Ears { noting, seeker } = ears;
     match notes_of(alloc, &replay, noting) {
@@ -150,7 +173,7 @@ fn grown_of<A: Allocator + Copy>(
             full: replay.full(),
             lives: replay.life(),
             begin: seeker.begin(),
-            spot: seeker.found(),
+            spot: place_of(sought, seeker.found()),
             session: replay.into_session(),
         }),
         Err(refused) => {
@@ -175,9 +198,9 @@ fn told<A: Allocator + Copy>(
     }
 }
 
-/// Replays the logs that the files hold, in their order, keeps so much of the steps, a node for each, and looks for a
-/// place. The first life of the server begins where the session stands, of a store with the setup's configuration, and
-/// each other one with an empty cache. What is told of the logs goes behind `notes`.
+/// Replays the logs that the files hold, in their order, of all keys or of a sample, keeps so much of the steps, a node
+/// for each, and looks for a place. The first life of the server begins where the session stands, of a store with its
+/// configuration, and each other one with an empty cache. What is told of the logs goes behind `notes`.
 ///
 /// Err: the place of a log, from 0 on, and why nothing was made of it: memory was refused, a read failed, a line that
 /// begins like one of the log is none, a log shows an item that the rules do not cover, or there are more lines than can
@@ -186,28 +209,31 @@ fn told<A: Allocator + Copy>(
 #[tactic(auto, using(crate::proofs::Going::grows_of))]
 pub fn grow<A: Allocator + Copy, F: Read + Drop>(
     alloc: A,
-    setup: &Setup,
-    coverage: Coverage,
+    server: Server<'_>,
+    sampling: Option<&Sampling<A>>,
     session: Session<A>,
     keeping: Keeping,
     sought: &Sought<A>,
     logs: Vec<F, A>,
     notes: &mut Vec<u8, A>,
 ) -> Result<Grown<A>, (usize, ReplayFault)>
-    requires { IsWithinLimits setup.now.config }
-    ensures { IfOk result (λ grown. Grows keeping setup.now.config session grown.session grown.notes grown.before) }
+    requires { IsWithinLimits server.setup.now.config }
+    ensures grows { IfOk result (λ grown. Grows keeping server.entry.setup.now.config session grown.session grown.notes grown.before) }
+    ensures spot { IfOk result (λ grown. rule.IsPlaceOf (rule.plain_sought sought.now) grown.spot) }
 {
+    let Server { setup, coverage } = server;
     let mut replay = match Replay::open_on(alloc, setup, coverage, session, keeping) {
         Ok(replay) => replay,
         Err(fault) => return Err((0, fault)),
     };
+    replay.limit_to_sample(sampling);
     let mut ears = Ears {
-        noting: Noting::new(alloc),
+        noting: Noting::new(alloc, keeping),
         seeker: Seeker::new(sought),
     };
     let replayed = replay_logs(&mut replay, logs, &mut ears);
     match told(replayed, &replay, notes) {
-        Ok(()) => match grown_of(alloc, replay, ears) {
+        Ok(()) => match grown_of(alloc, replay, ears, sought) {
             Ok(grown) => Ok(grown),
             Err(fault) => Err((0, fault)),
         },

@@ -16,4 +16,5 @@ mod logs;
 mod moments;
 pub mod notes;
 pub mod run;
+pub mod sampling;
 pub mod seeking;

@@ -5,6 +5,7 @@ ghost use Rattle.rev_replay.specs.Notes as rule;
 use crate::counts::LineCounts;
 use crate::run::Replay;
 use itoa::Buffer;
+use rev_choices::Sample;
 use rev_lead::Tally;
 use std::alloc::{AllocError, Allocator};
 
@@ -72,6 +73,8 @@ fn put_left_out<A: Allocator>(
         (repeated, " with the number of another"),
         (counts.cut_off, " cut off at an end"),
         (counts.skipped, " skipped by the server for a slow watcher"),
+        (counts.of_other_keys, " of keys outside the sample"),
+        (counts.page_moves, " page moves outside the sample"),
     ];
     put_line(out, b"left out: ", &kinds)
 }
@@ -163,4 +166,30 @@ pub fn put_life<A: Allocator>(out: &mut Vec<u8, A>, life: u64, lives: u64) -> Re
         )?;
     }
     Ok(())
+}
+
+// Writes that one key of so many is taken, since the server has so many pages.
+fn put_one_of<A: Allocator>(out: &mut Vec<u8, A>, one_of: u64, pages: u64) -> Result<(), AllocError>
+    ensures { OnOk result (out.new.items ≡ rule.with_sample out.old.items one_of pages) }
+{
+    put_kind(
+        out,
+        b"sample: 1 of ",
+        one_of,
+        " keys, since the server has ",
+    )?;
+    put_kind(out, b"", pages, " pages; --sample takes another one\n")
+}
+
+/// Writes of how many keys one is taken, since the server has so many pages.
+///
+/// Err: memory was refused.
+pub fn put_sample<A: Allocator>(
+    out: &mut Vec<u8, A>,
+    sample: Sample,
+    pages: u64,
+) -> Result<(), AllocError>
+    ensures { OnOk result (out.new.items ≡ rule.with_sample out.old.items sample.one_of pages) }
+{
+    put_one_of(out, u64::from(sample.one_of), pages)
 }

@@ -1,23 +1,25 @@
 //! The lines of logs in, and who listens is told of each event once it was played.
-ghost use Rattle.std.specs.Prelude.{IfOk};
+ghost use Rattle.std.specs.Prelude.{◌≡◌, IfOk, OnOk};
 ghost use Rattle.rev_classes.specs.Limits.{IsWithinLimits};
 ghost use Rattle.rev_lead.specs.Acts.{Led};
-ghost use Rattle.rev_replay.specs.Turns.{fresh};
+ghost use Rattle.rev_replay.specs.Turns.{fresh, without};
 
-use crate::counts::{LineCounts, add};
+use crate::counts::{LineCounts, add, leave_out};
 use crate::coverage::Coverage;
 use crate::ends::LogEnds;
 use crate::fault::ReplayFault;
 use crate::heard::{Heard, Listener};
 use crate::keeping::{Keeping, Place};
 pub use crate::logs::replay_logs;
+use crate::sampling::{Sampling, Sieve, outsider};
 use rev_classes::ClassTable;
 use rev_evidence::heard::step_number;
 use rev_import::setup::Setup;
+use rev_items::Key;
 use rev_lead::{Agreement, Driver, LeadFault, Role, Stage, Tally};
 use rev_log::foresight::{Coming, Foresight};
 use rev_log::order::Order;
-use rev_requests::{ActorStep, Step};
+use rev_requests::{ActorStep, ClientStep, KeyCommand, Step};
 use rev_script::source::Source;
 use rev_undotree::{NodeId, Session};
 use rev_watch::event::{Event, Line, LogLine, Timestamp};
@@ -55,6 +57,9 @@ pub struct Replay<'a, A: Allocator> {
     coverage: Coverage,
     // how many stores were played, as far as they are looked at
     stores: u32,
+    // the sample whose events are played, where not all are, and what is known for it of each class
+    sampling: Option<&'a Sampling<A>>,
+    sieve: Sieve,
     ghost sound: { IsWithinLimits setup.now.config },
 }
 
@@ -78,6 +83,24 @@ fn play_setup<A: Allocator + Copy>(stage: &mut Stage<A>, setup: &Setup) -> Resul
     Ok(())
 }
 
+// A key's item goes. A listener has heard of what was played before, and never hears of this step.
+#[tactic(auto, using(rev_lead::proofs::Leading::led_more, rev_lead::proofs::Leading::led_same))]
+fn delete<A: Allocator + Copy>(
+    alloc: A,
+    stage: &mut Stage<A>,
+    key: &Key<A>,
+) -> Result<(), LeadFault>
+    ensures deleted { OnOk result (stage.new ≡ without stage.old key.now) }
+    ensures led { Led stage.old stage.new }
+{
+    let step = Step::Client(ClientStep::Keyed {
+        command: KeyCommand::Delete,
+        key: key.copy(alloc)?,
+    });
+    let _ = stage.play(step, Role::Actor)?;
+    Ok(())
+}
+
 // An empty cache that is set as the server was.
 fn open_stage<A: Allocator + Copy>(alloc: A, setup: &Setup) -> Result<Stage<A>, ReplayFault>
     requires { IsWithinLimits setup.now.config }
@@ -95,7 +118,9 @@ impl<'a, A: Allocator + Copy> Replay<'a, A> {
     ghost use Rattle.rev_classes.specs.Limits.{IsWithinLimits};
     ghost use Rattle.rev_lead.specs.Acts.{begun};
     ghost use Rattle.rev_replay.specs.Turns.{GoesOn, at_first, fresh, plays, steps_of};
-    ghost use Rattle.rev_replay.specs.Replayed.{state_of, counts_of, late_of, repeated_of, tally_of, full_of, life_of};
+    ghost use Rattle.std.specs.Option.{option_copied};
+    ghost use Rattle.rev_replay.specs.Replayed.{state_of, counts_of, late_of, repeated_of, tally_of, full_of, life_of, sampling_of, sieve_of};
+    ghost use Rattle.rev_replay.specs.Sampling.{is_asked, asked_behind};
 
     // No log was read, and this stage stands in the place of the server.
     fn begin(
@@ -139,6 +164,8 @@ impl<'a, A: Allocator + Copy> Replay<'a, A> {
             counts: LineCounts::none(),
             coverage,
             stores: 0,
+            sampling: None,
+            sieve: Sieve::new(),
         };
         replay.pass();
         Ok(replay)
@@ -294,8 +321,24 @@ impl<'a, A: Allocator + Copy> Replay<'a, A> {
             self.see(&coming.line.event, agreement)?;
         }
         self.tell(coming, listener)?;
+        self.let_go(&coming.line.event)?;
         self.pass();
         Ok(())
+    }
+
+    // The item of a storage command goes again that was played for the evictions that waited, and whose key is in no
+    // sample.
+    #[tactic(auto, using(crate::proofs::Going::goes_more, crate::proofs::Going::goes_same, crate::proofs::Going::goes_led))]
+    fn let_go(&mut self, event: &Event<A>) -> Result<(), ReplayFault>
+        ensures { GoesOn false (state_of self.old) (state_of self.new) }
+    {
+        match outsider(self.sampling, event) {
+            Some(key) => {
+                let played = delete(self.alloc, &mut self.stage, key);
+                self.ended(played)
+            }
+            None => Ok(()),
+        }
     }
 
     // Plays the events that wait, until at most so many do.
@@ -320,6 +363,20 @@ impl<'a, A: Allocator + Copy> Replay<'a, A> {
         Ok(())
     }
 
+    // Whether an event is played: each one, or in a sample what is of its keys or is needed for them. What is left out is
+    // counted.
+    fn is_asked(&mut self, event: &Event<A>) -> bool
+        ensures taken { result ≡ is_asked (sampling_of self.old) (sieve_of self.old) event.now }
+        ensures behind { sieve_of self.new ≡ asked_behind (sampling_of self.old) (sieve_of self.old) event.now }
+        ensures same { state_of self.new ≡ state_of self.old }
+    {
+        let taken = self.sieve.takes(self.sampling, event);
+        if !taken {
+            leave_out(&mut self.counts, event);
+        }
+        taken
+    }
+
     // Takes in an event that the order gave out.
     #[tactic(auto, using(crate::proofs::Going::goes_more, crate::proofs::Going::goes_same, crate::proofs::Going::goes_led))]
     fn push<L: Listener<A>>(
@@ -331,6 +388,9 @@ impl<'a, A: Allocator + Copy> Replay<'a, A> {
     {
         add(&mut self.counts.events, 1);
         if !self.is_playing() {
+            return Ok(());
+        }
+        if !self.is_asked(&line.event) {
             return Ok(());
         }
         self.ahead.push(line)?;
@@ -407,6 +467,7 @@ impl<'a, A: Allocator + Copy> Replay<'a, A> {
         self.order.begin_life();
         self.ends.begin_life();
         self.driver.begin_life()?;
+        self.sieve = Sieve::new();
         self.reopen()
     }
 
@@ -444,6 +505,15 @@ impl<'a, A: Allocator + Copy> Replay<'a, A> {
     {
         self.first = first;
         self.last = last;
+    }
+
+    /// Of the logs to come, only what is of this sample's keys is played, and what these need; everything where there is
+    /// no sample.
+    pub fn limit_to_sample(&mut self, sampling: Option<&'a Sampling<A>>)
+        ensures sampling { sampling_of self.new ≡ option_copied sampling.entry }
+        ensures same { state_of self.new ≡ state_of self.old }
+    {
+        self.sampling = sampling;
     }
 
     // Takes in an event, if it is asked for.

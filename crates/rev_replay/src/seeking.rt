@@ -108,6 +108,45 @@ fn seen<A: Allocator + Copy>(
     }
 }
 
+// A place in front of all events, where none was found.
+fn or_first(found: Option<Spot>) -> Option<Spot>
+    ensures { result ≡ rule.or_first found }
+{
+    match found {
+        Some(spot) => Some(spot),
+        None => Some(Spot {
+            step: 0,
+            life: 1,
+            begin: 0,
+        }),
+    }
+}
+
+// A place behind so many steps, where it was found.
+fn behind(step: u64, found: Option<Spot>) -> Option<Spot>
+    ensures { result ≡ rule.behind step found }
+{
+    match found {
+        Some(spot) => Some(Spot { step, ..spot }),
+        None => None,
+    }
+}
+
+/// The place that is looked for, where this was heard of it. Where all events are later than a second, it is in front of
+/// them all. That a place behind so many steps is behind as many was heard, and what a listener promises does not say
+/// so.
+pub(crate) fn place_of<A: Allocator>(sought: &Sought<A>, found: Option<Spot>) -> Option<Spot>
+    ensures { result ≡ rule.place_of (rule.plain_sought sought.now) found }
+{
+    match sought {
+        Sought::Nowhere => None,
+        Sought::End => found,
+        Sought::Step(step) => behind(*step, found),
+        Sought::Second(_) => or_first(found),
+        Sought::Gone(_) => found,
+    }
+}
+
 impl<'a, A: Allocator + Copy> Seeker<'a, A> {
     /// Nothing was heard.
     pub(crate) fn new(sought: &'a Sought<A>) -> Seeker<'a, A> {
@@ -119,18 +158,11 @@ impl<'a, A: Allocator + Copy> Seeker<'a, A> {
         }
     }
 
-    /// The place, as far as was heard. Where all events are later than a second, it is in front of them all.
+    /// The place, as far as was heard.
     pub(crate) fn found(&self) -> Option<Spot>
-        ensures { result ≡ rule.or_first (rule.plain_sought self.now.sought.now) self.now.found }
+        ensures { result ≡ self.now.found }
     {
-        match (self.found, self.sought) {
-            (None, Sought::Second(_)) => Some(Spot {
-                step: 0,
-                life: 1,
-                begin: 0,
-            }),
-            (found, _) => found,
-        }
+        self.found
     }
 
     /// How many steps stand in front of the last life.

@@ -13,7 +13,7 @@ ghost use Rattle.rev_shell.specs.Answers.{beside, answer, after};
 
 use crate::answer::put_answer;
 use rev_classes::Config;
-use rev_evidence::notes::{LogNotes, Lost};
+use rev_evidence::notes::LogNotes;
 use rev_output::WriteFailed;
 use rev_plays::begin::open_session;
 use rev_script::byte_reader::LineFault;
@@ -351,20 +351,13 @@ pub fn run_at_last<X: Duplex, A: Allocator + Clone>(
     }
 }
 
-fn three_handles<A: Allocator + Clone>(alloc: &A) -> Result<(A, A, A), AllocError> {
-    Ok((alloc.clone()?, alloc.clone()?, alloc.clone()?))
-}
-
 // The notes of a session that no log leads to.
 fn no_log<A: Allocator + Clone>(alloc: &A) -> Result<LogNotes<A>, RunFault>
     ensures ok { IfOk result (λ log. log ≡ no_notes) }
     ensures err { IfErr result (λ e. e ≡ RunFault.Memory 0) }
 {
-    match three_handles(alloc) {
-        Ok((one, other, third)) => {
-            let lost = Lost::nothing(third);
-            Ok(LogNotes::new(Vec::new(one), Vec::new(other), lost))
-        }
+    match two_handles(alloc) {
+        Ok((one, other)) => Ok(LogNotes::new(Vec::new(one), Vec::new(other), None, None)),
         Err(_) => Err(RunFault::Memory { line: 0 }),
     }
 }

@@ -2,9 +2,9 @@
 -- Rule of this project: the texts of `:why` and `:story`. Where a log tells of a node, it says why a key left there, and
 -- else the rules do.
 use Rattle.std.specs.Prelude.{ℕ, List, [], ◌∷◌, ◌++◌, Option, None, Some, codes, decimal}
-use Rattle.rev_evidence.specs.Notes.{PlainNotes, told_at, lost_at}
+use Rattle.rev_evidence.specs.Notes.{PlainNotes, told_at, told_before}
 use Rattle.rev_evidence.specs.Words.{reason_word, evidence_word}
-use Rattle.rev_evidence.specs.declared.notes.Told.{Told}
+use Rattle.rev_evidence.specs.declared.departed.Told.{Told}
 use Rattle.rev_model.specs.declared.Cause.{Cause}
 use Rattle.rev_model.specs.declared.Cause.TheVariants.{Evicted, ReclaimedByPull, ReclaimedByCrawler, ReclaimedByHit, ReclaimedByMover, EvictedByMover, Deleted, DroppedByFailedSet}
 use Rattle.rev_model.specs.declared.ClassQueue.{ClassQueue}
@@ -40,19 +40,24 @@ told_or_cause None c = cause_word c
 abbrev pub left_words : PlainNotes → ℕ → Cause → List ℕ
 left_words log n c = told_or_cause (told_at log n c) c
 
--- that a key was lost when the server was started anew, by the Unix clock
-abbrev pub lost_text : Timestamp → List ℕ
-lost_text t = output (codes "LEFT 0 restarted logged " ++ decimal t.seconds)
+-- that a key left in front of the root, and what a log tells of it
+abbrev pub departed_text : Told → List ℕ
+departed_text t = output (codes "LEFT 0 " ++ told_words t)
 
--- of a key that never was there since the root: that it was lost in front of the root, where the server was started anew
-abbrev pub never_text : Option Timestamp → List ℕ
-never_text None = output (codes "NEVER")
-never_text (Some t) = lost_text t
+-- that nothing is known of a key, and since when that is so, by the Unix clock, where the log goes back behind the root
+abbrev pub absent_text : Option Timestamp → List ℕ
+absent_text None = output (codes "NEVER")
+absent_text (Some t) = output (codes "NEVER since " ++ decimal t.seconds)
+
+-- of a key that never was there since the root: what is told of its last leaving in front of it, where that is known
+abbrev pub never_text : Option Told → Option Timestamp → List ℕ
+never_text None since = absent_text since
+never_text (Some t) since = departed_text t
 
 -- the answer to `:why` for a key
 abbrev pub why_text : PlainNotes → List ℕ → Why → List ℕ
 why_text log k why.Present = output (codes "PRESENT")
-why_text log k why.Never = never_text (lost_at log k)
+why_text log k why.Never = never_text (told_before log k) log.since
 why_text log k (why.Left n c) = output (codes "LEFT " ++ decimal n.0 ++ codes " " ++ left_words log n.0 c)
 
 -- a class and a queue

@@ -1,10 +1,11 @@
 //! Why a key was gone, and its story.
 ghost use Rattle.std.specs.Prelude.{◌≡◌, ◌++◌, OnOk};
 ghost use Rattle.rev_explain.specs.Story.{why_of, story as story_of};
-ghost use Rattle.rev_evidence.specs.Notes.{lost_at};
-ghost use Rattle.rev_views.specs.Reasons.{cause_word, told_words, left_words, place_words, event_words, event_text, events_text, lost_text, never_text, why_text};
+ghost use Rattle.rev_evidence.specs.Notes.{told_before};
+ghost use Rattle.rev_views.specs.Reasons.{cause_word, told_words, left_words, place_words, event_words, event_text, events_text, departed_text, absent_text, never_text, why_text};
 
-use rev_evidence::notes::{LogNotes, Told};
+use rev_evidence::departed::Told;
+use rev_evidence::notes::LogNotes;
 use rev_explain::events::{Event, EventKind, Why};
 use rev_explain::{story, why};
 use rev_items::Key;
@@ -56,25 +57,43 @@ pub(crate) fn put_left<A: Allocator + Clone>(
     }
 }
 
-// Writes that a key was lost at this time, when the server was started anew.
-fn put_lost<A: Allocator>(out: &mut Vec<u8, A>, time: Timestamp) -> Result<(), AllocError>
-    ensures { OnOk result (out.new.items ≡ out.old.items ++ lost_text time) }
+// Writes that a key left in front of the root, with what is told of it.
+fn put_departed<A: Allocator>(out: &mut Vec<u8, A>, told: Told) -> Result<(), AllocError>
+    ensures { OnOk result (out.new.items ≡ out.old.items ++ departed_text told) }
 {
-    put_field(out, b"LEFT 0 restarted logged ", time.seconds as u64)?;
+    out.extend_from_slice(b"LEFT 0 ")?;
+    put_told(out, told)?;
     out.extend_from_slice(b"\r\n")
 }
 
-// Writes why a key that never was there since the root is gone, where the log tells that it was lost before.
+// Writes that nothing is known of a key, and since when that is so, where the log goes back behind the root.
+fn put_absent<A: Allocator>(
+    out: &mut Vec<u8, A>,
+    since: Option<Timestamp>,
+) -> Result<(), AllocError>
+    ensures { OnOk result (out.new.items ≡ out.old.items ++ absent_text since) }
+{
+    match since {
+        None => put_output(out, b"NEVER"),
+        Some(time) => {
+            put_field(out, b"NEVER since ", time.seconds as u64)?;
+            out.extend_from_slice(b"\r\n")
+        }
+    }
+}
+
+// Writes why a key is gone that never was there since the root: what is told of its last leaving in front of the root,
+// as far as that is remembered.
 fn put_never<A: Allocator + Clone>(
     out: &mut Vec<u8, A>,
     log: &LogNotes<A>,
     key: &Key<A>,
 ) -> Result<(), AllocError>
-    ensures { OnOk result (out.new.items ≡ out.old.items ++ never_text (lost_at log.now key.now)) }
+    ensures { OnOk result (out.new.items ≡ out.old.items ++ never_text (told_before log.now key.now) log.now.since) }
 {
-    match log.lost_at(key) {
-        Some(time) => put_lost(out, time),
-        None => put_output(out, b"NEVER"),
+    match log.told_before(key) {
+        Some(told) => put_departed(out, told),
+        None => put_absent(out, log.since()),
     }
 }
 

@@ -16,7 +16,10 @@ asks_none : (words : List (List ℕ)) → asks_lives words ≡ true → (asks_ru
 asks_none [] h = absurd (let e : false ≡ true = h in cc)
 asks_none (word ∷ words) h = elim (cases_Bool (bytes_eq word (codes "why"))) [
   | inl why ↦ rw ((bytes_eq-Decides word (codes "why")).0 why) (refl, refl)
-  | inr other ↦ rw ((bytes_eq-Decides word (codes "gone")).0 (rw other at h)) (refl, refl)
+  | inr other ↦ elim (cases_Bool (bytes_eq word (codes "gone"))) [
+    | inl gone ↦ rw ((bytes_eq-Decides word (codes "gone")).0 gone) (refl, refl)
+    | inr third ↦ rw ((bytes_eq-Decides word (codes "top")).0 (rw third at (rw other at h))) (refl, refl)
+  ]
 ]
 
 pub request_of-requires : goal.request_of-requires
@@ -29,7 +32,7 @@ pub returns-then-asks_lives-clause-opens : goal.returns-then-asks_lives-clause-o
 returns-then-asks_lives-clause-opens g c = no_opening _ c.asking_of.result c.asking_of.ensures.opens
 
 pub returns-then-asks_lives-clause-brings : goal.returns-then-asks_lives-clause-brings
-returns-then-asks_lives-clause-brings g c = brings_none _ c.asking_of.result c.asking_of.ensures.brings
+returns-then-asks_lives-clause-brings g c = brings_none _ _ c.asking_of.result c.asking_of.ensures.brings
 
 pub returns-then-asks_lives-clause-runs : goal.returns-then-asks_lives-clause-runs
 returns-then-asks_lives-clause-runs g c =

@@ -8,7 +8,7 @@ pub returns-then-asks_run-clause-opens : goal.returns-then-asks_run-clause-opens
 returns-then-asks_run-clause-opens c = no_opening c.args.asks_open c.run_request.result c.run_request.ensures.opens
 
 pub returns-then-asks_run-clause-brings : goal.returns-then-asks_run-clause-brings
-returns-then-asks_run-clause-brings c = brings_none c.args.brings c.run_request.result c.run_request.ensures.brings
+returns-then-asks_run-clause-brings c = brings_none c.args.said.brings c.args.said.seeks_key c.run_request.result c.run_request.ensures.brings
 
 pub returns-then-asks_report-clause-words : goal.returns-then-asks_report-clause-words
 returns-then-asks_report-clause-words c = no_import c.args.asks_import c.report_request.result c.report_request.ensures.words
@@ -17,4 +17,4 @@ pub returns-then-asks_report-clause-opens : goal.returns-then-asks_report-clause
 returns-then-asks_report-clause-opens c = no_opening c.args.asks_open c.report_request.result c.report_request.ensures.opens
 
 pub returns-then-asks_report-clause-brings : goal.returns-then-asks_report-clause-brings
-returns-then-asks_report-clause-brings c = brings_none c.args.brings c.report_request.result c.report_request.ensures.brings
+returns-then-asks_report-clause-brings c = brings_none c.args.said.brings c.args.said.seeks_key c.report_request.result c.report_request.ensures.brings

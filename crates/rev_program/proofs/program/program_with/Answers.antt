@@ -1,5 +1,6 @@
-use Rattle.std.proofs.Common.{inl, rules, Err, sym, ◌∙◌}
-use Rattle.rev_program.proofs.Ends.{asked_stopped, no_place, stopped_of, plainly, plain_of, unnoted, noted_of, noted_plainly, behind_of, early_of}
+use Rattle.std.proofs.Common.{◌≡◌, inl, rules, map, true, false, Err, sym, ◌∙◌}
+use Rattle.rev_options.specs.Request.{asks_open, brings, seeks_key, sought_key}
+use Rattle.rev_program.proofs.Ends.{asked_stopped, not_sought, sought_none, sought_watch, stopped_of, plainly, plain_of, unnoted, noted_of, noted_plainly, behind_of, early_of}
 use Rattle.rev_program.proofs.Tallies.{run_stopped, some_status}
 use Rattle.rev_program.proofs.Running.{keep, ends_refused}
 use Rattle.rev_program.proofs.program.program_with.Goals as goal
@@ -43,30 +44,37 @@ pub returns-in-Ok-Open-clause-noted : goal.returns-in-Ok-Open-clause-noted
 returns-in-Ok-Open-clause-noted g c = λ i r l s. noted_of _ _ _ _ _ c.open_traces.ensures.ends
 
 pub returns-in-Ok-OpenWatch-clause-noted : goal.returns-in-Ok-OpenWatch-clause-noted
-returns-in-Ok-OpenWatch-clause-noted g c = λ i r l s. absurd (no_place _ _ (rw c.in-Ok-OpenWatch.field-0-is at c.in-Ok-OpenWatch.ensures.opens) (rw c.in-Ok-OpenWatch.field-0-is at c.in-Ok-OpenWatch.ensures.brings) s)
+returns-in-Ok-OpenWatch-clause-noted g c =
+    λ i r l s. (not_sought _ (sought_key c.in-Ok-OpenWatch.asked.standing) _ _ _ _ _ s (sought_watch (asks_open (map g.S.AsStr.text c.args.words.now)) (brings (map g.S.AsStr.text c.args.words.now)) (seeks_key (map g.S.AsStr.text c.args.words.now)) c.in-Ok-OpenWatch.asked _ c.in-Ok-OpenWatch.field-0-is c.in-Ok-OpenWatch.ensures.opens c.in-Ok-OpenWatch.ensures.brings) c.open_watch.ensures).1
 
 pub returns-in-Ok-OpenWatch-clause-status : goal.returns-in-Ok-OpenWatch-clause-status
-returns-in-Ok-OpenWatch-clause-status g c = λ w s. absurd (no_place _ _ (rw c.in-Ok-OpenWatch.field-0-is at c.in-Ok-OpenWatch.ensures.opens) (rw c.in-Ok-OpenWatch.field-0-is at c.in-Ok-OpenWatch.ensures.brings) s)
+returns-in-Ok-OpenWatch-clause-status g c =
+    λ w s. (not_sought _ (sought_key c.in-Ok-OpenWatch.asked.standing) _ _ _ _ _ s (sought_watch (asks_open (map g.S.AsStr.text c.args.words.now)) (brings (map g.S.AsStr.text c.args.words.now)) (seeks_key (map g.S.AsStr.text c.args.words.now)) c.in-Ok-OpenWatch.asked _ c.in-Ok-OpenWatch.field-0-is c.in-Ok-OpenWatch.ensures.opens c.in-Ok-OpenWatch.ensures.brings) c.open_watch.ensures).0
+
+pub returns-in-Ok-OpenWatch-clause-behind : goal.returns-in-Ok-OpenWatch-clause-behind
+returns-in-Ok-OpenWatch-clause-behind g c =
+    λ i r l b. absurd (let h = rw c.in-Ok-OpenWatch.field-0-is at c.in-Ok-OpenWatch.ensures.brings in let e : true ≡ false = sym h.0 ∙ b in cc)
 
 pub returns-in-Err-clause-placed : goal.returns-in-Err-clause-placed
 returns-in-Err-clause-placed g c =
-    λ i r l. inl (c.ended.ensures.range, unnoted _ _ _ _ _ c.ended.ensures.quiet (λ n. inl (stopped_of _ _ _ _ (Err c.from.result) _ c.ended.ensures.status c.ended.ensures.told n)))
+    λ i r l. sought_none _ _ _ _ _ _ c.ended.ensures.range (unnoted _ _ _ _ _ c.ended.ensures.quiet (λ n. inl (stopped_of _ _ _ _ (Err c.from.result) _ c.ended.ensures.status c.ended.ensures.told n)))
 
 pub returns-in-Ok-Record-clause-placed : goal.returns-in-Ok-Record-clause-placed
 returns-in-Ok-Record-clause-placed g c =
-    λ i r l. inl (c.record_files.ensures.status, unnoted _ _ _ _ _ c.record_files.ensures.quiet (λ n. early_of _ _ _ _ _ _ _ (c.record_files.ensures.early n)))
+    λ i r l. sought_none _ _ _ _ _ _ c.record_files.ensures.status (unnoted _ _ _ _ _ c.record_files.ensures.quiet (λ n. early_of _ _ _ _ _ _ _ (c.record_files.ensures.early n)))
 
 pub returns-in-Ok-Open-clause-placed : goal.returns-in-Ok-Open-clause-placed
-returns-in-Ok-Open-clause-placed g c = λ i r l. inl (c.open_traces.ensures.status, noted_of _ _ _ _ _ c.open_traces.ensures.ends)
+returns-in-Ok-Open-clause-placed g c = λ i r l. sought_none _ _ _ _ _ _ c.open_traces.ensures.status (noted_of _ _ _ _ _ c.open_traces.ensures.ends)
 
 pub returns-in-Ok-OpenWatch-clause-placed : goal.returns-in-Ok-OpenWatch-clause-placed
-returns-in-Ok-OpenWatch-clause-placed g c = λ i r l. c.open_watch.ensures
+returns-in-Ok-OpenWatch-clause-placed g c =
+    λ i r l. (sought_key c.in-Ok-OpenWatch.asked.standing, sought_watch (asks_open (map g.S.AsStr.text c.args.words.now)) (brings (map g.S.AsStr.text c.args.words.now)) (seeks_key (map g.S.AsStr.text c.args.words.now)) c.in-Ok-OpenWatch.asked _ c.in-Ok-OpenWatch.field-0-is c.in-Ok-OpenWatch.ensures.opens c.in-Ok-OpenWatch.ensures.brings, c.open_watch.ensures)
 
 pub returns-in-Ok-OpenCsv-clause-placed : goal.returns-in-Ok-OpenCsv-clause-placed
-returns-in-Ok-OpenCsv-clause-placed g c = λ i r l. inl (c.open_csv.ensures.status, c.open_csv.ensures.ends)
+returns-in-Ok-OpenCsv-clause-placed g c = λ i r l. sought_none _ _ _ _ _ _ c.open_csv.ensures.status c.open_csv.ensures.ends
 
 pub returns-in-Ok-Report-clause-placed : goal.returns-in-Ok-Report-clause-placed
-returns-in-Ok-Report-clause-placed g c = λ i r l. inl (c.report.ensures.ends.status_is, noted_plainly _ _ _ _ _ c.report.ensures.ends)
+returns-in-Ok-Report-clause-placed g c = λ i r l. sought_none _ _ _ _ _ _ c.report.ensures.ends.status_is (noted_plainly _ _ _ _ _ c.report.ensures.ends)
 
 pub returns-in-Ok-OpenCsv-clause-noted : goal.returns-in-Ok-OpenCsv-clause-noted
 returns-in-Ok-OpenCsv-clause-noted g c = λ i r l s. c.open_csv.ensures.ends
@@ -103,3 +111,18 @@ returns-in-Ok-Gone-clause-lives g c = λ asks. c.gone.ensures.ends
 
 pub returns-in-Ok-Gone-clause-status : goal.returns-in-Ok-Gone-clause-status
 returns-in-Ok-Gone-clause-status g c = λ w s. c.gone.ensures.status
+
+pub returns-in-Ok-Top-clause-lives : goal.returns-in-Ok-Top-clause-lives
+returns-in-Ok-Top-clause-lives g c = λ asks. c.top.ensures.ends
+
+pub returns-in-Ok-Top-clause-status : goal.returns-in-Ok-Top-clause-status
+returns-in-Ok-Top-clause-status g c = λ w s. c.top.ensures.status
+
+pub returns-in-Ok-WhyTraces-clause-lives : goal.returns-in-Ok-WhyTraces-clause-lives
+returns-in-Ok-WhyTraces-clause-lives g c = λ asks. c.why_of_traces.ensures
+
+pub returns-in-Ok-GoneTraces-clause-lives : goal.returns-in-Ok-GoneTraces-clause-lives
+returns-in-Ok-GoneTraces-clause-lives g c = λ asks. c.gone_of_traces.ensures.ends
+
+pub returns-in-Ok-GoneTraces-clause-status : goal.returns-in-Ok-GoneTraces-clause-status
+returns-in-Ok-GoneTraces-clause-status g c = λ w s. c.gone_of_traces.ensures.status

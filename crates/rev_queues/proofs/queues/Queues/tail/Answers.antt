@@ -1,4 +1,4 @@
-use Rattle.std.proofs.Common.{◌≡◌, Some, IsSome, subst, sym, ◌∙◌, ap}
+use Rattle.std.proofs.Common.{◌≡◌, Some, IsSome, subst, sym, ◌∙◌, ap, arith}
 use Rattle.rev_links.specs.declared.places.RingPlace.TheVariants.{End, At}
 use Rattle.rev_queues.specs.Positions.{link_at}
 use Rattle.rev_queues.specs.QueueState.{id_of}
@@ -37,3 +37,6 @@ returns-in-Mark-clause-value g c =
     ∙ tail_mark s.links.ends s.links.marks s.links.slots s.tallies c.self.invariant c.args.self.now c.self.view_is (id_of c.args.class c.args.queue) c.requires
     c.link.result (subst (λ q. link_at s.links.ends s.links.marks s.links.slots (End q) ≡ Some c.link.result) c.id.ensures c.link.ensures.value) c.in-Mark.field-0 (c.in-At.is ∙ ap At c.in-Mark.is)
     c.link-in-Mark.result (subst (λ m. link_at s.links.ends s.links.marks s.links.slots (At m) ≡ Some c.link-in-Mark.result) c.in-Mark.is c.link-in-Mark.ensures.value)
+
+pub returns-in-End-clause-cost : goal.returns-in-End-clause-cost
+returns-in-End-clause-cost g c = omega (arith, c.link.ensures.cost)

@@ -1,0 +1,4 @@
+pub mod Named
+pub mod MoreRows
+pub mod Spaces
+pub mod Summed
