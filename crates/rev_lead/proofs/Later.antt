@@ -12,11 +12,12 @@ use Rattle.rev_watch.specs.declared.event.LookUpOutcome.TheVariants as look_ups
 use Rattle.rev_watch.specs.declared.event.StoreOutcome.{StoreOutcome}
 use Rattle.rev_watch.specs.declared.event.StoreOutcome.TheVariants as stores
 use Rattle.rev_lead.specs.Acts.{StageState, Act, after, Led, state_of_stage}
-use Rattle.rev_lead.specs.Agreed.{StoresKey, Stored, Found, Missed, is_failed, AgreedStore, AgreedLookUp, Agreed}
+use Rattle.rev_lead.specs.Agreed.{StoresKey, Stored, Found, Missed, Deleted, is_failed, AgreedStore, AgreedLookUp, Agreed}
 use Rattle.rev_lead.specs.declared.role.Role.{Role}
 use Rattle.rev_lead.specs.declared.agreeing.Agreement.{Agreement}
 use Rattle.rev_lead.specs.declared.agreeing.Agreement.TheVariants.{Agrees}
 use Rattle.rev_lead.proofs.Leading.{led_more}
+use Rattle.rev_lead.proofs.Carrying.{page_moved_more}
 
 found_more : (r s t : StageState) (k : List ℕ) (c : ℕ) → Led r s → Found s t k c → Found r t k c
 found_more r s t k c l f = record { front = f.front; before = led_more r s f.front f.before l; found = f.found; behind = f.behind }
@@ -26,6 +27,9 @@ missed_more r s t k l f = record { front = f.front; before = led_more r s f.fron
 
 stored_more : (r s t : StageState) (k : List ℕ) (c : ℕ) (o : StoreOutcome) → Led r s → Stored s t k c o → Stored r t k c o
 stored_more r s t k c o l f = record { front = f.front; done = f.done; before = led_more r s f.front f.before l; stored = f.stored; behind = f.behind }
+
+pub deleted_more : (r s t : StageState) (k : List ℕ) → Led r s → Deleted s t k → Deleted r t k
+deleted_more r s t k l f = record { front = f.front; before = led_more r s f.front f.before l; behind = f.behind; gone = f.gone }
 
 pub look_up_more : (r s t : StageState) (k : List ℕ) (c : ℕ) (o : LookUpOutcome) → Led r s → AgreedLookUp s t k c o → AgreedLookUp r t k c o
 look_up_more r s t k c look_ups.Found l a = found_more r s t k c l a
@@ -43,16 +47,16 @@ store_more r s t k c stores.Exists l a = stored_more r s t k c stores.Exists l a
 store_more r s t k c stores.NotFound l a = stored_more r s t k c stores.NotFound l a
 store_more r s t k c stores.Other l a = stored_more r s t k c stores.Other l a
 
-pub agreed_more : {A : Type 0} (e : Event A) (r s t : StageState) → Led r s → Agreed e s t → Agreed e r t
-agreed_more (LookUp k o c n z) r s t l a = look_up_more r s t k c o l a
-agreed_more (Store k w o m c n z) r s t l a = store_more r s t k c o l a
-agreed_more (Deletion k n) r s t l a = a
-agreed_more (Eviction k f m b c z) r s t l a = a
-agreed_more (PageMove x y) r s t l a = a
-agreed_more (CrawlEnd c q m x y) r s t l a = a
-agreed_more (ConnectionOpened n) r s t l a = a
-agreed_more (ConnectionClosed n) r s t l a = a
-agreed_more (Unknown k) r s t l a = a
+pub agreed_more : {A : Type 0} (e : Event A) (r s t : StageState) → Led r s → (state_of_stage s).owner ≡ (state_of_stage r).owner → Agreed e s t → Agreed e r t
+agreed_more (LookUp k o c n z) r s t l p a = look_up_more r s t k c o l a
+agreed_more (Store k w o m c n z) r s t l p a = store_more r s t k c o l a
+agreed_more (Deletion k n) r s t l p a = deleted_more r s t k l a
+agreed_more (Eviction k f m b c z) r s t l p a = a
+agreed_more (PageMove x y) r s t l p a = page_moved_more (state_of_stage r) (state_of_stage s) (state_of_stage t) x y p a
+agreed_more (CrawlEnd c q m x y) r s t l p a = a
+agreed_more (ConnectionOpened n) r s t l p a = a
+agreed_more (ConnectionClosed n) r s t l p a = a
+agreed_more (Unknown k) r s t l p a = a
 
 -- a storage command that failed agrees
 pub failed_agrees : (s t : StageState) (k : List ℕ) (c : ℕ) (o : StoreOutcome) → is_failed o ≡ true → AgreedStore s t k c o
@@ -75,9 +79,9 @@ stored_agrees s t k c stores.NotFound a = a
 stored_agrees s t k c stores.Other a = a
 
 -- the act of a step that was played
-pub act_of : {E : Type 0} (s t : StageState) (k : List ℕ) (e : Step) (role : Role) (r : Result Outcome E) → StoresKey k e → OnOk r (t ≡ after s (record { step = e; role = role })) → IfOk r (λ o. o ≡ outcome_of (state_of_stage s) e) → IfOk r (λ o. (act : Act) × StoresKey k act.step × (t ≡ after s act) × (o ≡ outcome_of (state_of_stage s) act.step))
-act_of s t k e role (Ok o) stores done told = (record { step = e; role = role }, stores, done, told)
-act_of s t k e role (Err f) stores done told = record {}
+pub act_played : {E : Type 0} (s t : StageState) (k : List ℕ) (e : Step) (role : Role) (r : Result Outcome E) → StoresKey k e → OnOk r (t ≡ after s (record { step = e; role = role })) → IfOk r (λ o. o ≡ outcome_of (state_of_stage s) e) → IfOk r (λ o. (act : Act) × StoresKey k act.step × (t ≡ after s act) × (o ≡ outcome_of (state_of_stage s) act.step))
+act_played s t k e role (Ok o) stores done told = (record { step = e; role = role }, stores, done, told)
+act_played s t k e role (Err f) stores done told = record {}
 
 -- a test that fails
 pub not_true : (b : Bool) → not b ≡ true → b ≡ false

@@ -1,8 +1,9 @@
 -- What is played on a stage.
 -- Rule of this project: each step is a node of the session's tree, below the current one, and has a role.
-use Rattle.std.specs.Prelude.{◌≡◌, List, [], ◌∷◌, ◌++◌}
+use Rattle.std.specs.Prelude.{◌≡◌, ◌≤◌, List, [], ◌∷◌, ◌++◌, length}
 use Rattle.rev_model.specs.Actor.{Step}
 use Rattle.rev_model.specs.State.{State}
+use Rattle.rev_tree.specs.Rows.{RowsFall}
 use Rattle.rev_tree.specs.Positions.{SessionState}
 use Rattle.rev_plays.specs.Replies.{played, state_of}
 use Rattle.rev_plays.specs.Start.{from_state}
@@ -12,6 +13,11 @@ use Rattle.rev_lead.specs.declared.role.Role.{Role}
 pub record StageState : Type 0 where
   pub session : SessionState
   pub roles : List Role
+
+-- each node was played below one that was played before it, and the session stands at one of them, or at the root
+pub record Ordered (m : SessionState) : Type 0 where
+  pub falls : RowsFall m.rows
+  pub within : m.current ≤ length m.rows
 
 -- a step, and why it is played
 pub record Act : Type 0 where

@@ -1,9 +1,14 @@
 //! The driver: each event of a log is played on a stage, with what has to stand in front of it.
-ghost use Rattle.std.specs.Prelude.{◌≡◌, IfOk};
-ghost use Rattle.rev_lead.specs.Acts.{Led};
-ghost use Rattle.rev_lead.specs.Agreed.{Agreed};
+ghost use Rattle.std.specs.Prelude.{◌≡◌, ℕ, List, None, IfOk, OnOk, OnErr};
+ghost use Rattle.rev_steps.specs.Plain.{plain_step, plain_actor};
+ghost use Rattle.rev_tree.specs.Steps.{next, outcome_of};
+ghost use Rattle.rev_lead.specs.Acts.{Led, after, state_of_stage};
+ghost use Rattle.rev_lead.specs.Agreed.{Agreed, Deleted};
+ghost use Rattle.rev_lead.specs.Agrees.{holding_of};
 ghost use Rattle.rev_lead.specs.Counts.{no_tally};
+ghost use Rattle.rev_lead.specs.Deeds.{Driven, Tells};
 ghost use Rattle.rev_lead.specs.declared.agreeing.Agreement.{Agreement as AgreementOf};
+ghost use Rattle.rev_lead.specs.declared.role.Role.{Role as RoleOf};
 
 mod evicting;
 mod flushing;
@@ -26,7 +31,7 @@ use rev_classes::ClassTable;
 use rev_items::Key;
 use rev_log::foresight::{Coming, Foresight};
 use rev_model::Outcome;
-use rev_requests::ActorStep;
+use rev_requests::{ActorStep, Step};
 use rev_watch::event::{Event, Timestamp};
 use std::alloc::{AllocError, Allocator};
 use std::marker::Model;
@@ -111,7 +116,7 @@ impl<A: Allocator + Copy> Driver<A> {
     /// maintainer does behind it. The answer is whether the session agrees with the event.
     ///
     /// Err: memory was refused, or the session's tree is full. What was played before stays played.
-    #[tactic(auto, using(crate::proofs::Leading::led_more, crate::proofs::Leading::led_same))]
+    #[tactic(auto, using(crate::proofs::Driving::driven_more, crate::proofs::Driving::driven_same))]
     pub fn take(
         &mut self,
         coming: &Coming<A>,
@@ -120,6 +125,7 @@ impl<A: Allocator + Copy> Driver<A> {
     ) -> Result<Agreement, LeadFault>
         ensures led { Led stage.old stage.new }
         ensures agrees { IfOk result (λ agreement. agreement ≡ AgreementOf.Agrees → Agreed coming.now.line.event stage.old stage.new) }
+        ensures tells { Tells self.old self.new stage.old stage.new result }
     {
         self.time = coming.line.time;
         self.flushes.reach(coming.number);
@@ -130,9 +136,10 @@ impl<A: Allocator + Copy> Driver<A> {
     }
 
     /// Plays the evictions that wait for a store that the log does not have.
-    #[tactic(auto, using(crate::proofs::Leading::led_more, crate::proofs::Leading::led_same))]
+    #[tactic(auto, using(crate::proofs::Driving::driven_more, crate::proofs::Driving::driven_same))]
     pub fn finish(&mut self, stage: &mut Stage<A>) -> Result<(), LeadFault>
         ensures led { Led stage.old stage.new }
+        ensures driven { Driven self.old self.new stage.old stage.new }
     {
         for _ in 0..self.waiting.len() {
             match self.waiting.take_first() {
@@ -169,25 +176,27 @@ impl<A: Allocator + Copy> Driver<A> {
         }
     }
 
-    #[tactic(auto, using(crate::proofs::Leading::led_more, crate::proofs::Leading::led_same))]
+    #[tactic(auto, using(crate::proofs::Driving::driven_more, crate::proofs::Driving::driven_same))]
     fn set_clock(&mut self, second: u32, stage: &mut Stage<A>) -> Result<(), LeadFault>
-        ensures led { Led stage.old stage.new }
+        ensures driven { Driven self.old self.new stage.old stage.new }
+        ensures owners { (state_of_stage stage.new).owner ≡ (state_of_stage stage.old).owner }
     {
-        if second > stage.store().globals().clock {
-            stage.play(actor(ActorStep::Clock(second)), Role::Actor)?;
+        if second <= stage.store().globals().clock {
+            return Ok(());
         }
+        self.work(ActorStep::Clock(second), stage)?;
         Ok(())
     }
 
     // Plays an event at the second that the clock shows.
-    #[tactic(auto, using(crate::proofs::Leading::led_more, crate::proofs::Leading::led_same))]
+    #[tactic(auto, using(crate::proofs::Driving::driven_more, crate::proofs::Driving::driven_same))]
     fn event(
         &mut self,
         coming: &Coming<A>,
         ahead: &Foresight<A>,
         stage: &mut Stage<A>,
     ) -> Result<Agreement, LeadFault>
-        ensures led { Led stage.old stage.new }
+        ensures driven { Driven self.old self.new stage.old stage.new }
         ensures agrees { IfOk result (λ agreement. agreement ≡ AgreementOf.Agrees → Agreed coming.now.line.event stage.old stage.new) }
     {
         match &coming.line.event {
@@ -232,50 +241,74 @@ impl<A: Allocator + Copy> Driver<A> {
         }
     }
 
-    // A deletion that the log shows.
-    #[tactic(auto, using(crate::proofs::Leading::led_more, crate::proofs::Leading::led_same))]
-    fn delete(&mut self, key: &Key<A>, stage: &mut Stage<A>) -> Result<Agreement, LeadFault>
-        ensures led { Led stage.old stage.new }
+    // What the line itself says.
+    fn say(&mut self, step: Step<A>, stage: &mut Stage<A>) -> Result<Outcome, LeadFault>
+        ensures driven { Driven self.old self.new stage.old stage.new }
+        ensures ok { OnOk result (stage.new ≡ after stage.old (record { step = plain_step step; role = RoleOf.Event })) }
+        ensures state { OnOk result (state_of_stage stage.new ≡ next (state_of_stage stage.old) (plain_step step)) }
+        ensures outcome { IfOk result (λ outcome. outcome ≡ outcome_of (state_of_stage stage.old) (plain_step step)) }
+        ensures err { OnErr result (stage.new ≡ stage.old) }
     {
-        stage.play(delete(self.alloc, key)?, Role::Event)?;
+        stage.play(step, Role::Event)
+    }
+
+    // The maintainer, the page mover or the clock does a step.
+    fn work(&mut self, step: ActorStep, stage: &mut Stage<A>) -> Result<Outcome, LeadFault>
+        ensures driven { Driven self.old self.new stage.old stage.new }
+        ensures state { OnOk result (state_of_stage stage.new ≡ next (state_of_stage stage.old) (plain_actor step)) }
+        ensures err { OnErr result (stage.new ≡ stage.old) }
+    {
+        stage.play(actor(step), Role::Actor)
+    }
+
+    // A deletion that the log shows.
+    #[tactic(auto, using(crate::proofs::Driving::driven_more, crate::proofs::Driving::driven_same))]
+    fn delete(&mut self, key: &Key<A>, stage: &mut Stage<A>) -> Result<Agreement, LeadFault>
+        ensures driven { Driven self.old self.new stage.old stage.new }
+        ensures agrees { IfOk result (λ agreement. agreement ≡ AgreementOf.Agrees → Deleted stage.old stage.new key.now) }
+    {
+        self.say(delete(self.alloc, key)?, stage)?;
         self.bump(stage)?;
         Ok(Agreement::Agrees)
     }
 
-    #[tactic(auto, using(crate::proofs::Leading::led_more, crate::proofs::Leading::led_same))]
+    #[tactic(auto, using(crate::proofs::Driving::driven_more, crate::proofs::Driving::driven_same))]
     fn get(&mut self, key: &Key<A>, stage: &mut Stage<A>) -> Result<Outcome, LeadFault>
-        ensures led { Led stage.old stage.new }
+        ensures driven { Driven self.old self.new stage.old stage.new }
     {
-        stage.play(get(self.alloc, key)?, Role::Event)
+        self.say(get(self.alloc, key)?, stage)
     }
 
     // A lifetime that the log does not show.
-    #[tactic(auto, using(crate::proofs::Leading::led_more, crate::proofs::Leading::led_same))]
+    #[tactic(auto, using(crate::proofs::Driving::driven_more, crate::proofs::Driving::driven_same))]
     fn touch(
         &mut self,
         key: &Key<A>,
         exptime: i32,
         stage: &mut Stage<A>,
     ) -> Result<Outcome, LeadFault>
-        ensures led { Led stage.old stage.new }
+        ensures driven { Driven self.old self.new stage.old stage.new }
     {
+        let outcome = stage.play(touch(self.alloc, key, exptime)?, Role::Lifetime)?;
         self.tally.adjust(Adjustment::Lifetime);
-        stage.play(touch(self.alloc, key, exptime)?, Role::Lifetime)
+        Ok(outcome)
     }
 
     // The maintainer takes the bump queue's first entry now and then.
-    #[tactic(auto, using(crate::proofs::Leading::led_more, crate::proofs::Leading::led_same))]
+    #[tactic(auto, using(crate::proofs::Driving::driven_more, crate::proofs::Driving::driven_same))]
     fn bump(&mut self, stage: &mut Stage<A>) -> Result<(), LeadFault>
-        ensures led { Led stage.old stage.new }
+        ensures driven { Driven self.old self.new stage.old stage.new }
+        ensures gone { (key : List ℕ) → holding_of (state_of_stage stage.old) key ≡ None → holding_of (state_of_stage stage.new) key ≡ None }
     {
         self.since_bump = self.since_bump.saturating_add(1);
         if self.since_bump < BUMP_EVERY {
             return Ok(());
         }
         self.since_bump = 0;
-        if stage.store().bump_len() > 0 {
-            stage.play(actor(ActorStep::Bump), Role::Actor)?;
+        if stage.store().bump_len() == 0 {
+            return Ok(());
         }
+        self.work(ActorStep::Bump, stage)?;
         Ok(())
     }
 }

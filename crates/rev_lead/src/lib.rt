@@ -22,5 +22,5 @@ mod wanting;
 pub use agreeing::{Agreement, Disagreement};
 pub use driver::Driver;
 pub use role::Role;
-pub use stage::{LeadFault, Stage};
+pub use stage::{LeadFault, Stage, Viewer};
 pub use tally::Tally;

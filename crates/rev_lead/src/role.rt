@@ -24,4 +24,6 @@ pub enum Role {
     Flush,
     /// What stands in front of a key that the log shows and the replay lacks, and its set.
     Restore,
+    /// A delete of an item whose key is in no sample: its store was played for the evictions that waited for it.
+    Outside,
 }

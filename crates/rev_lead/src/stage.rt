@@ -3,7 +3,7 @@ ghost use Rattle.std.specs.Prelude.{◌≡◌, [], IfOk, IfSome, OnOk, OnErr};
 ghost use Rattle.rev_classes.specs.Limits.{IsWithinLimits};
 ghost use Rattle.rev_model.specs.Sound.{Sound};
 ghost use Rattle.rev_steps.specs.Plain.{plain_step};
-ghost use Rattle.rev_tree.specs.Steps.{outcome_of};
+ghost use Rattle.rev_tree.specs.Steps.{next, outcome_of};
 ghost use Rattle.rev_plays.specs.Begin.{opened};
 ghost use Rattle.rev_lead.specs.Acts.{Led, after, begun, state_of_stage};
 
@@ -50,6 +50,16 @@ fn fault_of(fault: PlayFault) -> LeadFault {
     }
 }
 
+/// Who looks at a session, and leaves it as it was.
+pub trait Viewer<A: Allocator> {
+    /// Why it could not look.
+    type Fault;
+
+    /// Looks at the session. Meanwhile it may stand elsewhere.
+    fn view(&mut self, session: &mut Session<A>) -> Result<(), Self::Fault>
+        ensures { session.new ≡ session.old };
+}
+
 /// A session, with the role of each of its nodes since its root.
 #[derive(Drop)]
 pub struct Stage<A: Allocator> {
@@ -60,13 +70,15 @@ pub struct Stage<A: Allocator> {
 impl<A: Allocator> Model for Stage<A> {
     ghost use Rattle.std.specs.Coded.{codes};
     ghost use Rattle.rev_model.specs.Codes.{coded_contents, coded_keys};
-    ghost use Rattle.rev_lead.specs.Acts.{StageState};
+    ghost use Rattle.rev_lead.specs.Acts.{StageState, Ordered};
 
     ghost Value = { StageState };
 
     ghost coded = { Prim.hlevel (codes, coded_contents, coded_keys) };
 
     ghost view = { λ s. record { session = s.session; roles = s.roles.items } };
+
+    ghost invariant = { λ s. Ordered s.session };
 }
 
 impl<A: Allocator + Copy> Stage<A> {
@@ -83,15 +95,14 @@ impl<A: Allocator + Copy> Stage<A> {
     }
 
     /// A stage that begins where a session stands: its state is the root from now on, and there is no node.
-    pub fn on(alloc: A, session: Session<A>) -> Stage<A>
+    pub fn on(alloc: A, mut session: Session<A>) -> Stage<A>
         ensures { result ≡ begun (record { session = session; roles = [] }) }
     {
-        let mut stage = Stage {
+        session.restart();
+        Stage {
             session,
             roles: Vec::new(alloc),
-        };
-        stage.restart();
-        stage
+        }
     }
 
     /// The session, without the roles.
@@ -123,6 +134,13 @@ impl<A: Allocator + Copy> Stage<A> {
         self.roles.as_slice()
     }
 
+    /// Shows the session.
+    pub fn show<V: Viewer<A>>(&mut self, viewer: &mut V) -> Result<(), V::Fault>
+        ensures { self.new ≡ self.old }
+    {
+        viewer.view(&mut self.session)
+    }
+
     /// Begins anew where the session stands: its state is the root from now on, and there is no node.
     pub fn restart(&mut self)
         ensures { self.new ≡ begun self.old }
@@ -134,6 +152,7 @@ impl<A: Allocator + Copy> Stage<A> {
     // Plays a step, and notes its role.
     fn play_alone(&mut self, step: Step<A>, role: Role) -> Result<Outcome, LeadFault>
         ensures ok { OnOk result (self.new ≡ after self.old (record { step = plain_step step; role = role })) }
+        ensures state { OnOk result (state_of_stage self.new ≡ next (state_of_stage self.old) (plain_step step)) }
         ensures outcome { IfOk result (λ outcome. outcome ≡ outcome_of (state_of_stage self.old) (plain_step step)) }
         ensures err { OnErr result (self.new ≡ self.old) }
     {
@@ -155,6 +174,7 @@ impl<A: Allocator + Copy> Stage<A> {
     /// Err: memory was refused, or the session's tree is full; nothing was played.
     pub fn play(&mut self, step: Step<A>, role: Role) -> Result<Outcome, LeadFault>
         ensures ok { OnOk result (self.new ≡ after self.old (record { step = plain_step step; role = role })) }
+        ensures state { OnOk result (state_of_stage self.new ≡ next (state_of_stage self.old) (plain_step step)) }
         ensures outcome { IfOk result (λ outcome. outcome ≡ outcome_of (state_of_stage self.old) (plain_step step)) }
         ensures err { OnErr result (self.new ≡ self.old) }
         ensures led { Led self.old self.new }

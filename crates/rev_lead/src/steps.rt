@@ -1,6 +1,8 @@
 //! The steps that a driver plays.
-ghost use Rattle.std.specs.Prelude.{IfOk};
-ghost use Rattle.rev_requests.specs.Plain.{plain_step};
+ghost use Rattle.std.specs.Prelude.{◌≡◌, IfOk};
+ghost use Rattle.rev_model.specs.Client.{Gets, Touches, Deletes, Evicts};
+ghost use Rattle.rev_model.specs.Actor.{Client};
+ghost use Rattle.rev_requests.specs.Plain.{plain_step, plain_keyed, plain_actor};
 ghost use Rattle.rev_lead.specs.Agreed.{StoresKey};
 
 use rev_items::{Data, Key, MAX_RELATIVE_TTL};
@@ -11,23 +13,31 @@ fn keyed<A: Allocator + Copy>(
     alloc: A,
     command: KeyCommand,
     key: &Key<A>,
-) -> Result<Step<A>, AllocError> {
+) -> Result<Step<A>, AllocError>
+    ensures { IfOk result (λ step. plain_step step ≡ Client (plain_keyed command key.now)) }
+{
     Ok(Step::Client(ClientStep::Keyed {
         command,
         key: key.copy(alloc)?,
     }))
 }
 
-pub fn get<A: Allocator + Copy>(alloc: A, key: &Key<A>) -> Result<Step<A>, AllocError> {
+pub fn get<A: Allocator + Copy>(alloc: A, key: &Key<A>) -> Result<Step<A>, AllocError>
+    ensures { IfOk result (λ step. plain_step step ≡ Client (Gets key.now)) }
+{
     keyed(alloc, KeyCommand::Get, key)
 }
 
-pub fn delete<A: Allocator + Copy>(alloc: A, key: &Key<A>) -> Result<Step<A>, AllocError> {
+pub fn delete<A: Allocator + Copy>(alloc: A, key: &Key<A>) -> Result<Step<A>, AllocError>
+    ensures { IfOk result (λ step. plain_step step ≡ Client (Deletes key.now)) }
+{
     keyed(alloc, KeyCommand::Delete, key)
 }
 
 /// The eviction of a key where the log has it.
-pub fn evict<A: Allocator + Copy>(alloc: A, key: &Key<A>) -> Result<Step<A>, AllocError> {
+pub fn evict<A: Allocator + Copy>(alloc: A, key: &Key<A>) -> Result<Step<A>, AllocError>
+    ensures { IfOk result (λ step. plain_step step ≡ Client (Evicts key.now)) }
+{
     keyed(alloc, KeyCommand::Evict, key)
 }
 
@@ -35,11 +45,15 @@ pub fn touch<A: Allocator + Copy>(
     alloc: A,
     key: &Key<A>,
     exptime: i32,
-) -> Result<Step<A>, AllocError> {
+) -> Result<Step<A>, AllocError>
+    ensures { IfOk result (λ step. plain_step step ≡ Client (Touches key.now exptime)) }
+{
     keyed(alloc, KeyCommand::Touch(exptime), key)
 }
 
-pub fn actor<A: Allocator>(step: ActorStep) -> Step<A> {
+pub fn actor<A: Allocator>(step: ActorStep) -> Step<A>
+    ensures { plain_step result ≡ plain_actor step }
+{
     Step::Actor(step)
 }
 

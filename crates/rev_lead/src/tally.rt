@@ -1,24 +1,33 @@
 //! What a driver counts.
 ghost use Rattle.std.specs.Prelude.{◌≡◌};
-ghost use Rattle.rev_lead.specs.Counts.{no_tally};
+ghost use Rattle.rev_lead.specs.Counts.{no_tally, raised, inferred, adjusted, disagreed, counted};
 
 use crate::agreeing::{Agreement, Disagreement};
 
-/// What stands in front of an event so that the replay agrees with it.
+/// What a key is counted as that goes without a line of its own.
+#[derive(Clone, Copy, Debug, PartialEq, Eq)]
+pub enum Inference {
+    /// A hit is taken for a delete: the key's next look-up misses.
+    AtHit,
+    /// In front of a look-up that misses.
+    AtMiss,
+    /// In front of a store for which there is no free chunk: the key was hit, and is gone later.
+    Wanted,
+    /// The same, of a key that no later line shows.
+    Unseen,
+}
+
+/// What a step is counted as that a driver plays so that the replay agrees with an event.
 #[derive(Clone, Copy, Debug, PartialEq, Eq)]
 pub enum Adjustment {
     /// An eviction of the log that the rules would not have made by themselves.
     Evicted,
-    /// A hit that is taken for a delete: the key's next look-up misses.
-    DeletedAtHit,
-    /// A delete in front of a look-up that misses.
-    DeletedAtMiss,
-    /// A delete in front of a store for which there is no free chunk: of a key that was hit, and is gone later.
-    Wanted,
-    /// The same, of an item whose lifetime is over.
-    WantedExpired,
-    /// The same, of a key that no later line shows.
-    WantedUnseen,
+    /// A store by which the rules evict what the log evicts.
+    ByRules,
+    /// A delete that the log does not show.
+    Inferred(Inference),
+    /// A delete in front of a store for which there is no free chunk, of an item whose lifetime is over.
+    Expired,
     /// A lifetime that the log does not show.
     Lifetime,
     /// An item that was flushed.
@@ -49,8 +58,10 @@ pub struct Tally {
     pub other_evictions: u64,
 }
 
-/// Counts one more.
-pub fn one_more(count: &mut u64) {
+// Counts one more.
+fn one_more(count: &mut u64)
+    ensures { count.new ≡ raised count.old }
+{
     *count = count.saturating_add(1);
 }
 
@@ -79,32 +90,54 @@ impl Tally {
         }
     }
 
+    // One more key that went without a line.
+    fn infer(&mut self, inference: Inference)
+        ensures { self.new ≡ inferred inference self.old }
+    {
+        match inference {
+            Inference::AtHit => one_more(&mut self.deleted_at_hit),
+            Inference::AtMiss => one_more(&mut self.deleted_at_miss),
+            Inference::Wanted => one_more(&mut self.wanted),
+            Inference::Unseen => one_more(&mut self.wanted_unseen),
+        }
+    }
+
     /// One more adjustment of this kind.
-    pub(crate) fn adjust(&mut self, adjustment: Adjustment) {
-        one_more(match adjustment {
-            Adjustment::Evicted => &mut self.evicted,
-            Adjustment::DeletedAtHit => &mut self.deleted_at_hit,
-            Adjustment::DeletedAtMiss => &mut self.deleted_at_miss,
-            Adjustment::Wanted => &mut self.wanted,
-            Adjustment::WantedExpired => &mut self.wanted_expired,
-            Adjustment::WantedUnseen => &mut self.wanted_unseen,
-            Adjustment::Lifetime => &mut self.lifetimes,
-            Adjustment::Flushed => &mut self.flushed,
-            Adjustment::Restored => &mut self.restored,
-        });
+    pub(crate) fn adjust(&mut self, adjustment: Adjustment)
+        ensures { self.new ≡ adjusted adjustment self.old }
+    {
+        match adjustment {
+            Adjustment::Evicted => one_more(&mut self.evicted),
+            Adjustment::ByRules => one_more(&mut self.evicted_by_rules),
+            Adjustment::Inferred(inference) => self.infer(inference),
+            Adjustment::Expired => one_more(&mut self.wanted_expired),
+            Adjustment::Lifetime => one_more(&mut self.lifetimes),
+            Adjustment::Flushed => one_more(&mut self.flushed),
+            Adjustment::Restored => one_more(&mut self.restored),
+        }
+    }
+
+    // One more event with which the replay does not agree.
+    fn disagree(&mut self, disagreement: Disagreement)
+        ensures { self.new ≡ disagreed disagreement self.old }
+    {
+        match disagreement {
+            Disagreement::OtherClass => one_more(&mut self.other_class),
+            Disagreement::RefusedMove => one_more(&mut self.refused_moves),
+            Disagreement::NoChunk => one_more(&mut self.no_chunk),
+            Disagreement::OtherAnswer => one_more(&mut self.other_answers),
+            Disagreement::OtherEviction => one_more(&mut self.other_evictions),
+        }
     }
 
     /// One more event, with which the replay agrees or not.
-    pub(crate) fn count(&mut self, agreement: Agreement) {
+    pub(crate) fn count(&mut self, agreement: Agreement)
+        ensures { self.new ≡ counted agreement self.old }
+    {
         one_more(&mut self.events);
-        if let Agreement::Disagrees(kind) = agreement {
-            one_more(match kind {
-                Disagreement::OtherClass => &mut self.other_class,
-                Disagreement::RefusedMove => &mut self.refused_moves,
-                Disagreement::NoChunk => &mut self.no_chunk,
-                Disagreement::OtherAnswer => &mut self.other_answers,
-                Disagreement::OtherEviction => &mut self.other_evictions,
-            });
+        match agreement {
+            Agreement::Agrees => {}
+            Agreement::Disagrees(disagreement) => self.disagree(disagreement),
         }
     }
 }

@@ -3,7 +3,7 @@ ghost use Rattle.std.specs.Prelude.{◌≡◌, IfOk};
 ghost use Rattle.rev_lead.specs.Acts.{state_of_stage};
 ghost use Rattle.rev_lead.specs.Agreed.{AgreedEviction};
 ghost use Rattle.rev_lead.specs.declared.agreeing.Agreement.{Agreement as AgreementOf};
-ghost use Rattle.rev_lead.specs.Acts.{Led};
+ghost use Rattle.rev_lead.specs.Deeds.{Driven};
 
 use super::Driver;
 use crate::agreeing::{Agreement, Disagreement, agrees_if, is_gone, is_in_class};
@@ -18,25 +18,26 @@ use std::alloc::Allocator;
 
 impl<A: Allocator + Copy> Driver<A> {
     // Takes a key out where the log evicts it.
-    #[tactic(auto, using(crate::proofs::Leading::led_more, crate::proofs::Leading::led_same))]
+    #[tactic(auto, using(crate::proofs::Driving::driven_more, crate::proofs::Driving::driven_same))]
     pub(super) fn evict(&mut self, key: &Key<A>, stage: &mut Stage<A>) -> Result<(), LeadFault>
-        ensures led { Led stage.old stage.new }
+        ensures driven { Driven self.old self.new stage.old stage.new }
     {
-        if holding_of(stage.store(), key).is_some() {
-            self.tally.adjust(Adjustment::Evicted);
-            stage.play(evict(self.alloc, key)?, Role::Eviction)?;
+        if holding_of(stage.store(), key).is_none() {
+            return Ok(());
         }
+        stage.play(evict(self.alloc, key)?, Role::Eviction)?;
+        self.tally.adjust(Adjustment::Evicted);
         Ok(())
     }
 
     // Takes keys out where the log evicts them.
-    #[tactic(auto, using(crate::proofs::Leading::led_more, crate::proofs::Leading::led_same))]
+    #[tactic(auto, using(crate::proofs::Driving::driven_more, crate::proofs::Driving::driven_same))]
     pub(super) fn evict_all(
         &mut self,
         keys: &[Key<A>],
         stage: &mut Stage<A>,
     ) -> Result<(), LeadFault>
-        ensures led { Led stage.old stage.new }
+        ensures driven { Driven self.old self.new stage.old stage.new }
     {
         for key in keys {
             self.evict(key, stage)?;
@@ -45,9 +46,9 @@ impl<A: Allocator + Copy> Driver<A> {
     }
 
     // A line names the key: if its eviction waits, that was before.
-    #[tactic(auto, using(crate::proofs::Leading::led_more, crate::proofs::Leading::led_same))]
+    #[tactic(auto, using(crate::proofs::Driving::driven_more, crate::proofs::Driving::driven_same))]
     pub(super) fn settle(&mut self, key: &Key<A>, stage: &mut Stage<A>) -> Result<(), LeadFault>
-        ensures led { Led stage.old stage.new }
+        ensures driven { Driven self.old self.new stage.old stage.new }
     {
         if self.waiting.take(key) {
             self.evict(key, stage)?;
@@ -56,7 +57,7 @@ impl<A: Allocator + Copy> Driver<A> {
     }
 
     // The log evicts a key: that waits for the store that needed its chunk.
-    #[tactic(auto, using(crate::proofs::Leading::led_more, crate::proofs::Leading::led_same))]
+    #[tactic(auto, using(crate::proofs::Driving::driven_more, crate::proofs::Driving::driven_same))]
     pub(super) fn evicted(
         &mut self,
         key: &Key<A>,
@@ -65,7 +66,7 @@ impl<A: Allocator + Copy> Driver<A> {
         ahead: &Foresight<A>,
         stage: &mut Stage<A>,
     ) -> Result<Agreement, LeadFault>
-        ensures led { Led stage.old stage.new }
+        ensures driven { Driven self.old self.new stage.old stage.new }
         ensures agrees { IfOk result (λ agreement. agreement ≡ AgreementOf.Agrees → AgreedEviction (state_of_stage stage.new) key.now class) }
     {
         if self.early.take(key) {

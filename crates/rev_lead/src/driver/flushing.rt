@@ -1,5 +1,7 @@
 //! Flushes: the log does not show them, but what they let go.
-ghost use Rattle.rev_lead.specs.Acts.{Led};
+ghost use Rattle.std.specs.Prelude.{◌≡◌};
+ghost use Rattle.rev_lead.specs.Deeds.{Driven};
+ghost use Rattle.rev_lead.specs.Pages.{Carries};
 
 use super::Driver;
 use crate::agreeing::is_found;
@@ -48,13 +50,17 @@ impl<A: Allocator + Copy> Driver<A> {
     }
 
     // The item is found: no flush has let it go.
-    pub(super) fn find_unflushed(&mut self, held: Holding, stage: &Stage<A>) {
+    pub(super) fn find_unflushed(&mut self, held: Holding, stage: &Stage<A>)
+        ensures { self.new ≡ self.old }
+    {
         let stored = stage.store().globals().last_cas;
         self.flushes.find(held.header.cas, stored);
     }
 
     // The key is held: where its next event says that it was flushed, a flush comes.
-    pub(super) fn expect_flush(&mut self, key: &Key<A>, ahead: &Foresight<A>, stage: &Stage<A>) {
+    pub(super) fn expect_flush(&mut self, key: &Key<A>, ahead: &Foresight<A>, stage: &Stage<A>)
+        ensures { self.new ≡ self.old }
+    {
         let Some(next) = ahead.first_of(key) else {
             return;
         };
@@ -82,19 +88,21 @@ impl<A: Allocator + Copy> Driver<A> {
     }
 
     // The key's item was flushed: it is dead from here on.
-    #[tactic(auto, using(crate::proofs::Leading::led_more, crate::proofs::Leading::led_same))]
+    #[tactic(auto, using(crate::proofs::Driving::driven_more, crate::proofs::Driving::driven_same, crate::proofs::Carrying::carries_more, crate::proofs::Carrying::carries_same))]
     fn end_flushed(&mut self, key: &Key<A>, stage: &mut Stage<A>) -> Result<(), LeadFault>
-        ensures led { Led stage.old stage.new }
+        ensures driven { Driven self.old self.new stage.old stage.new }
+        ensures carries { Carries stage.old stage.new }
     {
-        self.tally.adjust(Adjustment::Flushed);
         stage.play(touch(self.alloc, key, -1)?, Role::Flush)?;
+        self.tally.adjust(Adjustment::Flushed);
         Ok(())
     }
 
     // The key's item was flushed, and it is gone: no client's look-up meets it.
-    #[tactic(auto, using(crate::proofs::Leading::led_more, crate::proofs::Leading::led_same))]
+    #[tactic(auto, using(crate::proofs::Driving::driven_more, crate::proofs::Driving::driven_same, crate::proofs::Carrying::carries_more, crate::proofs::Carrying::carries_same))]
     pub(super) fn flush(&mut self, key: &Key<A>, stage: &mut Stage<A>) -> Result<(), LeadFault>
-        ensures led { Led stage.old stage.new }
+        ensures driven { Driven self.old self.new stage.old stage.new }
+        ensures carries { Carries stage.old stage.new }
     {
         self.end_flushed(key, stage)?;
         stage.play(get(self.alloc, key)?, Role::Flush)?;
@@ -102,14 +110,14 @@ impl<A: Allocator + Copy> Driver<A> {
     }
 
     // The key's item was flushed, and a look-up misses it: a client's, or another command's, which plays nothing.
-    #[tactic(auto, using(crate::proofs::Leading::led_more, crate::proofs::Leading::led_same))]
+    #[tactic(auto, using(crate::proofs::Driving::driven_more, crate::proofs::Driving::driven_same))]
     pub(super) fn lose_flushed(
         &mut self,
         is_other: bool,
         key: &Key<A>,
         stage: &mut Stage<A>,
     ) -> Result<(), LeadFault>
-        ensures led { Led stage.old stage.new }
+        ensures driven { Driven self.old self.new stage.old stage.new }
     {
         if is_other {
             self.flush(key, stage)
@@ -119,7 +127,7 @@ impl<A: Allocator + Copy> Driver<A> {
     }
 
     // The maintainer comes to a queue: its last item goes, where it is known to be flushed and no later line meets it.
-    #[tactic(auto, using(crate::proofs::Leading::led_more, crate::proofs::Leading::led_same))]
+    #[tactic(auto, using(crate::proofs::Driving::driven_more, crate::proofs::Driving::driven_same))]
     pub(super) fn sweep(
         &mut self,
         class: usize,
@@ -127,7 +135,7 @@ impl<A: Allocator + Copy> Driver<A> {
         ahead: &Foresight<A>,
         stage: &mut Stage<A>,
     ) -> Result<(), LeadFault>
-        ensures led { Led stage.old stage.new }
+        ensures driven { Driven self.old self.new stage.old stage.new }
     {
         match self.flushed_tail(class, queue, ahead, stage)? {
             Some(key) => self.flush(&key, stage),

@@ -2,17 +2,16 @@
 ghost use Rattle.std.specs.Prelude.{◌≡◌, IfOk};
 ghost use Rattle.rev_lead.specs.Agreed.{AgreedLookUp, Found, Missed};
 ghost use Rattle.rev_lead.specs.declared.agreeing.Agreement.{Agreement as AgreementOf};
-ghost use Rattle.rev_lead.specs.Acts.{Led};
+ghost use Rattle.rev_lead.specs.Deeds.{Driven};
 
 use super::Driver;
 use super::flushing::ends_flushed;
 use super::storing::MOST_DATA;
 use crate::agreeing::{Agreement, Disagreement, agrees_if, is_found, is_held_alive};
 use crate::holding::{Holding, holding_of};
-use crate::role::Role;
 use crate::stage::{LeadFault, Stage};
-use crate::steps::{delete, exptime_at, failed_set};
-use crate::tally::Adjustment;
+use crate::steps::{exptime_at, failed_set};
+use crate::tally::Inference;
 use crate::wanting::{Next, next_of};
 use rev_items::Key;
 use rev_log::foresight::{Coming, Foresight};
@@ -22,7 +21,7 @@ use std::alloc::Allocator;
 
 impl<A: Allocator + Copy> Driver<A> {
     // A look-up.
-    #[tactic(auto, using(crate::proofs::Leading::led_more, crate::proofs::Leading::led_same))]
+    #[tactic(auto, using(crate::proofs::Driving::driven_more, crate::proofs::Driving::driven_same))]
     pub(super) fn look_up(
         &mut self,
         coming: &Coming<A>,
@@ -33,7 +32,7 @@ impl<A: Allocator + Copy> Driver<A> {
         ahead: &Foresight<A>,
         stage: &mut Stage<A>,
     ) -> Result<Agreement, LeadFault>
-        ensures led { Led stage.old stage.new }
+        ensures driven { Driven self.old self.new stage.old stage.new }
         ensures agrees { IfOk result (λ agreement. agreement ≡ AgreementOf.Agrees → AgreedLookUp stage.old stage.new key.now class outcome) }
     {
         match outcome {
@@ -46,7 +45,7 @@ impl<A: Allocator + Copy> Driver<A> {
     }
 
     // A look-up found the key.
-    #[tactic(auto, using(crate::proofs::Leading::led_more, crate::proofs::Leading::led_same))]
+    #[tactic(auto, using(crate::proofs::Driving::driven_more, crate::proofs::Driving::driven_same))]
     fn found(
         &mut self,
         coming: &Coming<A>,
@@ -56,7 +55,7 @@ impl<A: Allocator + Copy> Driver<A> {
         ahead: &Foresight<A>,
         stage: &mut Stage<A>,
     ) -> Result<Agreement, LeadFault>
-        ensures led { Led stage.old stage.new }
+        ensures driven { Driven self.old self.new stage.old stage.new }
         ensures agrees { IfOk result (λ agreement. agreement ≡ AgreementOf.Agrees → Found stage.old stage.new key.now class) }
     {
         self.restore_unless(
@@ -73,7 +72,7 @@ impl<A: Allocator + Copy> Driver<A> {
     }
 
     // What a look-up does that finds its key: it is a client's hit, or that of a command.
-    #[tactic(auto, using(crate::proofs::Leading::led_more, crate::proofs::Leading::led_same))]
+    #[tactic(auto, using(crate::proofs::Driving::driven_more, crate::proofs::Driving::driven_same))]
     fn play_found(
         &mut self,
         coming: &Coming<A>,
@@ -81,11 +80,11 @@ impl<A: Allocator + Copy> Driver<A> {
         ahead: &Foresight<A>,
         stage: &mut Stage<A>,
     ) -> Result<(), LeadFault>
-        ensures led { Led stage.old stage.new }
+        ensures driven { Driven self.old self.new stage.old stage.new }
     {
         if self.failing.take(key) {
             let data = self.fill.data(MOST_DATA)?;
-            stage.play(failed_set(self.alloc, key, data)?, Role::Event)?;
+            self.say(failed_set(self.alloc, key, data)?, stage)?;
             return Ok(());
         }
         if coming.own {
@@ -96,14 +95,14 @@ impl<A: Allocator + Copy> Driver<A> {
     }
 
     // A client's hit, by what comes next of the key.
-    #[tactic(auto, using(crate::proofs::Leading::led_more, crate::proofs::Leading::led_same))]
+    #[tactic(auto, using(crate::proofs::Driving::driven_more, crate::proofs::Driving::driven_same))]
     fn hit(
         &mut self,
         key: &Key<A>,
         ahead: &Foresight<A>,
         stage: &mut Stage<A>,
     ) -> Result<Outcome, LeadFault>
-        ensures led { Led stage.old stage.new }
+        ensures driven { Driven self.old self.new stage.old stage.new }
     {
         match (holding_of(stage.store(), key), ahead.first_of(key)) {
             (Some(held), None) => {
@@ -120,7 +119,7 @@ impl<A: Allocator + Copy> Driver<A> {
     }
 
     // The same, where the next line that names the key waits.
-    #[tactic(auto, using(crate::proofs::Leading::led_more, crate::proofs::Leading::led_same))]
+    #[tactic(auto, using(crate::proofs::Driving::driven_more, crate::proofs::Driving::driven_same))]
     fn hit_before(
         &mut self,
         key: &Key<A>,
@@ -129,7 +128,7 @@ impl<A: Allocator + Copy> Driver<A> {
         ahead: &Foresight<A>,
         stage: &mut Stage<A>,
     ) -> Result<Outcome, LeadFault>
-        ensures led { Led stage.old stage.new }
+        ensures driven { Driven self.old self.new stage.old stage.new }
     {
         let end = held.header.moment;
         let second = ahead.seconds().second_of(next.line.time);
@@ -155,7 +154,7 @@ impl<A: Allocator + Copy> Driver<A> {
     }
 
     // A hit behind which the key is missed: it was a delete, unless a page of its class moves in between.
-    #[tactic(auto, using(crate::proofs::Leading::led_more, crate::proofs::Leading::led_same))]
+    #[tactic(auto, using(crate::proofs::Driving::driven_more, crate::proofs::Driving::driven_same))]
     fn delete_or_get(
         &mut self,
         key: &Key<A>,
@@ -164,23 +163,18 @@ impl<A: Allocator + Copy> Driver<A> {
         ahead: &Foresight<A>,
         stage: &mut Stage<A>,
     ) -> Result<Outcome, LeadFault>
-        ensures led { Led stage.old stage.new }
+        ensures driven { Driven self.old self.new stage.old stage.new }
     {
         if moves_before(held.class, next, ahead) {
             self.candidates.note(held.class, key)?;
             self.suspects.push(held.class, key)?;
             return self.get(key, stage);
         }
-        self.tally.adjust(Adjustment::DeletedAtHit);
-        let role = Role::Inferred {
-            shown: next.line.time,
-            moved: false,
-        };
-        stage.play(delete(self.alloc, key)?, role)
+        self.infer(Inference::AtHit, key, next.line.time, false, stage)
     }
 
     // A look-up did not find the key.
-    #[tactic(auto, using(crate::proofs::Leading::led_more, crate::proofs::Leading::led_same))]
+    #[tactic(auto, using(crate::proofs::Driving::driven_more, crate::proofs::Driving::driven_same))]
     fn missed(
         &mut self,
         coming: &Coming<A>,
@@ -189,7 +183,7 @@ impl<A: Allocator + Copy> Driver<A> {
         ahead: &Foresight<A>,
         stage: &mut Stage<A>,
     ) -> Result<Agreement, LeadFault>
-        ensures led { Led stage.old stage.new }
+        ensures driven { Driven self.old self.new stage.old stage.new }
         ensures agrees { IfOk result (λ agreement. agreement ≡ AgreementOf.Agrees → Missed stage.old stage.new key.now) }
     {
         self.lose_held(coming, key, outcome, ahead, stage)?;
@@ -199,14 +193,14 @@ impl<A: Allocator + Copy> Driver<A> {
     }
 
     // What a look-up does that does not find its key: it is a client's miss, or that of a command.
-    #[tactic(auto, using(crate::proofs::Leading::led_more, crate::proofs::Leading::led_same))]
+    #[tactic(auto, using(crate::proofs::Driving::driven_more, crate::proofs::Driving::driven_same))]
     fn play_missed(
         &mut self,
         coming: &Coming<A>,
         key: &Key<A>,
         stage: &mut Stage<A>,
     ) -> Result<(), LeadFault>
-        ensures led { Led stage.old stage.new }
+        ensures driven { Driven self.old self.new stage.old stage.new }
     {
         if self.failing.take(key) || coming.own {
             return Ok(());
@@ -216,7 +210,7 @@ impl<A: Allocator + Copy> Driver<A> {
     }
 
     // If the key is held alive, it went before.
-    #[tactic(auto, using(crate::proofs::Leading::led_more, crate::proofs::Leading::led_same))]
+    #[tactic(auto, using(crate::proofs::Driving::driven_more, crate::proofs::Driving::driven_same))]
     fn lose_held(
         &mut self,
         coming: &Coming<A>,
@@ -225,7 +219,7 @@ impl<A: Allocator + Copy> Driver<A> {
         ahead: &Foresight<A>,
         stage: &mut Stage<A>,
     ) -> Result<(), LeadFault>
-        ensures led { Led stage.old stage.new }
+        ensures driven { Driven self.old self.new stage.old stage.new }
     {
         match holding_of(stage.store(), key) {
             Some(held) if held.alive => self.lose(coming, key, outcome, held, ahead, stage),
@@ -234,7 +228,7 @@ impl<A: Allocator + Copy> Driver<A> {
     }
 
     // The key is held alive, and a look-up misses it: it went before.
-    #[tactic(auto, using(crate::proofs::Leading::led_more, crate::proofs::Leading::led_same))]
+    #[tactic(auto, using(crate::proofs::Driving::driven_more, crate::proofs::Driving::driven_same))]
     fn lose(
         &mut self,
         coming: &Coming<A>,
@@ -244,7 +238,7 @@ impl<A: Allocator + Copy> Driver<A> {
         ahead: &Foresight<A>,
         stage: &mut Stage<A>,
     ) -> Result<(), LeadFault>
-        ensures led { Led stage.old stage.new }
+        ensures driven { Driven self.old self.new stage.old stage.new }
     {
         if next_of(ahead.first_of(key)) == Next::Evicted {
             self.early.push(held.class, key)?;
@@ -264,7 +258,7 @@ impl<A: Allocator + Copy> Driver<A> {
             return self.lose_flushed(is_other, key, stage);
         }
         let shown = coming.line.time;
-        self.let_go(key, held.class, Adjustment::DeletedAtMiss, shown, stage)
+        self.let_go(key, held.class, Inference::AtMiss, shown, stage)
     }
 }
 

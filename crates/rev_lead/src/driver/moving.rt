@@ -2,15 +2,15 @@
 ghost use Rattle.std.specs.Prelude.{◌≡◌, IfOk, None};
 ghost use Rattle.rev_lead.specs.Acts.{state_of_stage};
 ghost use Rattle.rev_lead.specs.declared.agreeing.Agreement.{Agreement as AgreementOf};
-ghost use Rattle.rev_lead.specs.Acts.{Led};
+ghost use Rattle.rev_lead.specs.Deeds.{Driven};
+ghost use Rattle.rev_lead.specs.Pages.{Carries, PageMoved};
 
 use super::Driver;
 use crate::agreeing::{Agreement, Disagreement, agrees_if, has_no_mover};
 use crate::holding::{is_alive, is_class};
-use crate::role::Role;
 use crate::stage::{LeadFault, Stage};
 use crate::steps::actor;
-use crate::tally::Adjustment;
+use crate::tally::Inference;
 use crate::wanting::{Next, next_of};
 use rev_items::Key;
 use rev_log::foresight::Foresight;
@@ -31,7 +31,7 @@ fn has_spare<A: Allocator + Copy>(stage: &Stage<A>, class: usize, page: u16) -> 
 
 impl<A: Allocator + Copy> Driver<A> {
     // A page moves from one class to another, chunk by chunk.
-    #[tactic(auto, using(crate::proofs::Leading::led_more, crate::proofs::Leading::led_same))]
+    #[tactic(auto, using(crate::proofs::Driving::driven_more, crate::proofs::Driving::driven_same))]
     pub(super) fn move_page(
         &mut self,
         source: u32,
@@ -39,17 +39,32 @@ impl<A: Allocator + Copy> Driver<A> {
         ahead: &Foresight<A>,
         stage: &mut Stage<A>,
     ) -> Result<Agreement, LeadFault>
-        ensures led { Led stage.old stage.new }
-        ensures agrees { IfOk result (λ agreement. agreement ≡ AgreementOf.Agrees → (state_of_stage stage.new).globals.mover ≡ None) }
+        ensures driven { Driven self.old self.new stage.old stage.new }
+        ensures agrees { IfOk result (λ agreement. agreement ≡ AgreementOf.Agrees → PageMoved (state_of_stage stage.old) (state_of_stage stage.new) source target) }
     {
         let class = source as usize;
         if !is_class(stage.store(), class) {
             return Ok(Agreement::Disagrees(Disagreement::OtherClass));
         }
         let step = actor(ActorStep::Reassign { source, target });
-        if stage.play(step, Role::Event)? != Outcome::Okay {
-            return Ok(Agreement::Disagrees(Disagreement::RefusedMove));
+        match self.say(step, stage)? {
+            Outcome::Okay => self.carry(class, ahead, stage),
+            _ => Ok(Agreement::Disagrees(Disagreement::RefusedMove)),
         }
+    }
+
+    // The page of a move that was accepted goes, and what went with it.
+    #[tactic(auto, using(crate::proofs::Driving::driven_more, crate::proofs::Driving::driven_same, crate::proofs::Carrying::carries_more, crate::proofs::Carrying::carries_same))]
+    fn carry(
+        &mut self,
+        class: usize,
+        ahead: &Foresight<A>,
+        stage: &mut Stage<A>,
+    ) -> Result<Agreement, LeadFault>
+        ensures driven { Driven self.old self.new stage.old stage.new }
+        ensures carries { Carries stage.old stage.new }
+        ensures ended { IfOk result (λ agreement. agreement ≡ AgreementOf.Agrees → (state_of_stage stage.new).globals.mover ≡ None) }
+    {
         if let Some(moved) = self.moved.get_mut(class) {
             *moved = stage.store().globals().clock;
         }
@@ -59,35 +74,37 @@ impl<A: Allocator + Copy> Driver<A> {
     }
 
     // A step of the mover for each chunk of the page, and one that hands it over.
-    #[tactic(auto, using(crate::proofs::Leading::led_more, crate::proofs::Leading::led_same))]
+    #[tactic(auto, using(crate::proofs::Driving::driven_more, crate::proofs::Driving::driven_same, crate::proofs::Carrying::carries_more, crate::proofs::Carrying::carries_same))]
     fn advance(
         &mut self,
         class: usize,
         ahead: &Foresight<A>,
         stage: &mut Stage<A>,
     ) -> Result<(), LeadFault>
-        ensures led { Led stage.old stage.new }
+        ensures driven { Driven self.old self.new stage.old stage.new }
+        ensures carries { Carries stage.old stage.new }
     {
         for _ in 0..u32::MAX {
             if stage.store().globals().mover.is_none() {
                 return Ok(());
             }
             self.shield(class, ahead, stage)?;
-            stage.play(actor(ActorStep::Advance), Role::Actor)?;
+            self.work(ActorStep::Advance, stage)?;
         }
         Ok(())
     }
 
     // The mover is to evict an item that a later line shows, for want of another chunk: one that no line shows goes, so
     // that the mover rescues it.
-    #[tactic(auto, using(crate::proofs::Leading::led_more, crate::proofs::Leading::led_same))]
+    #[tactic(auto, using(crate::proofs::Driving::driven_more, crate::proofs::Driving::driven_same, crate::proofs::Carrying::carries_more, crate::proofs::Carrying::carries_same))]
     fn shield(
         &mut self,
         class: usize,
         ahead: &Foresight<A>,
         stage: &mut Stage<A>,
     ) -> Result<(), LeadFault>
-        ensures led { Led stage.old stage.new }
+        ensures driven { Driven self.old self.new stage.old stage.new }
+        ensures carries { Carries stage.old stage.new }
     {
         match self.endangered(class, ahead, stage)? {
             Some((own, page)) => self.spare_chunk(class, &own, page, ahead, stage),
@@ -123,7 +140,7 @@ impl<A: Allocator + Copy> Driver<A> {
     }
 
     // Lets an item of the class go that is on another page.
-    #[tactic(auto, using(crate::proofs::Leading::led_more, crate::proofs::Leading::led_same))]
+    #[tactic(auto, using(crate::proofs::Driving::driven_more, crate::proofs::Driving::driven_same, crate::proofs::Carrying::carries_more, crate::proofs::Carrying::carries_same))]
     fn spare_chunk(
         &mut self,
         class: usize,
@@ -132,7 +149,8 @@ impl<A: Allocator + Copy> Driver<A> {
         ahead: &Foresight<A>,
         stage: &mut Stage<A>,
     ) -> Result<(), LeadFault>
-        ensures led { Led stage.old stage.new }
+        ensures driven { Driven self.old self.new stage.old stage.new }
+        ensures carries { Carries stage.old stage.new }
     {
         match self
             .wanted(class, own, ahead, stage)
@@ -140,21 +158,22 @@ impl<A: Allocator + Copy> Driver<A> {
         {
             Some(key) => {
                 let shown = self.last_time(ahead);
-                self.let_go(&key, class, Adjustment::WantedUnseen, shown, stage)
+                self.let_go(&key, class, Inference::Unseen, shown, stage)
             }
             None => Ok(()),
         }
     }
 
     // Keys that may have gone with the page, and are still held: the server let them go.
-    #[tactic(auto, using(crate::proofs::Leading::led_more, crate::proofs::Leading::led_same))]
+    #[tactic(auto, using(crate::proofs::Driving::driven_more, crate::proofs::Driving::driven_same, crate::proofs::Carrying::carries_more, crate::proofs::Carrying::carries_same))]
     fn look_at_suspects(
         &mut self,
         class: usize,
         ahead: &Foresight<A>,
         stage: &mut Stage<A>,
     ) -> Result<(), LeadFault>
-        ensures led { Led stage.old stage.new }
+        ensures driven { Driven self.old self.new stage.old stage.new }
+        ensures carries { Carries stage.old stage.new }
     {
         for _ in 0..self.suspects.len() {
             match self.suspects.take_of(class) {
@@ -165,7 +184,7 @@ impl<A: Allocator + Copy> Driver<A> {
         Ok(())
     }
 
-    #[tactic(auto, using(crate::proofs::Leading::led_more, crate::proofs::Leading::led_same))]
+    #[tactic(auto, using(crate::proofs::Driving::driven_more, crate::proofs::Driving::driven_same, crate::proofs::Carrying::carries_more, crate::proofs::Carrying::carries_same))]
     fn look_at_suspect(
         &mut self,
         key: &Key<A>,
@@ -173,12 +192,13 @@ impl<A: Allocator + Copy> Driver<A> {
         ahead: &Foresight<A>,
         stage: &mut Stage<A>,
     ) -> Result<(), LeadFault>
-        ensures led { Led stage.old stage.new }
+        ensures driven { Driven self.old self.new stage.old stage.new }
+        ensures carries { Carries stage.old stage.new }
     {
         match ahead.first_of(key) {
             Some(next) if next_of(Some(next)) == Next::NotFound && is_alive(stage.store(), key) => {
                 let shown = next.line.time;
-                self.let_go(key, class, Adjustment::DeletedAtHit, shown, stage)
+                self.let_go(key, class, Inference::AtHit, shown, stage)
             }
             _ => Ok(()),
         }

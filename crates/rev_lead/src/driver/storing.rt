@@ -1,10 +1,11 @@
 //! Stores.
 ghost use Rattle.std.specs.Prelude.{◌≡◌, IfOk};
+ghost use Rattle.rev_steps.specs.Plain.{plain_step};
 ghost use Rattle.rev_tree.specs.Steps.{outcome_of};
 ghost use Rattle.rev_lead.specs.Acts.{Act, after, state_of_stage};
 ghost use Rattle.rev_lead.specs.Agreed.{StoresKey, StoredBy, AgreedStore, is_failed};
 ghost use Rattle.rev_lead.specs.declared.agreeing.Agreement.{Agreement as AgreementOf};
-ghost use Rattle.rev_lead.specs.Acts.{Led};
+ghost use Rattle.rev_lead.specs.Deeds.{Driven};
 
 use super::Driver;
 use crate::agreeing::{Agreement, Disagreement, agrees_if, is_gone, is_stored_as};
@@ -13,13 +14,13 @@ use crate::holding::{
 };
 use crate::role::Role;
 use crate::stage::{LeadFault, Stage};
-use crate::steps::{actor, exptime_of, store};
-use crate::tally::one_more;
+use crate::steps::{exptime_of, store};
+use crate::tally::Adjustment;
 use crate::wanting::{Next, next_of};
 use rev_items::{Key, footprint};
 use rev_log::foresight::Foresight;
 use rev_model::{Outcome, Queue};
-use rev_requests::{ActorStep, StoreVerb};
+use rev_requests::{ActorStep, Step, StoreVerb};
 use rev_watch::event::StoreOutcome;
 use std::alloc::Allocator;
 
@@ -93,17 +94,15 @@ impl<A: Allocator + Copy> Driver<A> {
             && self.class_of(key, flags, storing.size) == Some(storing.class)
     }
 
-    // Stores an item, or plays a storage command that is refused as in the log.
-    #[tactic(auto, using(crate::proofs::Leading::led_more, crate::proofs::Leading::led_same))]
-    pub(super) fn put(
+    // The step that stores an item, or a storage command that is refused as in the log.
+    pub(super) fn store_step(
         &mut self,
         key: &Key<A>,
         storing: Storing,
-        role: Role,
-        stage: &mut Stage<A>,
-    ) -> Result<Outcome, LeadFault>
-        ensures led { Led stage.old stage.new }
-        ensures done { IfOk result (λ outcome. (act : Act) × StoresKey key.now act.step × (stage.new ≡ after stage.old act) × (outcome ≡ outcome_of (state_of_stage stage.old) act.step)) }
+        stage: &Stage<A>,
+    ) -> Result<Step<A>, LeadFault>
+        ensures stores { IfOk result (λ step. StoresKey key.now (plain_step step)) }
+        ensures tally { self.new ≡ self.old }
     {
         let flags = self.flags_of(key, storing);
         let verb = match storing.outcome {
@@ -112,10 +111,43 @@ impl<A: Allocator + Copy> Driver<A> {
             _ => StoreVerb::Replace,
         };
         let data = self.fill.data(storing.size)?;
-        stage.play(
-            store(self.alloc, verb, key, flags, storing.exptime, data)?,
-            role,
-        )
+        Ok(store(self.alloc, verb, key, flags, storing.exptime, data)?)
+    }
+
+    // The line's own store, in this role.
+    #[tactic(auto, using(crate::proofs::Driving::driven_more, crate::proofs::Driving::driven_same))]
+    fn put(
+        &mut self,
+        key: &Key<A>,
+        storing: Storing,
+        role: Role,
+        stage: &mut Stage<A>,
+    ) -> Result<Outcome, LeadFault>
+        ensures driven { Driven self.old self.new stage.old stage.new }
+        ensures done { IfOk result (λ outcome. (act : Act) × StoresKey key.now act.step × (stage.new ≡ after stage.old act) × (outcome ≡ outcome_of (state_of_stage stage.old) act.step)) }
+    {
+        let step = self.store_step(key, storing, stage)?;
+        match role {
+            Role::Evicting => self.put_evicting(key, step, stage),
+            _ => self.say(step, stage),
+        }
+    }
+
+    // The line's own store, by which the rules evict what the log evicts.
+    #[tactic(auto, using(crate::proofs::Driving::driven_more, crate::proofs::Driving::driven_same))]
+    fn put_evicting(
+        &mut self,
+        key: &Key<A>,
+        step: Step<A>,
+        stage: &mut Stage<A>,
+    ) -> Result<Outcome, LeadFault>
+        requires { StoresKey key.now (plain_step step) }
+        ensures driven { Driven self.old self.new stage.old stage.new }
+        ensures done { IfOk result (λ outcome. (act : Act) × StoresKey key.now act.step × (stage.new ≡ after stage.old act) × (outcome ≡ outcome_of (state_of_stage stage.old) act.step)) }
+    {
+        let outcome = stage.play(step, Role::Evicting)?;
+        self.tally.adjust(Adjustment::ByRules);
+        Ok(outcome)
     }
 
     // Whether the rules by themselves evict just what the log evicts.
@@ -132,7 +164,7 @@ impl<A: Allocator + Copy> Driver<A> {
     }
 
     // What goes in front of a store of this class, for which the log evicts these keys; and the role of the store.
-    #[tactic(auto, using(crate::proofs::Leading::led_more, crate::proofs::Leading::led_same))]
+    #[tactic(auto, using(crate::proofs::Driving::driven_more, crate::proofs::Driving::driven_same))]
     fn clear_way(
         &mut self,
         key: &Key<A>,
@@ -141,10 +173,9 @@ impl<A: Allocator + Copy> Driver<A> {
         ahead: &Foresight<A>,
         stage: &mut Stage<A>,
     ) -> Result<Role, LeadFault>
-        ensures led { Led stage.old stage.new }
+        ensures driven { Driven self.old self.new stage.old stage.new }
     {
         if self.is_by_rules(evicted, class, stage) {
-            one_more(&mut self.tally.evicted_by_rules);
             return Ok(Role::Evicting);
         }
         self.evict_all(evicted, stage)?;
@@ -153,7 +184,7 @@ impl<A: Allocator + Copy> Driver<A> {
     }
 
     // A storage command.
-    #[tactic(auto, using(crate::proofs::Leading::led_more, crate::proofs::Leading::led_same))]
+    #[tactic(auto, using(crate::proofs::Driving::driven_more, crate::proofs::Driving::driven_same))]
     pub(super) fn store(
         &mut self,
         key: &Key<A>,
@@ -161,7 +192,7 @@ impl<A: Allocator + Copy> Driver<A> {
         ahead: &Foresight<A>,
         stage: &mut Stage<A>,
     ) -> Result<Agreement, LeadFault>
-        ensures led { Led stage.old stage.new }
+        ensures driven { Driven self.old self.new stage.old stage.new }
         ensures agrees { IfOk result (λ agreement. agreement ≡ AgreementOf.Agrees → AgreedStore stage.old stage.new key.now storing.class storing.outcome) }
     {
         if storing.has_failed() {
@@ -181,7 +212,7 @@ impl<A: Allocator + Copy> Driver<A> {
     }
 
     // The event's own store, and whether it went as in the log.
-    #[tactic(auto, using(crate::proofs::Leading::led_more, crate::proofs::Leading::led_same))]
+    #[tactic(auto, using(crate::proofs::Driving::driven_more, crate::proofs::Driving::driven_same))]
     fn put_alone(
         &mut self,
         key: &Key<A>,
@@ -190,7 +221,7 @@ impl<A: Allocator + Copy> Driver<A> {
         evicted: &[Key<A>],
         stage: &mut Stage<A>,
     ) -> Result<Agreement, LeadFault>
-        ensures led { Led stage.old stage.new }
+        ensures driven { Driven self.old self.new stage.old stage.new }
         ensures agrees { IfOk result (λ agreement. agreement ≡ AgreementOf.Agrees → StoredBy stage.old stage.new key.now storing.class storing.outcome) }
     {
         let before = evictions(stage.store(), storing.class);
@@ -209,14 +240,14 @@ impl<A: Allocator + Copy> Driver<A> {
     }
 
     // The maintainer comes to the queues of a class that was stored in.
-    #[tactic(auto, using(crate::proofs::Leading::led_more, crate::proofs::Leading::led_same))]
+    #[tactic(auto, using(crate::proofs::Driving::driven_more, crate::proofs::Driving::driven_same))]
     fn juggle(
         &mut self,
         class: usize,
         ahead: &Foresight<A>,
         stage: &mut Stage<A>,
     ) -> Result<(), LeadFault>
-        ensures led { Led stage.old stage.new }
+        ensures driven { Driven self.old self.new stage.old stage.new }
     {
         let Ok(number) = u32::try_from(class) else {
             return Ok(());
@@ -228,7 +259,7 @@ impl<A: Allocator + Copy> Driver<A> {
                     class: number,
                     queue,
                 };
-                stage.play(actor(step), Role::Actor)?;
+                self.work(step, stage)?;
             }
         }
         Ok(())

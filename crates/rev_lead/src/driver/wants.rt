@@ -1,6 +1,8 @@
 //! Chunks that a server had, and the replay has not: an item that the log does not show goes.
+ghost use Rattle.std.specs.Prelude.{◌≡◌};
 ghost use Rattle.rev_model.specs.Sound.{Sound};
-ghost use Rattle.rev_lead.specs.Acts.{Led};
+ghost use Rattle.rev_lead.specs.Deeds.{Driven};
+ghost use Rattle.rev_lead.specs.Pages.{Carries};
 
 use super::Driver;
 use super::storing::{MOST_DATA, Storing};
@@ -8,17 +10,18 @@ use crate::holding::{has_free, has_page_to_come, holding_of, is_alive, is_class}
 use crate::role::Role;
 use crate::stage::{LeadFault, Stage};
 use crate::steps::delete;
-use crate::tally::Adjustment;
+use crate::tally::{Adjustment, Inference};
 use crate::wanting::{Next, Pick, Wanted, next_of};
 use rev_items::Key;
 use rev_log::foresight::Foresight;
+use rev_model::Outcome;
 use rev_watch::event::{StoreOutcome, Timestamp};
 use std::alloc::Allocator;
 
 impl<A: Allocator + Copy> Driver<A> {
     // A chunk of the class is wanted, and none may be free: what the server let go goes. `own` is the key that wants
     // it.
-    #[tactic(auto, using(crate::proofs::Leading::led_more, crate::proofs::Leading::led_same))]
+    #[tactic(auto, using(crate::proofs::Driving::driven_more, crate::proofs::Driving::driven_same))]
     pub(super) fn want(
         &mut self,
         class: usize,
@@ -26,7 +29,7 @@ impl<A: Allocator + Copy> Driver<A> {
         ahead: &Foresight<A>,
         stage: &mut Stage<A>,
     ) -> Result<(), LeadFault>
-        ensures led { Led stage.old stage.new }
+        ensures driven { Driven self.old self.new stage.old stage.new }
     {
         if has_free(stage.store(), class) {
             return Ok(());
@@ -35,7 +38,7 @@ impl<A: Allocator + Copy> Driver<A> {
             return self.flush(&key, stage);
         }
         if let Some((key, shown)) = self.deleted(class, own, ahead, stage)? {
-            return self.let_go(&key, class, Adjustment::Wanted, shown, stage);
+            return self.let_go(&key, class, Inference::Wanted, shown, stage);
         }
         self.want_any(class, own, ahead, stage)
     }
@@ -74,7 +77,7 @@ impl<A: Allocator + Copy> Driver<A> {
     }
 
     // An item of the class goes, unless a page comes.
-    #[tactic(auto, using(crate::proofs::Leading::led_more, crate::proofs::Leading::led_same))]
+    #[tactic(auto, using(crate::proofs::Driving::driven_more, crate::proofs::Driving::driven_same))]
     fn want_any(
         &mut self,
         class: usize,
@@ -82,46 +85,70 @@ impl<A: Allocator + Copy> Driver<A> {
         ahead: &Foresight<A>,
         stage: &mut Stage<A>,
     ) -> Result<(), LeadFault>
-        ensures led { Led stage.old stage.new }
+        ensures driven { Driven self.old self.new stage.old stage.new }
     {
         if has_page_to_come(stage.store(), class) {
             return Ok(());
         }
         let shown = self.last_time(ahead);
         match self.wanted(class, own, ahead, stage).pick(self.alloc)? {
-            Pick::Expired(key) => {
-                self.tally.adjust(Adjustment::WantedExpired);
-                stage.play(delete(self.alloc, &key)?, Role::Expiry)?;
-                Ok(())
-            }
+            Pick::Expired(key) => self.let_expired_go(&key, stage),
             Pick::Likely(key, others) => {
                 self.others.keep(&key, others)?;
-                self.let_go(&key, class, Adjustment::Wanted, shown, stage)
+                self.let_go(&key, class, Inference::Wanted, shown, stage)
             }
-            Pick::Unseen(key) => self.let_go(&key, class, Adjustment::WantedUnseen, shown, stage),
+            Pick::Unseen(key) => self.let_go(&key, class, Inference::Unseen, shown, stage),
             Pick::Nothing => Ok(()),
         }
     }
 
     // The key's item goes: it was flushed, or a later line of this time shows it.
-    #[tactic(auto, using(crate::proofs::Leading::led_more, crate::proofs::Leading::led_same))]
+    #[tactic(auto, using(crate::proofs::Driving::driven_more, crate::proofs::Driving::driven_same, crate::proofs::Carrying::carries_more, crate::proofs::Carrying::carries_same))]
     pub(super) fn let_go(
         &mut self,
         key: &Key<A>,
         class: usize,
-        adjustment: Adjustment,
+        inference: Inference,
         shown: Timestamp,
         stage: &mut Stage<A>,
     ) -> Result<(), LeadFault>
-        ensures led { Led stage.old stage.new }
+        ensures driven { Driven self.old self.new stage.old stage.new }
+        ensures carries { Carries stage.old stage.new }
     {
         self.candidates.forget(class, key);
         if self.is_flushed(key, stage) {
             return self.flush(key, stage);
         }
-        self.tally.adjust(adjustment);
         let moved = self.has_moved(key, stage);
-        stage.play(delete(self.alloc, key)?, Role::Inferred { shown, moved })?;
+        self.infer(inference, key, shown, moved, stage)?;
+        Ok(())
+    }
+
+    // The key goes without a line of its own.
+    #[tactic(auto, using(crate::proofs::Driving::driven_more, crate::proofs::Driving::driven_same, crate::proofs::Carrying::carries_more, crate::proofs::Carrying::carries_same))]
+    pub(super) fn infer(
+        &mut self,
+        inference: Inference,
+        key: &Key<A>,
+        shown: Timestamp,
+        moved: bool,
+        stage: &mut Stage<A>,
+    ) -> Result<Outcome, LeadFault>
+        ensures driven { Driven self.old self.new stage.old stage.new }
+        ensures carries { Carries stage.old stage.new }
+    {
+        let outcome = stage.play(delete(self.alloc, key)?, Role::Inferred { shown, moved })?;
+        self.tally.adjust(Adjustment::Inferred(inference));
+        Ok(outcome)
+    }
+
+    // The key's item goes, whose lifetime is over.
+    #[tactic(auto, using(crate::proofs::Driving::driven_more, crate::proofs::Driving::driven_same))]
+    fn let_expired_go(&mut self, key: &Key<A>, stage: &mut Stage<A>) -> Result<(), LeadFault>
+        ensures driven { Driven self.old self.new stage.old stage.new }
+    {
+        stage.play(delete(self.alloc, key)?, Role::Expiry)?;
+        self.tally.adjust(Adjustment::Expired);
         Ok(())
     }
 
@@ -137,7 +164,7 @@ impl<A: Allocator + Copy> Driver<A> {
     }
 
     // The log shows a key that the replay does not hold, or holds dead or in another class: it is stored.
-    #[tactic(auto, using(crate::proofs::Leading::led_more, crate::proofs::Leading::led_same))]
+    #[tactic(auto, using(crate::proofs::Driving::driven_more, crate::proofs::Driving::driven_same))]
     pub(super) fn restore(
         &mut self,
         key: &Key<A>,
@@ -146,15 +173,12 @@ impl<A: Allocator + Copy> Driver<A> {
         ahead: &Foresight<A>,
         stage: &mut Stage<A>,
     ) -> Result<(), LeadFault>
-        ensures led { Led stage.old stage.new }
+        ensures driven { Driven self.old self.new stage.old stage.new }
     {
         if !is_class(stage.store(), class) || size > MOST_DATA {
             return Ok(());
         }
-        self.tally.adjust(Adjustment::Restored);
-        if holding_of(stage.store(), key).is_some() {
-            stage.play(delete(self.alloc, key)?, Role::Restore)?;
-        }
+        self.make_way(key, stage)?;
         self.make_room(key, class, ahead, stage)?;
         let storing = Storing {
             class,
@@ -162,12 +186,39 @@ impl<A: Allocator + Copy> Driver<A> {
             exptime: 0,
             outcome: StoreOutcome::Stored,
         };
-        self.put(key, storing, Role::Restore, stage)?;
+        self.put_back(key, storing, stage)
+    }
+
+    // What is held of a key that is to be stored goes.
+    #[tactic(auto, using(crate::proofs::Driving::driven_more, crate::proofs::Driving::driven_same))]
+    fn make_way(&mut self, key: &Key<A>, stage: &mut Stage<A>) -> Result<(), LeadFault>
+        ensures driven { Driven self.old self.new stage.old stage.new }
+    {
+        if holding_of(stage.store(), key).is_none() {
+            return Ok(());
+        }
+        stage.play(delete(self.alloc, key)?, Role::Restore)?;
+        Ok(())
+    }
+
+    // A key is stored that the replay lacks.
+    #[tactic(auto, using(crate::proofs::Driving::driven_more, crate::proofs::Driving::driven_same))]
+    fn put_back(
+        &mut self,
+        key: &Key<A>,
+        storing: Storing,
+        stage: &mut Stage<A>,
+    ) -> Result<(), LeadFault>
+        ensures driven { Driven self.old self.new stage.old stage.new }
+    {
+        let step = self.store_step(key, storing, stage)?;
+        stage.play(step, Role::Restore)?;
+        self.tally.adjust(Adjustment::Restored);
         Ok(())
     }
 
     // The same, unless it is held.
-    #[tactic(auto, using(crate::proofs::Leading::led_more, crate::proofs::Leading::led_same))]
+    #[tactic(auto, using(crate::proofs::Driving::driven_more, crate::proofs::Driving::driven_same))]
     pub(super) fn restore_unless(
         &mut self,
         is_held: bool,
@@ -177,7 +228,7 @@ impl<A: Allocator + Copy> Driver<A> {
         ahead: &Foresight<A>,
         stage: &mut Stage<A>,
     ) -> Result<(), LeadFault>
-        ensures led { Led stage.old stage.new }
+        ensures driven { Driven self.old self.new stage.old stage.new }
     {
         if is_held {
             Ok(())
@@ -187,7 +238,7 @@ impl<A: Allocator + Copy> Driver<A> {
     }
 
     // Room for a key that the replay lacks.
-    #[tactic(auto, using(crate::proofs::Leading::led_more, crate::proofs::Leading::led_same))]
+    #[tactic(auto, using(crate::proofs::Driving::driven_more, crate::proofs::Driving::driven_same))]
     fn make_room(
         &mut self,
         key: &Key<A>,
@@ -195,7 +246,7 @@ impl<A: Allocator + Copy> Driver<A> {
         ahead: &Foresight<A>,
         stage: &mut Stage<A>,
     ) -> Result<(), LeadFault>
-        ensures led { Led stage.old stage.new }
+        ensures driven { Driven self.old self.new stage.old stage.new }
     {
         if has_free(stage.store(), class) {
             return Ok(());
@@ -203,7 +254,7 @@ impl<A: Allocator + Copy> Driver<A> {
         match self.other(key, class, ahead, stage) {
             Some(other) => {
                 let shown = self.last_time(ahead);
-                self.let_go(&other, class, Adjustment::Wanted, shown, stage)
+                self.let_go(&other, class, Inference::Wanted, shown, stage)
             }
             None => self.want_any(class, key, ahead, stage),
         }
@@ -216,7 +267,9 @@ impl<A: Allocator + Copy> Driver<A> {
         class: usize,
         ahead: &Foresight<A>,
         stage: &Stage<A>,
-    ) -> Option<Key<A>> {
+    ) -> Option<Key<A>>
+        ensures { self.new ≡ self.old }
+    {
         for other in self.others.take(key)? {
             if self.may_go(&other, class, ahead, stage) {
                 return Some(other);
