@@ -2,6 +2,7 @@
 use Rattle.std.specs.Prelude.{ℕ, zero, suc, ◌≡◌, ◌+◌, ◌-◌, ◌<◌, ◌≤◌, ◌⊎◌, true, false, List, [], ◌∷◌, ◌++◌, Option, None, Some, is_some, length, slice_get, refl}
 use Rattle.std.proofs.Common.{sym, ◌∙◌, ap, arith, inl, inr}
 use Rattle.std.proofs.lemmas.Bool.{false≢true, true≢false}
+use Rattle.std.proofs.lemmas.Bool.Decides.{leb_tells}
 use Rattle.std.proofs.lemmas.List.{append-nil, append_assoc, length-append}
 use Rattle.rev_model.specs.Actor.{Step}
 use Rattle.rev_model.specs.Events.{event}
@@ -14,6 +15,7 @@ use Rattle.rev_tree.specs.Positions.{SessionState}
 use Rattle.rev_tree.specs.Trails.{Trailed}
 use Rattle.rev_tree.specs.Mentioned.{Still, IsStill}
 use Rattle.rev_explain.specs.Story.{told, row_events, events_along, story}
+pub use Rattle.rev_explain.specs.Clocks.{Climbs}
 
 -- ---- the lineage of a node
 
@@ -58,13 +60,6 @@ one_less : (l : List ℕ) (n d : ℕ) → length (l ++ n ∷ []) ≡ d → lengt
 one_less l n d f = let m : length (l ++ n ∷ []) ≡ length l + 1 = length_one l n in omega (arith, m, f)
 
 -- ---- the climb
-
--- at the d-th node of the way
-pub record Climbs (v : SessionState) (d : ℕ) : Type 0 where
-  pub node : ℕ
-  pub below : List ℕ
-  pub splits : lineage v.rows v.current ≡ lineage v.rows node ++ below
-  pub deep : length (lineage v.rows node) ≡ d
 
 abbrev pub climb_starts : (v : SessionState) → Climbs v (length (lineage v.rows v.current))
 climb_starts v = record { node = v.current; below = []; splits = sym (append-nil (lineage v.rows v.current)); deep = refl }
@@ -133,6 +128,27 @@ module _ (v : SessionState) (d n : ℕ) (e : Step) (o : Outcome) (r : PlainRecor
       ∙ ap (λ m. story v.root v.rows h.row.parent k ++ told m (event (at v.root v.rows h.row.parent) h.row.step k)) node_is
       ∙ ap (λ f. story v.root v.rows h.row.parent k ++ told n (event (at v.root v.rows h.row.parent) f k)) (sym h.played)
 
+-- ---- any depth
+
+-- so many nodes up
+up_by : (v : SessionState) → RowsFall v.rows → (gap high d : ℕ) → Climbs v high → high ≡ d + gap → Climbs v d
+up_by v falls zero high d w e = let deep = w.deep in record { node = w.node; below = w.below; splits = w.splits; deep = omega (arith, e, deep) }
+up_by v falls (suc gap) high d w e =
+    let here = row_here v high w (omega (arith, e)) in
+    up_by v falls gap (high - 1) d (climb_up v high w falls here.0 here.1) (omega (arith, e))
+
+-- at any depth of the way
+pub climb_to : (v : SessionState) → RowsFall v.rows → (d : ℕ) → d ≤ length (lineage v.rows v.current) → Climbs v d
+climb_to v falls d l = up_by v falls (length (lineage v.rows v.current) - d) (length (lineage v.rows v.current)) d (climb_starts v) (omega (arith, l))
+
+-- a climb is within the way
+pub climb_within : (v : SessionState) (d : ℕ) → Climbs v d → d ≤ length (lineage v.rows v.current)
+climb_within v d w =
+    let s = ap length w.splits in
+    let a = length-append (lineage v.rows w.node) w.below in
+    let e = w.deep in
+    omega (arith, s, a, e)
+
 -- ---- nodes at which nothing befell the key
 
 -- the key's story and place at a node are those at depth `low` of the way
@@ -171,6 +187,13 @@ module _ (v : SessionState) (falls : RowsFall v.rows) (k : List ℕ) (low : ℕ)
 pub above_root : (d n : ℕ) → ((d ≡ 0) ⊎ (n < d) → true ≡ false) → 0 < d
 above_root zero n f = absurd (true≢false (f (inl refl)))
 above_root (suc d) n f = omega arith
+
+-- and it is no longer than it is
+pub above_end : (d n : ℕ) → ((d ≡ 0) ⊎ (n < d) → true ≡ false) → d ≤ n
+above_end d n f = elim (leb_tells d n) [
+  | inl p ↦ p.1
+  | inr p ↦ absurd (true≢false (f (inr p.1)))
+]
 
 -- the way ends at the root
 pub at_end : (v : SessionState) (d : ℕ) → Climbs v d → ((d ≡ 0) ⊎ (length (lineage v.rows v.current) < d)) → d ≡ 0

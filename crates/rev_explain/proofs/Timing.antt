@@ -1,9 +1,10 @@
 -- What steps, and the changes of a record, do to the clock.
-use Rattle.std.specs.Prelude.{ℕ, ℤ, ◌≡◌, ◌+◌, ◌-◌, ◌<◌, ◌≤◌, ◌⊎◌, Bool, true, false, cond, ◌&&◌, ◌||◌, List, [], ◌∷◌, ◌++◌, Option, None, Some, length, drop, slice_index_or, slice_set, nat_eq, nat_le, nat_lt, is_some, refl}
-use Rattle.std.proofs.Common.{sym, ◌∙◌, ap, arith, inl, inr, zero, suc}
-use Rattle.std.proofs.lemmas.Bool.{lt-ltb, le-ltb, le-leb}
+use Rattle.std.specs.Prelude.{ℕ, ℤ, ◌≡◌, ◌+◌, ◌-◌, ◌<◌, ◌≤◌, ◌⊎◌, Bool, true, false, cond, ◌&&◌, ◌||◌, List, [], ◌∷◌, ◌++◌, Option, None, Some, length, drop, slice_index_or, slice_set, nat_eq, nat_le, nat_lt, is_some, IsTrue, reverse, take, refl}
+use Rattle.std.proofs.Common.{sym, ◌∙◌, ap, arith, subst, inl, inr, zero, suc}
+use Rattle.std.proofs.lemmas.Bool.{eqb-true, lt-ltb, le-ltb, le-leb}
 use Rattle.std.proofs.lemmas.Bool.Decides.{leb_tells}
-use Rattle.std.proofs.lemmas.List.{drop_all}
+use Rattle.std.proofs.lemmas.List.{drop_all, reverse-append}
+use Rattle.std.proofs.Math.Seq.{take-append_seam}
 use Rattle.std.specs.Fmt.{decimal}
 use Rattle.rev_items.specs.Plain.{PlainItem}
 use Rattle.rev_items.specs.Rules.{moment}
@@ -36,15 +37,16 @@ use Rattle.rev_model.specs.declared.PullMode.TheVariants.{Plain, Evicting, Share
 use Rattle.rev_model.specs.declared.Queue.{Queue}
 use Rattle.rev_model.specs.declared.Queue.TheVariants.{Hot, Warm, Cold, Temp}
 use Rattle.rev_inverse.specs.Record.{PlainChange, PlainRecord, IsWhole, moves_in}
-use Rattle.rev_tree.specs.Steps.{next}
-use Rattle.rev_tree.specs.Rows.{Row, row_of, state_from, at_within, at}
+use Rattle.rev_tree.specs.Steps.{next, outcome_of}
+use Rattle.rev_tree.specs.Rows.{Row, RowsFall, row_of, state_from, at_within, at}
+use Rattle.rev_tree.proofs.Rows.{at-step}
 use Rattle.rev_tree.specs.Machine.{nodes_from, lineage_within, lineage}
 use Rattle.rev_tree.specs.Positions.{SessionState}
 use Rattle.rev_tree.specs.Trails.{Trailed}
 use Rattle.rev_explain.specs.Readings.{clock_through}
-use Rattle.rev_explain.specs.Clocks.{later, time_set, clock_at, last_by, node_by}
+use Rattle.rev_explain.specs.Clocks.{later, time_set, clock_set, clock_at, Clocked, last_by, node_by}
 use Rattle.rev_explain.proofs.MoveLaws.{drop_at}
-use Rattle.rev_explain.proofs.Climbs.{Climbs, climb_starts, climbs, node_state, node_is, row_is, lineage_above}
+use Rattle.rev_explain.proofs.Climbs.{Climbs, climb_starts, climb_to, climb_within, climbs, node_state, node_is, row_is, lineage_above}
 
 -- ---- a step: all but one of the clock leave the clock as it is
 
@@ -301,12 +303,30 @@ due_clock : (n : ℕ) (s : State) (b : Bool) → (cond b (record s.globals { clo
 due_clock n s true = refl
 due_clock n s false = refl
 
--- the clock after a step of the clock
-set_clock : (s : State) (n : ℕ) → (step s (Clock n)).0.globals.clock ≡ later n s.globals.clock
-set_clock s n = go (nat_lt n s.globals.clock) where
-  go : (b : Bool) → (cond {A = State × Outcome} b (s, outcome.Idle) (with_globals (at_clock n s.globals) s, outcome.Okay)).0.globals.clock ≡ cond b s.globals.clock n
+-- the clock that is told, or else this one
+abbrev pub clock_or : Option ℕ → ℕ → ℕ
+clock_or None n = n
+clock_or (Some t) n = t
+
+-- what a step of the clock leaves and answers, where the clock stands later and where not
+abbrev clock_by : State → ℕ → Bool → State × Outcome
+clock_by s n b = cond b (s, outcome.Idle) (with_globals (at_clock n s.globals) s, outcome.Okay)
+
+-- the clock after any step, by its answer
+pub step_sets : (s : State) (e : Step) → (step s e).0.globals.clock ≡ clock_or (clock_set e (step s e).1) s.globals.clock
+step_sets s (Client e) = client_keeps s e
+step_sets s (Pull c q) = either s (is_class s c) (pull s c q Plain) (s, outcome.BadClass) (pull_keeps s c q Plain) refl
+step_sets s Bump = bump_from_keeps s s.bump
+step_sets s (CrawlStart set) = start_keeps s (names_other 64 s set) (is_busy 64 s set) (record s { queues = marked (names s set) 0 s.queues }) refl
+step_sets s (Crawl c q) = crawl_keeps s c q
+step_sets s (Schedule src dst) = schedule_keeps s (is_some s.globals.mover) (nat_eq src dst) (is_class s src && nat_le dst (last_class s)) (scheduled s src dst (lowest_page s src)) (scheduled_keeps s src dst (lowest_page s src))
+step_sets s Advance = advance_keeps s s.globals.mover
+step_sets s (Clock n) = go (nat_lt n s.globals.clock) where
+  go : (b : Bool) → (clock_by s n b).0.globals.clock ≡ clock_or (clock_set (Clock n) (clock_by s n b).1) s.globals.clock
   go true = refl
   go false = due_clock n s (is_due s.globals.flush n)
+step_sets s (Tune a b c d) = refl
+step_sets s (TempTtl n) = refl
 
 later_none : (n : ℕ) → later 0 n ≡ n
 later_none zero = refl
@@ -315,16 +335,19 @@ later_none (suc n) = ap (λ t. cond t (suc n) 0) (lt-ltb 0 (suc n) (omega arith)
 kept : (s t : State) → Keeps s t → t.globals.clock ≡ later 0 s.globals.clock
 kept s t h = h ∙ sym (later_none s.globals.clock)
 
--- the clock after any step
+-- the same, without the answer
 pub step_clock : (s : State) (e : Step) → (step s e).0.globals.clock ≡ later (time_set e) s.globals.clock
-step_clock s (Client e) = kept s (client s e).0 (client_keeps s e)
-step_clock s (Pull c q) = kept s (step s (Pull c q)).0 (either s (is_class s c) (pull s c q Plain) (s, outcome.BadClass) (pull_keeps s c q Plain) refl)
-step_clock s Bump = kept s (step s Bump).0 (bump_from_keeps s s.bump)
-step_clock s (CrawlStart set) = kept s (step s (CrawlStart set)).0 (start_keeps s (names_other 64 s set) (is_busy 64 s set) (record s { queues = marked (names s set) 0 s.queues }) refl)
-step_clock s (Crawl c q) = kept s (step s (Crawl c q)).0 (crawl_keeps s c q)
-step_clock s (Schedule src dst) = kept s (step s (Schedule src dst)).0 (schedule_keeps s (is_some s.globals.mover) (nat_eq src dst) (is_class s src && nat_le dst (last_class s)) (scheduled s src dst (lowest_page s src)) (scheduled_keeps s src dst (lowest_page s src)))
-step_clock s Advance = kept s (step s Advance).0 (advance_keeps s s.globals.mover)
-step_clock s (Clock n) = set_clock s n
+step_clock s (Client e) = kept s (step s (Client e)).0 (step_sets s (Client e))
+step_clock s (Pull c q) = kept s (step s (Pull c q)).0 (step_sets s (Pull c q))
+step_clock s Bump = kept s (step s Bump).0 (step_sets s Bump)
+step_clock s (CrawlStart set) = kept s (step s (CrawlStart set)).0 (step_sets s (CrawlStart set))
+step_clock s (Crawl c q) = kept s (step s (Crawl c q)).0 (step_sets s (Crawl c q))
+step_clock s (Schedule src dst) = kept s (step s (Schedule src dst)).0 (step_sets s (Schedule src dst))
+step_clock s Advance = kept s (step s Advance).0 (step_sets s Advance)
+step_clock s (Clock n) = go (nat_lt n s.globals.clock) where
+  go : (b : Bool) → (clock_by s n b).0.globals.clock ≡ cond b s.globals.clock n
+  go true = refl
+  go false = due_clock n s (is_due s.globals.flush n)
 step_clock s (Tune a b c d) = kept s (step s (Tune a b c d)).0 refl
 step_clock s (TempTtl n) = kept s (step s (TempTtl n)).0 refl
 
@@ -355,11 +378,6 @@ lifted_clock : (p c n : ℕ) (f : Form) (s : State) → Keeps s (lifted p c n f 
 lifted_clock p c n Fresh s = refl
 lifted_clock p c n Pool s = refl
 lifted_clock p c n Withdrawn s = refl
-
--- the clock that is told, or else this one
-abbrev pub clock_or : Option ℕ → ℕ → ℕ
-clock_or None n = n
-clock_or (Some t) n = t
 
 clock-through : (ms rest : List Move) (t : State) → (turned (ms ++ rest) t).0.globals.clock ≡ clock_or (clock_through ms) (turned rest t).0.globals.clock
 clock-through [] rest t = refl
@@ -431,11 +449,6 @@ later_more a b c = elim (later_is b c) [
 
 -- ---- the way up
 
--- the clock at the d-th node of the way
-pub record Clocked (v : SessionState) (d clock : ℕ) : Type 0 where
-  pub climb : Climbs v d
-  pub told : clock ≡ clock_at v.root v.rows climb.node
-
 abbrev pub clock_starts : (v : SessionState) (clock : ℕ) → clock ≡ clock_at v.root v.rows v.current → Clocked v (length (lineage v.rows v.current)) clock
 clock_starts v clock e = record { climb = climb_starts v; told = e }
 
@@ -462,6 +475,120 @@ root_state root rows (suc m) e = go (row_of rows (suc m)) e where
 no_nodes : (l : List ℕ) → length l ≡ 0 → l ≡ []
 no_nodes [] e = refl
 no_nodes (x ∷ xs) e = absurd (omega (arith, e))
+
+-- a way that is not empty ends with its node
+ends_with : (rows : List (Option Row)) (n : ℕ) → (lineage rows n ≡ []) ⊎ ((l : List ℕ) × (lineage rows n ≡ l ++ n ∷ []))
+unfolding lineage
+ends_with rows zero = inl refl
+ends_with rows (suc m) = go (row_of rows (suc m)) where
+  way : Option Row → List ℕ
+  way q = nodes_from q (λ r. lineage_within m rows r.parent ++ suc m ∷ [])
+
+  go : (q : Option Row) → (way q ≡ []) ⊎ ((l : List ℕ) × (way q ≡ l ++ suc m ∷ []))
+  go None = inl refl
+  go (Some r) = inr (lineage_within m rows r.parent, refl)
+
+same_head : (m n : ℕ) (l k : List ℕ) → m ∷ l ≡ n ∷ k → m ≡ n
+same_head m n l k e = cc
+
+same_last : (l k : List ℕ) (m n : ℕ) → l ++ m ∷ [] ≡ k ++ n ∷ [] → m ≡ n
+same_last l k m n e = same_head m n (reverse l) (reverse k) (sym (reverse-append l (m ∷ [])) ∙ ap reverse e ∙ reverse-append k (n ∷ []))
+
+-- where two ways are the same, the states are
+same_way : (root : State) (rows : List (Option Row)) (m n : ℕ) → lineage rows m ≡ lineage rows n → at root rows m ≡ at root rows n
+same_way root rows m n e = elim (ends_with rows m) [
+  | inl f ↦ root_state root rows m f ∙ sym (root_state root rows n (sym e ∙ f))
+  | inr p ↦ elim (ends_with rows n) [
+    | inl g ↦ absurd (not_empty p.0 m (sym p.1 ∙ e ∙ g))
+    | inr q ↦ ap (at root rows) (same_last p.0 q.0 m n (sym p.1 ∙ e ∙ q.1))
+  ]
+]
+
+-- the way to the node at a depth
+way_to : (v : SessionState) (d : ℕ) (w : Climbs v d) → take d (lineage v.rows v.current) ≡ lineage v.rows w.node
+way_to v d w = ap (take d) w.splits ∙ ap (λ i. take i (lineage v.rows w.node ++ w.below)) (sym w.deep) ∙ take-append_seam (lineage v.rows w.node) w.below
+
+same_clock : (v : SessionState) (d : ℕ) (w u : Climbs v d) → clock_at v.root v.rows w.node ≡ clock_at v.root v.rows u.node
+same_clock v d w u = ap (λ s. s.globals.clock) (same_way v.root v.rows w.node u.node (sym (way_to v d w) ∙ way_to v d u))
+
+-- there is one clock at a depth
+pub one_clock : (v : SessionState) (d a b : ℕ) → Clocked v d a → Clocked v d b → a ≡ b
+one_clock v d a b w u = w.told ∙ same_clock v d w.climb u.climb ∙ sym u.told
+
+-- at the end of the way it is the current one
+pub last_clock : (v : SessionState) (d clock now : ℕ) → Clocked v d clock → length (lineage v.rows v.current) ≤ d → now ≡ clock_at v.root v.rows v.current → now ≡ clock
+last_clock v d clock now w le e =
+    let within = climb_within v d w.climb in
+    let here : d ≡ length (lineage v.rows v.current) = omega (arith, le, within) in
+    one_clock v (length (lineage v.rows v.current)) now clock (clock_starts v now e) (subst (λ i. Clocked v i clock) here w)
+
+-- at depth 0 it is that of the root
+pub first_clock : (v : SessionState) → Clocked v 0 v.root.globals.clock
+unfolding lineage at
+first_clock v = record { climb = record { node = 0; below = lineage v.rows v.current; splits = refl; deep = refl }; told = refl }
+
+pub root_clock : (v : SessionState) (d m : ℕ) → d ≡ 0 → IsTrue (nat_eq m 0) → Clocked v d (clock_at v.root v.rows m)
+unfolding at
+root_clock v d m z t =
+    subst (λ i. Clocked v i (clock_at v.root v.rows m)) (sym z) (subst (λ i. Clocked v 0 (clock_at v.root v.rows i)) (sym (eqb-true m 0 t)) (first_clock v))
+
+-- at the d-th node and at its parent
+module _ (v : SessionState) (d n : ℕ) (e : Step) (o : Outcome) (r : PlainRecord) (pos : 0 < d) (le : d ≤ length (lineage v.rows v.current)) (h : Trailed v d n e o r) where
+  abbrev here : Climbs v d
+  here = climb_to v h.falls d le
+
+  abbrev parent_clock : Clocked v (d - 1) (clock_at v.root v.rows h.row.parent)
+  parent_clock = record { climb = climbs v d n e o r here pos h; told = refl }
+
+  abbrev pub node_clock : Clocked v d (clock_at v.root v.rows n)
+  node_clock = record { climb = here; told = sym (ap (λ s. s.globals.clock) (node_state v d n e o r here pos h)) }
+
+  pub number_clock : (m : ℕ) → IsTrue (nat_eq n m) → Clocked v d (clock_at v.root v.rows m)
+  number_clock m t = subst (λ i. Clocked v d (clock_at v.root v.rows i)) (eqb-true n m t) node_clock
+
+  -- the clock after the step, by its answer
+  stepped_clock : clock_at v.root v.rows n ≡ clock_or (clock_set e o) (clock_at v.root v.rows h.row.parent)
+  unfolding outcome_of
+  stepped_clock =
+      ap (λ s. s.globals.clock) h.stepped ∙ step_sets (at v.root v.rows h.row.parent) e
+      ∙ ap (λ a. clock_or (clock_set e a) (clock_at v.root v.rows h.row.parent)) (sym h.answered)
+
+  module _ (t : ℕ) (set : Some t ≡ clock_set e o) where
+    set_here : t ≡ clock_at v.root v.rows n
+    set_here = sym (stepped_clock ∙ ap (λ a. clock_or a (clock_at v.root v.rows h.row.parent)) (sym set))
+
+    pub set_after : (clock : ℕ) → Clocked v d clock → t ≡ clock
+    set_after clock w = set_here ∙ one_clock v d (clock_at v.root v.rows n) clock node_clock w
+
+    pub set_before : (earlier : ℕ) → ((after : State) → t ≡ after.globals.clock → earlier ≡ (turned r.moves after).0.globals.clock) → (clock : ℕ) → Clocked v (d - 1) clock → earlier ≡ clock
+    set_before earlier f clock w =
+        f (at v.root v.rows n) set_here ∙ ap (λ s. s.globals.clock) h.leads.there
+        ∙ one_clock v (d - 1) (clock_at v.root v.rows h.row.parent) clock parent_clock w
+
+  module _ (unset : None ≡ clock_set e o) where
+    stays : clock_at v.root v.rows n ≡ clock_at v.root v.rows h.row.parent
+    stays = stepped_clock ∙ ap (λ a. clock_or a (clock_at v.root v.rows h.row.parent)) (sym unset)
+
+    pub unset_up : (clock : ℕ) → Clocked v d clock → Clocked v (d - 1) clock
+    unset_up clock w = record {
+      climb = parent_clock.climb;
+      told = one_clock v d clock (clock_at v.root v.rows n) w node_clock ∙ stays;
+    }
+
+    pub unset_down : (clock : ℕ) → Clocked v (d - 1) clock → Clocked v d clock
+    unset_down clock w = record {
+      climb = here;
+      told = one_clock v (d - 1) clock (clock_at v.root v.rows h.row.parent) w parent_clock ∙ sym stays ∙ node_clock.told;
+    }
+
+-- where there is no step
+pub none_up : (v : SessionState) (d clock : ℕ) → ((d ≡ 0) ⊎ (length (lineage v.rows v.current) < d)) → Clocked v d clock → Clocked v (d - 1) clock
+none_up v d clock (inl z) w = subst (λ i. Clocked v i clock) (omega (arith, z)) w
+none_up v d clock (inr l) w = let within = climb_within v d w.climb in absurd (omega (arith, l, within))
+
+pub none_down : (v : SessionState) (d clock : ℕ) → ((d ≡ 0) ⊎ (length (lineage v.rows v.current) < d)) → d ≤ length (lineage v.rows v.current) → Clocked v (d - 1) clock → Clocked v d clock
+none_down v d clock (inl z) le w = subst (λ i. Clocked v i clock) (omega (arith, z)) w
+none_down v d clock (inr l) le w = absurd (omega (arith, l, le))
 
 pub clock_root : (v : SessionState) (d clock : ℕ) → Clocked v d clock → d ≡ 0 → clock ≡ v.root.globals.clock
 clock_root v d clock w z = w.told ∙ ap (λ s. s.globals.clock) (root_state v.root v.rows w.climb.node (no_nodes (lineage v.rows w.climb.node) (w.climb.deep ∙ z)))
@@ -499,6 +626,30 @@ seek_stops root rows n clock above left w e = w ∙ ap (λ s. later clock s.glob
 
 pub seek_ends : (root : State) (rows : List (Option Row)) (n clock above left : ℕ) → Sought root rows n clock above left → left ≡ 0 → clock_at root rows n ≡ later clock root.globals.clock
 seek_ends root rows n clock above left w z = w ∙ ap (λ j. later clock (at_within j root rows above).globals.clock) z
+
+-- ---- the way up from any node, where parents come in front of their children: the clock there is that at the node
+module _ (root : State) (rows : List (Option Row)) (n above : ℕ) (w : clock_at root rows n ≡ clock_at root rows above) where
+  module _ (falls : RowsFall rows) (r : Row) (e : row_of rows above ≡ Some r) (f : Step) (o : Outcome) (played : f ≡ r.step) (answered : o ≡ outcome_of (at root rows r.parent) r.step) where
+    by_row : clock_at root rows n ≡ clock_or (clock_set f o) (clock_at root rows r.parent)
+    unfolding next outcome_of
+    by_row =
+        w ∙ ap (λ s. s.globals.clock) (at-step root rows falls above r e) ∙ step_sets (at root rows r.parent) r.step
+        ∙ ap (λ a. clock_or (clock_set r.step a) (clock_at root rows r.parent)) (sym answered)
+        ∙ ap (λ g. clock_or (clock_set g o) (clock_at root rows r.parent)) (sym played)
+
+    pub off_set : (t : ℕ) → Some t ≡ clock_set f o → t ≡ clock_at root rows n
+    off_set t set = sym (by_row ∙ ap (λ a. clock_or a (clock_at root rows r.parent)) (sym set))
+
+    pub off_up : None ≡ clock_set f o → (up : ℕ) → up ≡ r.parent → clock_at root rows n ≡ clock_at root rows up
+    off_up unset up u = by_row ∙ ap (λ a. clock_or a (clock_at root rows r.parent)) (sym unset) ∙ ap (clock_at root rows) (sym u)
+
+  pub off_none : row_of rows above ≡ None → clock_at root rows n ≡ clock_at root rows 0
+  unfolding at
+  off_none e = w ∙ ap (λ s. s.globals.clock) (no_row root rows above above e)
+
+  pub off_root : above ≡ 0 → clock_at root rows n ≡ root.globals.clock
+  unfolding at
+  off_root z = w ∙ ap (clock_at root rows) z
 
 -- ---- the last node by a time
 

@@ -1,10 +1,13 @@
 -- The clock at a node, and the last node of a way at which it was no later than some second.
 -- Rule of this project: what `:step` and `:time` tell of the clock, by the states along the way.
-use Rattle.std.specs.Prelude.{ℕ, cond, nat_le, nat_lt, List, [], ◌∷◌, Option, None, Some}
+use Rattle.std.specs.Prelude.{ℕ, ◌≡◌, cond, nat_le, nat_lt, List, [], ◌∷◌, ◌++◌, Option, None, Some, length}
 use Rattle.rev_model.specs.State.{State}
 use Rattle.rev_model.specs.Actor.{Step, Clock}
+use Rattle.rev_model.specs.declared.Outcome.{Outcome}
+use Rattle.rev_model.specs.declared.Outcome.TheVariants.{Okay}
 use Rattle.rev_tree.specs.Rows.{Row, at}
 use Rattle.rev_tree.specs.Machine.{lineage}
+use Rattle.rev_tree.specs.Positions.{SessionState}
 
 -- the clock after the step of node n, in seconds; that of the root where n is 0
 abbrev pub clock_at : State → List (Option Row) → ℕ → ℕ
@@ -18,6 +21,23 @@ later t u = cond (nat_lt t u) u t
 abbrev pub time_set : Step → ℕ
 time_set (Clock n) = n
 time_set e = 0
+
+-- the clock that a step set that answered this, if it set one: one that stands later stays, and the answer is another
+abbrev pub clock_set : Step → Outcome → Option ℕ
+clock_set (Clock n) Okay = Some n
+clock_set e o = None
+
+-- a node at depth d of the way to the current one, the root at 0: the way to the node begins that way
+pub record Climbs (v : SessionState) (d : ℕ) : Type 0 where
+  pub node : ℕ
+  pub below : List ℕ
+  pub splits : lineage v.rows v.current ≡ lineage v.rows node ++ below
+  pub deep : length (lineage v.rows node) ≡ d
+
+-- the clock at the node at that depth
+pub record Clocked (v : SessionState) (d clock : ℕ) : Type 0 where
+  pub climb : Climbs v d
+  pub told : clock ≡ clock_at v.root v.rows climb.node
 
 -- the last of these nodes whose clock is at most t, m where there is none
 abbrev pub last_by : State → List (Option Row) → ℕ → Option ℕ → List ℕ → Option ℕ

@@ -1,21 +1,5 @@
-use Rattle.std.proofs.Common.{arith, sym, ◌∙◌, ap}
-use Rattle.rev_explain.specs.Clocks.{later, time_set}
-use Rattle.rev_explain.proofs.Timing.{seek_starts, seek_up, seek_stops, seek_ends}
+use Rattle.rev_explain.specs.Clocks.{clock_at as clock_of}
 use Rattle.rev_explain.proofs.clocks.clock_at.Goals as goal
 
-pub nodes-init : goal.nodes-init
-nodes-init g c = seek_starts c.args.session.now.root c.args.session.now.rows c.args.node.0
-
-pub nodes-preserved-in-Some : goal.nodes-preserved-in-Some
-nodes-preserved-in-Some g c =
-    let w = c.in-Some.ensures.some in
-    seek_up c.args.session.now.root c.args.session.now.rows c.args.node.0 c.nodes.clock c.nodes.above.0 c.nodes.left c.later-clock.result c.in-Some.parent.0 w.0 c.nodes.invariant (omega (arith, c.nodes-test.true)) w.1 w.2
-    (c.later-clock.ensures ∙ ap (later c.nodes.clock) (c.time_set.ensures ∙ ap (λ e. time_set e) w.3))
-
-pub nodes-preserved : goal.nodes-preserved
-nodes-preserved g c = seek_stops c.args.session.now.root c.args.session.now.rows c.args.node.0 c.nodes.clock c.nodes.above.0 c.nodes.left c.nodes.invariant c.in-None.ensures.none
-
-pub returns : goal.returns
-returns g c =
-    c.later.ensures ∙ ap (later c.nodes.clock) c.root_clock.ensures
-    ∙ sym (seek_ends c.args.session.now.root c.args.session.now.rows c.args.node.0 c.nodes.clock c.nodes.above.0 c.nodes.left c.nodes.invariant (omega (arith, c.nodes-test.false)))
+pub returns-then-is_at : goal.returns-then-is_at
+returns-then-is_at g c = c.clock_on_way.ensures (clock_of c.args.session.now.root c.args.session.now.rows c.args.node.0) (c.is_at.ensures c.if-is_at.true)

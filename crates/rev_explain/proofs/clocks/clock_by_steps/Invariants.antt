@@ -1,5 +1,5 @@
 use Rattle.rev_explain.proofs.Timing.{Sought}
-use Rattle.rev_explain.proofs.clocks.clock_at.Given as goal
+use Rattle.rev_explain.proofs.clocks.clock_by_steps.Given as goal
 
 abbrev pub invariant-nodes : goal.invariant-nodes
 invariant-nodes g l = Sought l.session.root l.session.rows l.fn.node.0 l.clock l.above.0 l.left
