@@ -1,3 +1,4 @@
 pub mod Stores
 pub mod Named
+pub mod Naming
 pub mod Parts

@@ -35,7 +35,7 @@ with_left d k t = with_key (with_room d) k t
 
 -- what is told of a key that the server held when it was started anew
 abbrev pub restarted : Timestamp → Told
-restarted time = record { verdict = told reasons.Restarted evidence.Logged; time = time }
+restarted time = record { verdict = told reasons.Restarted evidence.Logged; time = time; after = None }
 
 -- the server was started anew, and held a key
 abbrev pub with_lost : PlainDeparted → List ℕ → Timestamp → PlainDeparted

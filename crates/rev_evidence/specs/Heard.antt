@@ -2,6 +2,8 @@
 -- Rule of this project: steps are numbered over all logs, from 1.
 use Rattle.std.specs.Prelude.{ℕ, ℤ, zero, suc, ◌+◌, ◌-◌, ◌^◌, min, Bool, true, false, not, ◌&&◌, List, Option, Some, None, slice_get, unwrap_or}
 use Rattle.std.specs.List.{list_any}
+use Rattle.std.specs.Option.{option_map}
+use Rattle.rev_items.specs.Hash.{hash_of}
 use Rattle.rev_model.specs.Track.{same_key}
 use Rattle.rev_lead.specs.declared.role.Role.{Role}
 use Rattle.rev_lead.specs.declared.role.Role.TheVariants as roles
@@ -118,6 +120,10 @@ named (Some e) = key_in e
 
 abbrev pub names : {A : Type 0} → Option (Event A) → List ℕ → Bool
 names e k = is_named (named e) k
+
+-- the hash of the key
+abbrev pub key_hash : {A : Type 0} → Option (Event A) → Option ℕ
+key_hash e = option_map hash_of (named e)
 
 -- a client's look-up that found its key, and no storage command's
 abbrev pub is_hit : {A : Type 0} → Option (Event A) → Bool → Bool

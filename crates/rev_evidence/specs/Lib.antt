@@ -4,4 +4,5 @@ pub mod Heard
 pub mod Blame
 pub mod Departed
 pub mod Parts
+pub mod Sampling
 pub mod Notes

@@ -19,6 +19,11 @@ abbrev pub is_logged : Evidence → Bool
 is_logged evidence.Logged = true
 is_logged e = false
 
+-- what tells it is that later lines are as if it was so
+abbrev pub is_inferred : Evidence → Bool
+is_inferred evidence.Inferred = true
+is_inferred e = false
+
 -- that this is why, and that tells it
 abbrev pub told : Reason → Evidence → Verdict
 told r e = record { reason = r; evidence = e }
@@ -40,14 +45,15 @@ abbrev pub deleted : Role → Evidence
 deleted roles.Event = evidence.Logged
 deleted r = evidence.Replayed
 
--- by the cause that the rules give
+-- by the cause that the rules give; which items lie in the page that a server moves is not in its log, so what the page
+-- mover evicts is inferred
 abbrev pub by_cause : Role → Cause → Said → (flushed : Bool) → Verdict
 by_cause r causes.Evicted w f = told reasons.Evicted (evicted r)
 by_cause r causes.ReclaimedByHit w f = met_dead w f
 by_cause r causes.ReclaimedByPull w f = told reasons.Expired evidence.Replayed
 by_cause r causes.ReclaimedByCrawler w f = told reasons.Expired evidence.Replayed
 by_cause r causes.ReclaimedByMover w f = told reasons.Expired evidence.Replayed
-by_cause r causes.EvictedByMover w f = told reasons.EvictedByMover evidence.Replayed
+by_cause r causes.EvictedByMover w f = told reasons.EvictedByMover evidence.Inferred
 by_cause r causes.DroppedByFailedSet w f = told reasons.DroppedByFailedSet evidence.Logged
 by_cause r causes.Deleted w f = told reasons.Deleted (deleted r)
 
@@ -62,4 +68,5 @@ verdict_of roles.Restore c w f = None
 verdict_of roles.Eviction c w f = Some (told reasons.Evicted evidence.Logged)
 verdict_of (roles.Inferred shown moved) c w f = Some (inferred moved)
 verdict_of roles.Expiry c w f = Some (told reasons.Expired evidence.Replayed)
+verdict_of roles.Outside c w f = Some (told reasons.Outside evidence.Replayed)
 verdict_of r c w f = Some (by_cause r c w f)

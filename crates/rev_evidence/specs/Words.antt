@@ -2,7 +2,7 @@
 -- Rule of this project: one word for each.
 use Rattle.std.specs.Prelude.{ℕ, List, codes}
 use Rattle.rev_evidence.specs.declared.verdict.Reason.{Reason}
-use Rattle.rev_evidence.specs.declared.verdict.Reason.TheVariants.{Evicted, Expired, Flushed, Deleted, EvictedByMover, DroppedByFailedSet, Restarted, Replaced}
+use Rattle.rev_evidence.specs.declared.verdict.Reason.TheVariants.{Evicted, Expired, Flushed, Deleted, EvictedByMover, DroppedByFailedSet, Restarted, Replaced, Outside}
 use Rattle.rev_evidence.specs.declared.verdict.Evidence.{Evidence}
 use Rattle.rev_evidence.specs.declared.verdict.Evidence.TheVariants.{Logged, Replayed, Inferred}
 
@@ -16,6 +16,7 @@ reason_word EvictedByMover = codes "evicted_by_mover"
 reason_word DroppedByFailedSet = codes "dropped_by_failed_set"
 reason_word Restarted = codes "restarted"
 reason_word Replaced = codes "replaced"
+reason_word Outside = codes "outside"
 
 -- what tells it
 abbrev pub evidence_word : Evidence → List ℕ

@@ -18,7 +18,10 @@ const MOST: usize = 1048576;
 #[derive(Clone, Copy)]
 pub struct Told {
     pub verdict: Verdict,
+    /// When it left; where that is inferred, when it was gone at the latest.
     pub time: Timestamp,
+    /// Where that is inferred, the last time at which it was there, if one is known.
+    pub after: Option<Timestamp>,
 }
 
 // Keys as their bytes, each with what is told of it.
@@ -54,6 +57,7 @@ fn restarted(time: Timestamp) -> Told
             evidence: Evidence::Logged,
         },
         time,
+        after: None,
     }
 }
 

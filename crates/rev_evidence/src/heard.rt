@@ -221,6 +221,16 @@ pub fn names<A: Allocator>(event: Option<&Event<A>>, key: &Key<A>) -> bool
     }
 }
 
+/// The hash of the key that the event names.
+pub fn key_hash<A: Allocator>(event: Option<&Event<A>>) -> Option<u32>
+    ensures { result ≡ rule.key_hash (option_copied event.entry) }
+{
+    match named(event) {
+        Some(key) => Some(key.hash()),
+        None => None,
+    }
+}
+
 /// Whether the event is a client's look-up that found its key, and no storage command's.
 pub fn is_hit<A: Allocator>(event: Option<&Event<A>>, own: bool) -> bool
     ensures { result ≡ rule.is_hit (option_copied event.entry) own }

@@ -23,6 +23,8 @@ pub enum Reason {
     Restarted,
     /// New data were stored in its place: only a life ends so, the key stays.
     Replaced,
+    /// It is outside the sample that is replayed, and what the server did with it is not looked at.
+    Outside,
 }
 
 /// What tells that a key left, or that a life of it ended.
@@ -32,7 +34,8 @@ pub enum Evidence {
     Logged,
     /// The replay of the log's steps leads to it, by the rules of the cache.
     Replayed,
-    /// The log does not show it, and later lines are as if it was so.
+    /// The log does not show it. Later lines are as if it was so, or a page moved, and the log does not say which items
+    /// lay in it.
     Inferred,
 }
 
@@ -70,6 +73,7 @@ impl Reason {
             Reason::DroppedByFailedSet => "dropped_by_failed_set",
             Reason::Restarted => "restarted",
             Reason::Replaced => "replaced",
+            Reason::Outside => "outside",
         }
     }
 }
@@ -98,6 +102,20 @@ impl Evidence {
     {
         match self {
             Evidence::Logged => true,
+            _ => false,
+        }
+    }
+}
+
+impl Evidence {
+    ghost use Rattle.rev_evidence.specs.Verdicts.{is_inferred as is_inferred_by};
+
+    /// Whether it is inferred.
+    pub fn is_inferred(self) -> bool
+        ensures { result ≡ is_inferred_by self }
+    {
+        match self {
+            Evidence::Inferred => true,
             _ => false,
         }
     }
@@ -147,7 +165,8 @@ fn deleted(role: Role) -> Evidence
     }
 }
 
-// By the cause that the rules give.
+// By the cause that the rules give. Which items lie in the page that a server moves is not in its log: what the page
+// mover evicts in the replay is as likely still there, and another item gone.
 pub(crate) fn by_cause(role: Role, cause: Cause, said: Said, flushed: bool) -> Verdict
     ensures { result ≡ rule.by_cause role cause said flushed }
 {
@@ -163,7 +182,7 @@ pub(crate) fn by_cause(role: Role, cause: Cause, said: Said, flushed: bool) -> V
         },
         Cause::EvictedByMover => Verdict {
             reason: Reason::EvictedByMover,
-            evidence: Evidence::Replayed,
+            evidence: Evidence::Inferred,
         },
         Cause::DroppedByFailedSet => Verdict {
             reason: Reason::DroppedByFailedSet,
@@ -206,6 +225,10 @@ pub fn verdict_of(role: Role, cause: Cause, said: Said, flushed: bool) -> Option
         Role::Inferred { moved, .. } => Some(inferred(moved)),
         Role::Expiry => Some(Verdict {
             reason: Reason::Expired,
+            evidence: Evidence::Replayed,
+        }),
+        Role::Outside => Some(Verdict {
+            reason: Reason::Outside,
             evidence: Evidence::Replayed,
         }),
         _ => Some(by_cause(role, cause, said, flushed)),

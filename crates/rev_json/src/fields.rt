@@ -152,7 +152,27 @@ fn put_word_part<S: Serializer>(
     }
 }
 
-// Puts what tells a key's leaving from a log, where that is told: the evidence, the second and the culprit.
+// Puts behind which second a key left, and at which it was gone at the latest.
+fn put_span<S: Serializer>(out: &mut S, words: &mut Words<'_>) -> Result<(), S::Error> {
+    put_number(out, "after", words.next().unwrap_or(b""))?;
+    put_number(out, "before", words.next().unwrap_or(b""))
+}
+
+// Puts when a key left, by what tells it.
+fn put_when<S: Serializer>(
+    out: &mut S,
+    evidence: &[u8],
+    words: &mut Words<'_>,
+) -> Result<(), S::Error> {
+    if is_word(evidence, b"inferred") {
+        put_span(out, words)
+    } else {
+        put_number(out, "ts", words.next().unwrap_or(b""))
+    }
+}
+
+// Puts what tells a key's leaving from a log, where that is told: the evidence, the second, or the span where it is
+// inferred, and the culprit.
 fn put_evidence<S: Serializer>(
     out: &mut S,
     scene: &Scene<'_>,
@@ -164,7 +184,7 @@ fn put_evidence<S: Serializer>(
         return Ok(());
     };
     put_word(out, "evidence", evidence)?;
-    put_number(out, "ts", words.next().unwrap_or(b""))?;
+    put_when(out, evidence, words)?;
     match number(node, u64::from(u32::MAX)) {
         Some(node) => put_culprit(out, scene, NodeId(node as u32), cause),
         None => Ok(()),

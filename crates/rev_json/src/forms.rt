@@ -29,7 +29,7 @@ pub enum Part {
     /// All that follows, as it stands.
     Rest(&'static str),
     /// Why a key left, at the node that is the first part: its cause, and where a log tells of it what tells it, the
-    /// second, and the step that pushed it out.
+    /// second, or between which where that is inferred, and the step that pushed it out.
     Left,
 }
 

@@ -69,10 +69,18 @@ impl<A: Allocator> Hash for HeldKey<A> {
 }
 
 /// A key that is looked for in a table.
-#[derive(Clone, Copy)]
 pub struct SoughtKey<'a, A: Allocator> {
     pub key: &'a Key<A>,
 }
+
+// (a derive would ask for an allocator that is copied)
+impl<'a, A: Allocator> Clone for SoughtKey<'a, A> {
+    fn clone(&self) -> Result<SoughtKey<'a, A>, AllocError> {
+        Ok(*self)
+    }
+}
+
+impl<'a, A: Allocator> Copy for SoughtKey<'a, A> {}
 
 impl<'a, A: Allocator> PartialEq for SoughtKey<'a, A> {
     ghost eq = { λ x y. pointwise nat_eq x.key.now y.key.now };
@@ -98,7 +106,7 @@ impl<'a, A: Allocator> Hash for SoughtKey<'a, A> {
     }
 }
 
-impl<'a, A: Allocator + Copy, B: Allocator> Equivalent<HeldKey<B>> for SoughtKey<'a, A> {
+impl<'a, A: Allocator, B: Allocator> Equivalent<HeldKey<B>> for SoughtKey<'a, A> {
     ghost equivalent = { λ q k. pointwise nat_eq q.key.now k };
 
     ghost respects_hash = { λ q k e. ap (λ k. fed.u32 (hash_of k)) ((bytes_decides q.key.now k).0 e) };

@@ -6,17 +6,17 @@ use Rattle.std.specs.Prelude.{ℕ, ◌-◌, ◌==◌, false, cond, min, List, []
 use Rattle.rev_lead.specs.declared.role.Role.{Role}
 use Rattle.rev_watch.specs.declared.event.Event.{Event}
 use Rattle.rev_watch.specs.declared.event.Timestamp.{Timestamp}
-use Rattle.rev_evidence.specs.Heard.{connection, has_flushed, said}
+use Rattle.rev_evidence.specs.Heard.{connection, has_flushed, key_hash, said}
 use Rattle.rev_evidence.specs.declared.notes.Moment.{Moment}
 use Rattle.rev_evidence.specs.declared.verdict.Said.TheVariants as words
 
 -- what an event of this time says, for which steps of these roles were played
 abbrev pub moment_of : {A : Type 0} → Option (Event A) → Timestamp → List Role → Moment
-moment_of e time roles = record { time = time; said = said e; flushed = has_flushed roles; connection = connection e }
+moment_of e time roles = record { time = time; said = said e; flushed = has_flushed roles; connection = connection e; key = key_hash e }
 
 -- what is said of nodes of which nobody told, behind an event of this time
 abbrev pub silence : Timestamp → Moment
-silence time = record { time = time; said = words.Other; flushed = false; connection = None }
+silence time = record { time = time; said = words.Other; flushed = false; connection = None; key = None }
 
 -- a time, or the one at which nothing happened
 abbrev pub or_never : Option Timestamp → Timestamp

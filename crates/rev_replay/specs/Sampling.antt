@@ -2,30 +2,13 @@
 -- Rule of this project: those of the sample's keys. Where the eviction of such a key waits, the next storage command of its
 -- class is taken, too, whatever its key is, since it is the one that needed the chunk. A page that moves is one of a
 -- sample's pages once in so many moves from its class. All else is of no key, and is taken.
-use Rattle.std.specs.Prelude.{◌≡◌, ◌<◌, ◌^◌, ℕ, ◌+◌, ◌-◌, ◌*◌, ◌/◌, Bool, true, false, ◌&&◌, ◌||◌, nat_le, nat_lt, if◌then◌else◌, List, [], ◌∷◌, ◌++◌, length, slice_get, slice_set, replicate, Option, Some, None}
-use Rattle.std.specs.List.{list_any}
-use Rattle.std.specs.Str.{bytes_eq}
-use Rattle.rev_choices.specs.Sample.{takes}
+use Rattle.std.specs.Prelude.{◌≡◌, ◌<◌, ◌^◌, ℕ, ◌+◌, ◌-◌, ◌*◌, ◌/◌, Bool, true, false, ◌&&◌, ◌||◌, nat_le, nat_lt, if◌then◌else◌, List, length, slice_get, slice_set, replicate, Option, Some, None}
+pub use Rattle.rev_evidence.specs.Sampling.{PlainSampling, has}
 use Rattle.rev_watch.specs.declared.event.Event.{Event}
 use Rattle.rev_watch.specs.declared.event.Event.TheVariants.{LookUp, Store, Deletion, Eviction, PageMove, CrawlEnd, ConnectionOpened, ConnectionClosed, Unknown}
 use Rattle.rev_watch.specs.declared.event.StoreOutcome.{StoreOutcome}
 use Rattle.rev_watch.specs.declared.event.StoreOutcome.TheVariants.{TooLarge, NoMemory}
 use Rattle.rev_replay.specs.declared.sampling.Sieve.{Sieve}
-
--- ---- which keys
-
--- a sample: one key of so many, by its hash, and these keys whatever their hashes are
-pub record PlainSampling : Type 0 where
-  pub one_of : ℕ
-  pub kept : List (List ℕ)
-
--- the key is in the sample
-abbrev pub has : PlainSampling → List ℕ → Bool
-has s key = takes s.one_of key || list_any (bytes_eq key) s.kept
-
--- the keys that are kept, and one more, unless it is one of them
-abbrev pub with_key : List (List ℕ) → List ℕ → List (List ℕ)
-with_key kept key = if list_any (bytes_eq key) kept then kept else kept ++ key ∷ []
 
 -- ---- what is noted of each class
 

@@ -9,7 +9,7 @@ use Rattle.rev_tree.specs.Positions.{SessionState}
 use Rattle.rev_plays.specs.Begin.{opened}
 use Rattle.rev_model.specs.Actor.{Client}
 use Rattle.rev_model.specs.Client.{Deletes}
-use Rattle.rev_lead.specs.declared.role.Role.TheVariants.{Actor}
+use Rattle.rev_lead.specs.declared.role.Role.TheVariants.{Outside}
 use Rattle.rev_lead.specs.Acts.{StageState, Act, after, begun}
 use Rattle.rev_evidence.specs.Heard.{step_number}
 use Rattle.rev_evidence.specs.Notes.{PlainNotes}
@@ -64,9 +64,9 @@ pub data Turn : Type 0 where
 abbrev pub fresh : Config → StageState
 fresh c = record { session = opened c; roles = [] }
 
--- a stage behind a delete of a key, by no client that the log tells of
+-- a stage behind a delete of a key that is in no sample
 abbrev pub without : StageState → List ℕ → StageState
-without s key = after s (record { step = Client (Deletes key); role = Actor })
+without s key = after s (record { step = Client (Deletes key); role = Outside })
 
 -- the stage behind a turn
 abbrev pub turned : Config → CountedStage → Turn → CountedStage

@@ -8,7 +8,7 @@ use crate::fault::ReplayFault;
 use crate::heard::{Heard, Listener};
 use crate::keeping::Keeping;
 use rev_evidence::departed::{Departed, Told};
-use rev_evidence::heard::{connection, has_flushed, said};
+use rev_evidence::heard::{connection, has_flushed, key_hash, said};
 use rev_evidence::notes::{Moment, told_by};
 use rev_evidence::verdict::Said;
 use rev_explain::departures;
@@ -63,6 +63,7 @@ fn moment_of<A: Allocator>(event: Option<&Event<A>>, time: Timestamp, roles: &[R
         said: said(event),
         flushed: has_flushed(roles),
         connection: connection(event),
+        key: key_hash(event),
     }
 }
 
@@ -75,6 +76,7 @@ fn silence(time: Timestamp) -> Moment
         said: Said::Other,
         flushed: false,
         connection: None,
+        key: None,
     }
 }
 
@@ -147,7 +149,8 @@ fn leavings_of<A: Allocator + Copy>(
 ) -> Result<Vec<Leaving<A>, A>, AllocError> {
     let mut left = Vec::new(alloc);
     for departure in departures(heard.session, None)? {
-        match told_by(heard.roles, moments, departure.node, departure.cause) {
+        let hash = departure.key.hash();
+        match told_by(heard.roles, moments, departure.node, hash, departure.cause) {
             Some(told) => left.push(Leaving {
                 key: bytes_of(alloc, departure.key)?,
                 told,

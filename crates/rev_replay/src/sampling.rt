@@ -2,18 +2,15 @@
 //!
 //! A server of any size is replayed so. The pages of a sample stay whole, and there are plenty of them, so that the rules
 //! by themselves evict nothing, and each eviction comes from the log.
-ghost use Rattle.std.specs.Prelude.{◌≡◌, [], OnOk};
+ghost use Rattle.std.specs.Prelude.{◌≡◌};
 ghost use Rattle.std.specs.Option.{option_copied};
 ghost use Rattle.rev_replay.specs.Sampling as rule;
 
-use indexmap::IndexSet;
 use rev_choices::Sample;
+pub use rev_evidence::sampling::Sampling;
 use rev_items::Key;
-use rev_log::held_key::{HeldKey, SoughtKey};
 use rev_watch::event::{Event, StoreOutcome};
-use std::alloc::{AllocError, Allocator};
-use std::hash::{BuildHasherDefault, FoldHasher};
-use std::marker::Model;
+use std::alloc::Allocator;
 
 /// Classes are numbered below it.
 const CLASSES: usize = 64;
@@ -23,22 +20,6 @@ const MOST_PAGES: u64 = 2048;
 
 /// At most one key of so many is taken, where that is not asked for (this project's own figure).
 const FEWEST: u32 = 1 << 31;
-
-/// Which keys of a server are replayed: one of so many, by its hash, and some whatever their hashes are.
-#[derive(Drop)]
-pub struct Sampling<A: Allocator> {
-    alloc: A,
-    sample: Sample,
-    kept: IndexSet<HeldKey<A>, BuildHasherDefault<FoldHasher>, A>,
-}
-
-impl<A: Allocator> Model for Sampling<A> {
-    ghost use Rattle.rev_replay.specs.Sampling.{PlainSampling};
-
-    ghost Value = { PlainSampling };
-
-    ghost view = { λ s. record { one_of = s.sample.one_of; kept = s.kept.keys } };
-}
 
 /// What is known of each class in front of an event: whether an eviction of a key of the sample waits for its store, and
 /// how many pages moved from the class since one was played.
@@ -59,71 +40,26 @@ pub fn fitting(pages: u64) -> Sample
     Sample { one_of }
 }
 
-impl<A: Allocator + Copy> Sampling<A> {
-    /// One key of so many, by its hash. No memory is taken.
-    pub fn new(alloc: A, sample: Sample) -> Sampling<A>
-        ensures { result ≡ record { one_of = sample.one_of; kept = [] } }
-    {
-        Sampling {
-            alloc,
-            sample,
-            kept: IndexSet::new(alloc),
-        }
-    }
+// The key, where it is not in the sample.
+fn if_outside<'e, A: Allocator + Copy>(
+    sampling: &Sampling<A>,
+    key: &'e Key<A>,
+) -> Option<&'e Key<A>>
+    ensures { option_copied result ≡ rule.if_outside sampling.now key.now }
+{
+    if sampling.has(key) { None } else { Some(key) }
+}
 
-    /// This key is taken too, whatever its hash is.
-    ///
-    /// Err: memory was refused.
-    pub fn keep(&mut self, key: &Key<A>) -> Result<(), AllocError>
-        ensures kept { OnOk result (self.new.kept ≡ rule.with_key self.old.kept key.now) }
-        ensures same { self.new.one_of ≡ self.old.one_of }
-    {
-        let held = HeldKey::copy_of(self.alloc, key)?;
-        self.kept.insert(held)?;
-        Ok(())
-    }
-
-    /// Whether a key is in the sample.
-    pub fn has(&self, key: &Key<A>) -> bool
-        ensures { result ≡ rule.has self.now key.now }
-    {
-        self.sample.takes(key) || self.kept.contains(SoughtKey { key })
-    }
-
-    // Whether an event is taken, where this is known of each class.
-    fn takes(&self, sieve: &Sieve, event: &Event<A>) -> bool
-        ensures { result ≡ rule.is_taken self.now sieve.now event.now }
-    {
-        match event {
-            Event::LookUp { key, .. } => self.has(key),
-            Event::Store {
-                key,
-                outcome,
-                class,
-                ..
-            } => self.has(key) || sieve.ends_waiting(*outcome, *class),
-            Event::Deletion { key, .. } => self.has(key),
-            Event::Eviction { key, .. } => self.has(key),
-            Event::PageMove { source, .. } => is_last(self.sample.one_of, sieve.moves_of(*source)),
-            _ => true,
-        }
-    }
-
-    // The key of a storage command, where it is not in the sample.
-    fn outsider<'e>(&self, event: &'e Event<A>) -> Option<&'e Key<A>>
-        ensures { option_copied result ≡ rule.outsider self.now event.now }
-    {
-        match event {
-            Event::Store { key, .. } => self.if_outside(key),
-            _ => None,
-        }
-    }
-
-    // The key, where it is not in the sample.
-    fn if_outside<'e>(&self, key: &'e Key<A>) -> Option<&'e Key<A>>
-        ensures { option_copied result ≡ rule.if_outside self.now key.now }
-    {
-        if self.has(key) { None } else { Some(key) }
+// The key of a storage command, where it is not in the sample.
+fn outsider_in<'e, A: Allocator + Copy>(
+    sampling: &Sampling<A>,
+    event: &'e Event<A>,
+) -> Option<&'e Key<A>>
+    ensures { option_copied result ≡ rule.outsider sampling.now event.now }
+{
+    match event {
+        Event::Store { key, .. } => if_outside(sampling, key),
+        _ => None,
     }
 }
 
@@ -227,6 +163,25 @@ impl Sieve {
         note(&mut self.moves, source, count);
     }
 
+    // Whether an event of a sample's log is taken.
+    fn is_taken<A: Allocator + Copy>(&self, sampling: &Sampling<A>, event: &Event<A>) -> bool
+        ensures { result ≡ rule.is_taken sampling.now self.now event.now }
+    {
+        match event {
+            Event::LookUp { key, .. } => sampling.has(key),
+            Event::Store {
+                key,
+                outcome,
+                class,
+                ..
+            } => sampling.has(key) || self.ends_waiting(*outcome, *class),
+            Event::Deletion { key, .. } => sampling.has(key),
+            Event::Eviction { key, .. } => sampling.has(key),
+            Event::PageMove { source, .. } => is_last(sampling.one_of(), self.moves_of(*source)),
+            _ => true,
+        }
+    }
+
     // Notes an event.
     fn note<A: Allocator + Copy>(&mut self, sampling: &Sampling<A>, event: &Event<A>)
         ensures { self.new ≡ rule.behind sampling.now self.old event.now }
@@ -234,17 +189,17 @@ impl Sieve {
         match event {
             Event::Store { outcome, class, .. } => self.note_store(*outcome, *class),
             Event::Eviction { key, class, .. } => self.note_eviction(sampling.has(key), *class),
-            Event::PageMove { source, .. } => self.note_move(sampling.sample.one_of, *source),
+            Event::PageMove { source, .. } => self.note_move(sampling.one_of(), *source),
             _ => {}
         }
     }
 
-    // Whether an event of a sample's log is taken. It is noted.
+    // The same, and it is noted.
     fn sift<A: Allocator + Copy>(&mut self, sampling: &Sampling<A>, event: &Event<A>) -> bool
         ensures taken { result ≡ rule.is_taken sampling.now self.old event.now }
         ensures behind { self.new ≡ rule.behind sampling.now self.old event.now }
     {
-        let taken = sampling.takes(self, event);
+        let taken = self.is_taken(sampling, event);
         self.note(sampling, event);
         taken
     }
@@ -274,6 +229,6 @@ pub fn outsider<'e, A: Allocator + Copy>(
 {
     match sampling {
         None => None,
-        Some(sampling) => sampling.outsider(event),
+        Some(sampling) => outsider_in(sampling, event),
     }
 }

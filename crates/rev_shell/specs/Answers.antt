@@ -92,7 +92,7 @@ abbrev pub asked_text : PlainNotes → SessionState → KeyQuery → List ℕ �
 asked_text log m queries.Item k = found_text (state_of m) (find (state_of m) k)
 asked_text log m queries.Chunk k = place_text (find (state_of m) k)
 asked_text log m queries.Why k = why_text log k (why_of m.root m.rows m.current k)
-asked_text log m queries.Story k = events_text log (story m.root m.rows m.current k)
+asked_text log m queries.Story k = events_text log k (story m.root m.rows m.current k)
 
 -- what a text names in a line of a log: a key, or nothing
 abbrev pub spelled : Result (List ℕ × ℕ) LineFault → Option (List ℕ)

@@ -20,7 +20,7 @@ use Rattle.rev_views.specs.Reasons.{left_words}
 
 -- a key that left: the node, the key, and why
 abbrev pub departure_text : PlainNotes → PlainDeparture → List ℕ
-departure_text log d = output (decimal d.node ++ codes " " ++ d.key ++ codes " " ++ left_words log d.node d.cause)
+departure_text log d = output (decimal d.node ++ codes " " ++ d.key ++ codes " " ++ left_words log d.node d.cause d.key)
 
 -- a line for each, then END
 abbrev pub departures_text : PlainNotes → List PlainDeparture → List ℕ

@@ -1,8 +1,8 @@
 //! Why a key was gone, and its story.
 ghost use Rattle.std.specs.Prelude.{◌≡◌, ◌++◌, OnOk};
 ghost use Rattle.rev_explain.specs.Story.{why_of, story as story_of};
-ghost use Rattle.rev_evidence.specs.Notes.{told_before};
-ghost use Rattle.rev_views.specs.Reasons.{cause_word, told_words, left_words, place_words, event_words, event_text, events_text, departed_text, absent_text, never_text, why_text};
+ghost use Rattle.rev_evidence.specs.Notes.{told_before, is_outside};
+ghost use Rattle.rev_views.specs.Reasons.{cause_word, second_word, behind_words, told_words, left_words, place_words, event_words, event_text, events_text, departed_text, absent_text, before_text, never_text, why_text};
 
 use rev_evidence::departed::Told;
 use rev_evidence::notes::LogNotes;
@@ -31,13 +31,39 @@ fn cause_word(cause: Cause) -> &'static [u8]
     }
 }
 
-// Writes what a log tells of a key that left: why, what tells it, and the second.
+// Writes a second, or `-` where none is known.
+fn put_second<A: Allocator>(out: &mut Vec<u8, A>, time: Option<Timestamp>) -> Result<(), AllocError>
+    ensures { OnOk result (out.new.items ≡ out.old.items ++ second_word time) }
+{
+    match time {
+        Some(time) => put_number(out, time.seconds as u64),
+        None => out.extend_from_slice(b"-"),
+    }
+}
+
+// Writes behind which second a key left, where that is inferred.
+fn put_behind<A: Allocator>(
+    out: &mut Vec<u8, A>,
+    is_inferred: bool,
+    time: Option<Timestamp>,
+) -> Result<(), AllocError>
+    ensures { OnOk result (out.new.items ≡ out.old.items ++ behind_words is_inferred time) }
+{
+    if !is_inferred {
+        return Ok(());
+    }
+    out.extend_from_slice(b" ")?;
+    put_second(out, time)
+}
+
+// Writes what a log tells of a key that left: why, what tells it, and the second, or between which seconds.
 fn put_told<A: Allocator>(out: &mut Vec<u8, A>, told: Told) -> Result<(), AllocError>
     ensures { OnOk result (out.new.items ≡ out.old.items ++ told_words told) }
 {
     out.extend_from_slice(told.verdict.reason.word().as_bytes())?;
     out.extend_from_slice(b" ")?;
     out.extend_from_slice(told.verdict.evidence.word().as_bytes())?;
+    put_behind(out, told.verdict.evidence.is_inferred(), told.after)?;
     put_field(out, b" ", told.time.seconds as u64)
 }
 
@@ -48,10 +74,11 @@ pub(crate) fn put_left<A: Allocator + Clone>(
     log: &LogNotes<A>,
     node: NodeId,
     cause: Cause,
+    key: &Key<A>,
 ) -> Result<(), AllocError>
-    ensures { OnOk result (out.new.items ≡ out.old.items ++ left_words log.now node.0 cause) }
+    ensures { OnOk result (out.new.items ≡ out.old.items ++ left_words log.now node.0 cause key.now) }
 {
-    match log.told_at(node, cause) {
+    match log.told_at(node, cause, key) {
         Some(told) => put_told(out, told),
         None => out.extend_from_slice(cause_word(cause)),
     }
@@ -82,18 +109,32 @@ fn put_absent<A: Allocator>(
     }
 }
 
-// Writes why a key is gone that never was there since the root: what is told of its last leaving in front of the root,
-// as far as that is remembered.
+// Writes what is told of the last leaving of a key in front of the root, as far as that is remembered.
+fn put_before<A: Allocator + Clone>(
+    out: &mut Vec<u8, A>,
+    log: &LogNotes<A>,
+    key: &Key<A>,
+) -> Result<(), AllocError>
+    ensures { OnOk result (out.new.items ≡ out.old.items ++ before_text (told_before log.now key.now) log.now.since) }
+{
+    match log.told_before(key) {
+        Some(told) => put_departed(out, told),
+        None => put_absent(out, log.since()),
+    }
+}
+
+// Writes why a key is gone that never was there since the root: that it is in no sample, or what is told of it before.
 fn put_never<A: Allocator + Clone>(
     out: &mut Vec<u8, A>,
     log: &LogNotes<A>,
     key: &Key<A>,
 ) -> Result<(), AllocError>
-    ensures { OnOk result (out.new.items ≡ out.old.items ++ never_text (told_before log.now key.now) log.now.since) }
+    ensures { OnOk result (out.new.items ≡ out.old.items ++ never_text (is_outside log.now key.now) (told_before log.now key.now) log.now.since) }
 {
-    match log.told_before(key) {
-        Some(told) => put_departed(out, told),
-        None => put_absent(out, log.since()),
+    if log.is_outside(key) {
+        put_output(out, b"OUTSIDE")
+    } else {
+        put_before(out, log, key)
     }
 }
 
@@ -112,7 +153,7 @@ pub fn put_why<A: Allocator + Clone>(
         Why::Left { node, cause } => {
             put_field(out, b"LEFT ", node.0 as u64)?;
             out.extend_from_slice(b" ")?;
-            put_left(out, log, node, cause)?;
+            put_left(out, log, node, cause, key)?;
             out.extend_from_slice(b"\r\n")
         }
     }
@@ -131,9 +172,10 @@ fn put_place<A: Allocator>(out: &mut Vec<u8, A>, place: ClassQueue) -> Result<()
 fn put_kind<A: Allocator + Clone>(
     out: &mut Vec<u8, A>,
     log: &LogNotes<A>,
+    key: &Key<A>,
     event: Event,
 ) -> Result<(), AllocError>
-    ensures { OnOk result (out.new.items ≡ out.old.items ++ event_words log.now event.node.0 event.kind) }
+    ensures { OnOk result (out.new.items ≡ out.old.items ++ event_words log.now key.now event.node.0 event.kind) }
 {
     match event.kind {
         EventKind::Stored(place) => {
@@ -152,21 +194,22 @@ fn put_kind<A: Allocator + Clone>(
         }
         EventKind::Left(cause) => {
             out.extend_from_slice(b" left ")?;
-            put_left(out, log, event.node, cause)
+            put_left(out, log, event.node, cause, key)
         }
     }
 }
 
-// Writes the line of an event.
+// Writes the line of an event of the key.
 fn put_event<A: Allocator + Clone>(
     out: &mut Vec<u8, A>,
     log: &LogNotes<A>,
+    key: &Key<A>,
     event: Event,
 ) -> Result<(), AllocError>
-    ensures { OnOk result (out.new.items ≡ out.old.items ++ event_text log.now event) }
+    ensures { OnOk result (out.new.items ≡ out.old.items ++ event_text log.now key.now event) }
 {
     put_number(out, event.node.0 as u64)?;
-    put_kind(out, log, event)?;
+    put_kind(out, log, key, event)?;
     out.extend_from_slice(b"\r\n")
 }
 
@@ -178,10 +221,10 @@ pub fn put_story<A: Allocator + Clone>(
     key: &Key<A>,
     out: &mut Vec<u8, A>,
 ) -> Result<(), AllocError>
-    ensures { OnOk result (out.new.items ≡ out.old.items ++ events_text log.now (story_of session.now.root session.now.rows session.now.current key.now)) }
+    ensures { OnOk result (out.new.items ≡ out.old.items ++ events_text log.now key.now (story_of session.now.root session.now.rows session.now.current key.now)) }
 {
     for event in story(session, key)? {
-        put_event(out, log, event)?;
+        put_event(out, log, key, event)?;
     }
     put_output(out, b"END")
 }

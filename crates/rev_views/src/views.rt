@@ -30,7 +30,7 @@ fn put_departure<A: Allocator + Clone>(
     out.extend_from_slice(b" ")?;
     out.extend_from_slice(departure.key.bytes())?;
     out.extend_from_slice(b" ")?;
-    put_left(out, log, departure.node, departure.cause)?;
+    put_left(out, log, departure.node, departure.cause, departure.key)?;
     out.extend_from_slice(b"\r\n")
 }
 
