@@ -4,3 +4,4 @@ pub mod Nodes
 pub mod Climbing
 pub mod Returning
 pub mod Tallies
+pub mod Adding

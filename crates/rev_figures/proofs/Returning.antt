@@ -1,5 +1,5 @@
 -- The way back to where the session stood.
-use Rattle.std.proofs.Common.{◌≡◌, ℕ, zero, suc, ◌↔◌, Bool, true, false, List, [], ◌∷◌, ◌++◌, Option, None, Some, is_some, length, Result, Ok, Err, IsTrue, refl, sym, ◌∙◌, ap, subst, arith}
+use Rattle.std.proofs.Common.{◌≡◌, ℕ, zero, suc, ◌↔◌, Bool, true, false, List, [], ◌∷◌, ◌++◌, Option, None, Some, is_some, length, Result, Ok, Err, IsTrue, ◌<◌, refl, sym, ◌∙◌, ap, subst, arith}
 use Rattle.std.specs.Result.{IsOk, OnOk, OnErr}
 use Rattle.std.proofs.lemmas.Bool.{false≢true, true≢false}
 use Rattle.std.proofs.lemmas.List.{append-nil}
@@ -61,3 +61,15 @@ module _ (v now later : SessionState) (climbed : HasClimbed v now) where
   clock_there top clock e =
       clock_root now 0 clock record { climb = record { node = now.current; below = []; splits = sym (append-nil (lineage now.rows now.current)); deep = ap length top }; told = e } refl
       ∙ ap (λ s. s.root.globals.clock) climbed.stands
+
+-- a session that has gone elsewhere, and is sent back to where a way led to it
+module _ (v now later : SessionState) (moved : now ≡ record v { current = now.current }) (some : 0 < length (lineage v.rows v.current)) where
+  sent-at : {T E : Type 0} (r : Result T E) → (IsOk r ↔ IsTrue (is_held now.rows v.current)) → OnOk r (later ≡ record now { current = v.current }) → later ≡ v
+  sent-at (Ok x) held ok = ok ∙ ap (sent v.current) moved
+  sent-at (Err e) held ok = by (is_held v.rows v.current) refl where
+    by : (b : Bool) → is_held v.rows v.current ≡ b → later ≡ v
+    by false f = absurd (let none = ap length (unheld v.rows v.current f) in omega (arith, none, some))
+    by true f = absurd (false≢true (held.1 (ap (λ s. is_held s.rows v.current) moved ∙ f)))
+
+  pub sent_back : {T E : Type 0} (r : Result T E) (p : ℕ) → p ≡ v.current → (IsOk r ↔ IsTrue (is_held now.rows p)) → OnOk r (later ≡ record now { current = p }) → later ≡ v
+  sent_back r p same = subst (λ (q : ℕ). (IsOk r ↔ IsTrue (is_held now.rows q)) → OnOk r (later ≡ record now { current = q }) → later ≡ v) (sym same) (sent-at r)

@@ -7,3 +7,4 @@ pub mod Climbing
 pub mod Tables
 pub mod Classes
 pub mod Slots
+pub mod Sums

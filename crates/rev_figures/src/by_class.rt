@@ -10,7 +10,7 @@ use rev_model::Cause;
 use std::alloc::{AllocError, Allocator};
 
 /// How many numbers a class may have.
-const NUMBERS: usize = 256;
+pub const NUMBERS: usize = 256;
 
 /// What is counted of the steps of a class.
 #[derive(Clone, Copy)]
@@ -41,7 +41,7 @@ pub fn more(is_one: bool, count: usize) -> usize
 }
 
 /// The counts with a step of the class more.
-fn with_step(counts: StepCounts, step: &PathStep) -> StepCounts
+pub fn with_step(counts: StepCounts, step: &PathStep) -> StepCounts
     ensures { result ≡ with_step counts step.now }
 {
     let number = kind_number(step.kind);

@@ -217,7 +217,7 @@ pub fn median_wait<A: Allocator + Clone>(
 }
 
 /// The clock after the last of these steps, in seconds, or else the root's.
-fn last_second(start: u32, steps: &[PathStep]) -> u32
+pub fn last_second(start: u32, steps: &[PathStep]) -> u32
     ensures { result ≡ last_second start steps.now }
 {
     match steps.last() {

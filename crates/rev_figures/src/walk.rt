@@ -146,7 +146,7 @@ fn add_class_bytes<A: Allocator>(
 }
 
 /// Adds the rows of all classes that own pages, the last class first.
-fn add_bytes<A: Allocator>(
+pub fn add_bytes<A: Allocator>(
     bytes: &mut Vec<QueueBytes, A>,
     store: &Store<A>,
     step: usize,

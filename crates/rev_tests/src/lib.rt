@@ -11,6 +11,8 @@ mod endless;
 #[cfg(test)]
 mod imports;
 #[cfg(test)]
+mod in_parts;
+#[cfg(test)]
 mod memory;
 #[cfg(test)]
 mod mentions;

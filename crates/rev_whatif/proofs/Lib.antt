@@ -1,4 +1,5 @@
 pub mod Trying
 pub mod Reading
 pub mod Evictions
-pub mod Counting
+pub mod Feeding
+pub mod Own

@@ -1,11 +1,10 @@
 -- The steps that are read on the way up from a node.
-use Rattle.std.proofs.Common.{◌≡◌, ℕ, zero, suc, ◌-◌, ◌<◌, ◌≤◌, ◌⊎◌, List, [], ◌∷◌, ◌++◌, Option, None, Some, length, reverse, refl, sym, ◌∙◌, ap, arith}
-use Rattle.std.proofs.lemmas.List.{reverse-append, reverse-reverse, length-append}
+use Rattle.std.proofs.Common.{◌≡◌, ℕ, ◌-◌, ◌<◌, ◌⊎◌, List, [], ◌∷◌, ◌++◌, length, reverse, refl, sym, ◌∙◌, ap, arith}
+use Rattle.std.proofs.lemmas.List.{reverse-append, reverse-reverse}
 use Rattle.rev_model.specs.Actor.{Step}
 use Rattle.rev_model.specs.declared.Outcome.{Outcome}
 use Rattle.rev_inverse.specs.Record.{PlainRecord}
-use Rattle.rev_tree.specs.Rows.{Row, row_of}
-use Rattle.rev_tree.specs.Machine.{nodes_from, lineage_within, lineage}
+use Rattle.rev_tree.specs.Machine.{lineage}
 use Rattle.rev_tree.specs.Positions.{SessionState}
 use Rattle.rev_tree.specs.Trails.{Trailed}
 use Rattle.rev_explain.proofs.Climbs.{Climbs, climb_starts, climbs, row_is, at_end}
@@ -41,35 +40,3 @@ pub read_ends : (v : SessionState) (d : ℕ) (read all : List Step) → Reading 
 read_ends v d read all w o ae =
     ae ∙ ap reverse w.told ∙ reverse-reverse (steps_along v.rows w.climb.below)
     ∙ ap (steps_along v.rows) (sym (w.climb.splits ∙ ap (λ l. l ++ w.climb.below) (no_nodes (lineage v.rows w.climb.node) (w.climb.deep ∙ at_end v d w.climb o))))
-
--- ---- a way has no more nodes than numbers
-
-length_from : (q : Option Row) (f : Row → List ℕ) (k : ℕ) → ((r : Row) → length (f r) ≤ k) → length (nodes_from q f) ≤ k
-length_from None f k h = omega arith
-length_from (Some r) f k h = h r
-
-length_within : (k : ℕ) (rows : List (Option Row)) (n : ℕ) → length (lineage_within k rows n) ≤ k
-length_within zero rows n = omega arith
-length_within (suc k) rows n =
-    length_from (row_of rows n) (λ r. lineage_within k rows r.parent ++ n ∷ []) (suc k)
-    (λ r. let a = length-append (lineage_within k rows r.parent) (n ∷ []) in let m = length_within k rows r.parent in omega (arith, a, m))
-
-pub lineage_short : (rows : List (Option Row)) (n : ℕ) → length (lineage rows n) ≤ n
-unfolding lineage
-lineage_short rows n = length_within n rows n
-
-along_short : (rows : List (Option Row)) (ns : List ℕ) → length (steps_along rows ns) ≤ length ns
-along_short rows [] = omega arith
-along_short rows (n ∷ ns) =
-    let a = length-append (row_steps (row_of rows n)) (steps_along rows ns) in
-    let m = along_short rows ns in
-    let one = one_step (row_of rows n) in
-    omega (arith, a, m, one)
-  where
-    one_step : (q : Option Row) → length (row_steps q) ≤ 1
-    one_step None = omega arith
-    one_step (Some r) = omega arith
-
--- there are no more steps than numbers
-pub path_short : (rows : List (Option Row)) (n : ℕ) → length (path_steps rows n) ≤ n
-path_short rows n = let a = along_short rows (lineage rows n) in let l = lineage_short rows n in omega (arith, a, l)

@@ -1,3 +1,3 @@
 pub mod Settings
+pub mod Runs
 pub mod Trials
-pub mod Playing

@@ -2,7 +2,7 @@
 -- Rule of this project: the steps on the way from the root to the current node are played again, one after another, by
 -- the model's own step. Each is counted as the report counts it, and a key that left is counted where it was evicted.
 -- Steps of `~evict` are left out: they say what made way in the cache that was recorded, and not in this one.
-use Rattle.std.specs.Prelude.{ℕ, ◌+◌, Bool, true, false, cond, List, [], ◌∷◌, ◌++◌, Option, None, Some, Result, Ok, Err}
+use Rattle.std.specs.Prelude.{ℕ, fold, Bool, true, false, cond, List, [], ◌∷◌, ◌++◌, Option, None, Some, Result, Ok, Err, map}
 use Rattle.std.specs.List.{count_by}
 use Rattle.rev_classes.specs.declared.Config.{Config}
 use Rattle.rev_model.specs.State.{State}
@@ -14,6 +14,7 @@ use Rattle.rev_tree.specs.Steps.{next, outcome_of}
 use Rattle.rev_tree.specs.Rows.{Row, row_of}
 use Rattle.rev_tree.specs.Machine.{lineage}
 use Rattle.rev_explain.specs.Departures.{PlainDeparture, departures_at}
+use Rattle.rev_figures.specs.Classes.{plus}
 use Rattle.rev_figures.specs.Kinds.{kind_of}
 use Rattle.rev_figures.specs.Tables.{is_eviction}
 use Rattle.rev_figures.specs.declared.path.StepKind.{StepKind}
@@ -21,6 +22,8 @@ use Rattle.rev_figures.specs.declared.path.StepKind.TheVariants as kind
 use Rattle.rev_whatif.specs.Settings.{config_with, first_tune, fault_with}
 use Rattle.rev_whatif.specs.declared.setting.Setting.{Setting}
 use Rattle.rev_whatif.specs.declared.setting.SettingFault.{SettingFault}
+use Rattle.rev_whatif.specs.Runs.{PlainRun}
+use Rattle.rev_whatif.specs.declared.course.Course.{Course}
 use Rattle.rev_whatif.specs.declared.trial.Counts.{Counts}
 use Rattle.rev_whatif.specs.declared.trial.Trial.{Trial}
 
@@ -46,16 +49,16 @@ path_steps rows n = steps_along rows (lineage rows n)
 abbrev pub no_counts : Counts
 no_counts = record { hits = 0; misses = 0; stores = 0; evictions = 0 }
 
--- a step of this kind more
+-- a step of this kind more; no count goes above the highest number of 64 bits
 abbrev pub with_kind : StepKind → Counts → Counts
-with_kind kind.Stored c = record c { stores = c.stores + 1 }
-with_kind kind.Hit c = record c { hits = c.hits + 1 }
-with_kind kind.Miss c = record c { misses = c.misses + 1 }
+with_kind kind.Stored c = record c { stores = plus c.stores 1 }
+with_kind kind.Hit c = record c { hits = plus c.hits 1 }
+with_kind kind.Miss c = record c { misses = plus c.misses 1 }
 with_kind kind.Other c = c
 
 -- so many evictions more
 abbrev pub with_evictions : ℕ → Counts → Counts
-with_evictions n c = record c { evictions = c.evictions + n }
+with_evictions n c = record c { evictions = plus c.evictions n }
 
 -- how many of the keys that left were evicted, by a set or by the page mover
 abbrev pub evicted : List PlainDeparture → ℕ
@@ -80,10 +83,9 @@ next_tried s e = cond (is_left_out e) s (next s e)
 abbrev pub with_tried : State → Step → Counts → Counts
 with_tried s e c = cond (is_left_out e) c (with_step s e c)
 
--- steps more, one after another, the first one at s
-abbrev pub count_from : State → List Step → Counts → Counts
-count_from s [] c = c
-count_from s (e ∷ es) c = count_from (next_tried s e) es (with_tried s e c)
+-- a store on which a step more is tried, and what is counted then
+abbrev pub tried : PlainRun → Step → PlainRun
+tried r e = record { state = next_tried r.state e; counts = with_tried r.state e r.counts }
 
 -- ---- a trial
 
@@ -96,11 +98,37 @@ tuned (Some t) s = next s (Tune t.hot_share t.warm_share t.hot_factor t.warm_fac
 abbrev pub first_state : Config → Setting → State
 first_state c x = tuned (first_tune c x) (empty_state (config_with c x))
 
--- what the steps count there, or why no cache has the setting
-abbrev pub outcome_by : Config → List Step → Setting → Option SettingFault → Result Counts SettingFault
-outcome_by c es x None = Ok (count_from (first_state c x) es no_counts)
-outcome_by c es x (Some f) = Err f
+-- that store and no counts, or why no cache has the setting
+abbrev pub first_run : Config → Setting → Option SettingFault → Result PlainRun SettingFault
+first_run c x None = Ok (record { state = first_state c x; counts = no_counts })
+first_run c x (Some f) = Err f
+
+-- the same with steps more, one after another
+abbrev pub run_by : List Step → Result PlainRun SettingFault → Result PlainRun SettingFault
+run_by es (Ok r) = Ok (fold tried r es)
+run_by es (Err f) = Err f
+
+-- a trial under way with steps more
+abbrev pub course_by : List Step → Course → Course
+course_by es k = record k { run = run_by es k.run }
+
+-- the trial under way of a setting, behind these steps
+abbrev pub course_of : Config → List Step → Setting → Course
+course_of c es x = record { setting = x; run = run_by es (first_run c x (fault_with c x)) }
+
+-- those of several settings
+abbrev pub courses_of : Config → List Step → List Setting → List Course
+courses_of c es xs = map (course_of c es) xs
+
+-- what was counted
+abbrev pub outcome_by : Result PlainRun SettingFault → Result Counts SettingFault
+outcome_by (Ok r) = Ok r.counts
+outcome_by (Err f) = Err f
+
+-- a trial as far as it is under way
+abbrev pub trial_by : Course → Trial
+trial_by k = record { setting = k.setting; outcome = outcome_by k.run }
 
 -- the trial of a setting
 abbrev pub trial_of : Config → List Step → Setting → Trial
-trial_of c es x = record { setting = x; outcome = outcome_by c es x (fault_with c x) }
+trial_of c es x = trial_by (course_of c es x)

@@ -2,9 +2,12 @@
 //! setting, with what each run counts.
 #![tactic(auto)]
 
+mod course;
 mod path;
+mod run;
 mod setting;
 mod trial;
 
+pub use course::Trials;
 pub use setting::{Setting, SettingFault};
-pub use trial::{Counts, Trial, try_settings};
+pub use trial::{Counts, Trial};

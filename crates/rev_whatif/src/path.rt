@@ -1,5 +1,5 @@
 //! The steps on the way from the root to the current node.
-ghost use Rattle.std.specs.Prelude.{◌≡◌, ◌<◌, ◌^◌, IfOk, length, map};
+ghost use Rattle.std.specs.Prelude.{◌≡◌, IfOk, map};
 ghost use Rattle.rev_requests.specs.Plain.{plain_step};
 ghost use Rattle.rev_whatif.specs.Trials.{path_steps};
 
@@ -13,10 +13,8 @@ use std::alloc::{AllocError, Allocator};
 pub fn steps<'a, A: Allocator + Clone>(
     session: &'a Session<A>,
 ) -> Result<Vec<&'a Step<A>, A>, AllocError>
-    ensures steps { IfOk result (λ steps. map (λ step. plain_step step.now) steps.items ≡ path_steps session.now.rows session.now.current) }
-    ensures few { IfOk result (λ steps. length steps.items < 2 ^ 32) }
+    ensures { IfOk result (λ steps. map (λ step. plain_step step.now) steps.items ≡ path_steps session.now.rows session.now.current) }
 {
-    let _current = session.current();
     let mut depth = session.depth();
     let mut steps = Vec::with_capacity(session.store().alloc()?, depth)?;
     'nodes: while let Some((_, step, _, _)) = session.trail(depth) {

@@ -1,34 +1,26 @@
-//! Trials: a trace on an empty store with one other setting.
-ghost use Rattle.std.specs.Prelude.{◌≡◌, ◌<◌, ◌≤◌, ◌^◌, ℕ, IfOk, OnOk, Ok, cond, false, length, map, slice_index_or};
+//! A step of a trial, and what is counted of it.
+ghost use Rattle.std.specs.Prelude.{◌≡◌, ℕ, IfOk, OnOk, cond};
 ghost use Rattle.rev_model.specs.State.{State};
 ghost use Rattle.rev_model.specs.Sound.{Sound};
 ghost use Rattle.rev_model.specs.Causes.{step_removals};
 ghost use Rattle.rev_model.specs.Track.{removals};
 ghost use Rattle.rev_model.specs.Events.{is_key, stored_key};
 ghost use Rattle.rev_requests.specs.Plain.{plain_step};
-ghost use Rattle.rev_inverse.specs.Empty.{empty_state};
 ghost use Rattle.rev_tree.specs.Steps.{next, outcome_of};
 ghost use Rattle.rev_explain.specs.Readings.{removals_by};
-ghost use Rattle.rev_explain.specs.Departures.{departure, departures_in, departures_at};
-ghost use Rattle.rev_whatif.specs.Settings.{fault_with};
-ghost use Rattle.rev_whatif.specs.Trials.{path_steps, no_counts, with_kind, with_evictions, evicted, with_step, is_left_out, next_tried, with_tried, count_from, tuned, outcome_by, trial_of};
-ghost use Rattle.rev_whatif.specs.Playing.{HasRoom, IsTried};
+ghost use Rattle.rev_explain.specs.Departures.{departure, departures_in};
+ghost use Rattle.rev_whatif.specs.Trials.{with_kind, with_evictions, evicted, with_step, is_left_out, next_tried, with_tried};
 
-use crate::path::steps;
 use crate::setting::{Setting, SettingFault};
-use rev_classes::Config;
 use rev_figures::{StepKind, has_stored, is_eviction, kind_of};
 use rev_inverse::{Change, Record, Store};
 use rev_items::Key;
 use rev_model::{Cause, Outcome};
-use rev_requests::{ClientStep, KeyCommand, Step, Tune};
+use rev_requests::{ClientStep, KeyCommand, Step};
 use rev_steps::apply;
-use rev_undotree::Session;
-use std::alloc::{AllocError, Allocator, Global};
-use std::thread;
-use std::thread::Threads;
+use std::alloc::{AllocError, Allocator};
 
-/// What the steps of a trial did. A look-up is a get or a touch.
+/// What the steps of a trial did. A look-up is a get or a touch. A count stops at 2^64 - 1.
 #[derive(Clone, Copy, Debug, PartialEq, Eq)]
 pub struct Counts {
     /// Look-ups that found their key's item.
@@ -51,7 +43,7 @@ pub struct Trial {
 
 impl Counts {
     /// What no step counts.
-    const NONE: Counts = Counts {
+    pub const NONE: Counts = Counts {
         hits: 0,
         misses: 0,
         stores: 0,
@@ -60,15 +52,13 @@ impl Counts {
 
     /// Counts a step of this kind that evicted so many keys.
     fn add(&mut self, kind: StepKind, evictions: usize)
-        requires room { HasRoom self.old }
-        requires few { evictions ≤ 64 }
         ensures { self.new ≡ with_kind kind (with_evictions evictions self.old) }
     {
-        self.evictions += evictions;
+        self.evictions = self.evictions.saturating_add(evictions);
         match kind {
-            StepKind::Stored => self.stores += 1,
-            StepKind::Hit => self.hits += 1,
-            StepKind::Miss => self.misses += 1,
+            StepKind::Stored => self.stores = self.stores.saturating_add(1),
+            StepKind::Hit => self.hits = self.hits.saturating_add(1),
+            StepKind::Miss => self.misses = self.misses.saturating_add(1),
             StepKind::Other => {}
         }
     }
@@ -119,15 +109,14 @@ fn count_evicted<A: Allocator>(step: &Step<A>, outcome: Outcome, trace: &Record<
 /// Plays a step, once more with fewer buckets where there was no memory.
 ///
 /// Err: a growth was refused, and the store is as it was.
-fn play<A: Allocator + Clone>(
+pub fn play<A: Allocator + Clone>(
     store: &mut Store<A>,
     step: &Step<A>,
 ) -> Result<(Outcome, Record<A>), AllocError>
     requires { Sound store.old }
     ensures state { OnOk result (store.new ≡ next store.old (plain_step step.now)) }
     ensures outcome { IfOk result (λ p. p.0 ≡ outcome_of store.old (plain_step step.now)) }
-    ensures sound { OnOk result (Sound store.new) }
-    ensures few { IfOk result (λ p. length p.1.moves ≤ 64) }
+    ensures sound { Sound store.new }
     ensures told { IfOk result (λ p. removals p.1.moves p.1.notes store.new ≡ step_removals store.old (plain_step step.now)) }
 {
     match apply(store, step) {
@@ -150,11 +139,9 @@ fn count_step<A: Allocator + Clone>(
     step: &Step<A>,
 ) -> Result<(), AllocError>
     requires sound { Sound store.old }
-    requires room { HasRoom counts.old }
     ensures state { OnOk result (store.new ≡ next store.old (plain_step step.now)) }
-    ensures sound { OnOk result (Sound store.new) }
+    ensures sound { Sound store.new }
     ensures counts { OnOk result (counts.new ≡ with_step store.old (plain_step step.now) counts.old) }
-    ensures few { OnOk result (evicted (departures_at 0 store.old (plain_step step.now)) ≤ 64) }
 {
     let (outcome, record) = play(store, step)?;
     counts.add(
@@ -187,165 +174,19 @@ fn is_left_out<A: Allocator>(step: &Step<A>) -> bool
 /// Plays a step, and counts what it did, if it is not left out.
 ///
 /// Err: a growth was refused.
-fn try_step<A: Allocator + Clone>(
+pub fn try_step<A: Allocator + Clone>(
     store: &mut Store<A>,
     counts: &mut Counts,
     step: &Step<A>,
 ) -> Result<(), AllocError>
     requires sound { Sound store.old }
-    requires room { HasRoom counts.old }
     ensures state { OnOk result (store.new ≡ next_tried store.old (plain_step step.now)) }
-    ensures sound { OnOk result (Sound store.new) }
+    ensures sound { Sound store.new }
     ensures counts { OnOk result (counts.new ≡ with_tried store.old (plain_step step.now) counts.old) }
-    ensures few { OnOk result (is_left_out (plain_step step.now) ≡ false → evicted (departures_at 0 store.old (plain_step step.now)) ≤ 64) }
 {
     if is_left_out(step) {
         return Ok(());
     }
     count_step(store, counts, step)?;
     Ok(())
-}
-
-/// Plays the steps in order, but for those that are left out, and counts what they did.
-///
-/// Err: a growth was refused.
-fn count_steps<A: Allocator + Clone>(
-    store: &mut Store<A>,
-    steps: &[&Step<A>],
-) -> Result<Counts, AllocError>
-    requires sound { Sound store.old }
-    requires few { length steps.now < 2 ^ 32 }
-    ensures { IfOk result (λ counts. counts ≡ count_from store.old (map (λ step. plain_step step.now) steps.now) no_counts) }
-{
-    let mut counts = Counts::NONE;
-    for step in steps {
-        try_step(store, &mut counts, step)?;
-    }
-    Ok(counts)
-}
-
-/// The empty store of a configuration, once its shares and factors are set, if they are to be.
-///
-/// Err: a growth was refused.
-fn opened<A: Allocator + Clone>(
-    alloc: A,
-    config: Config,
-    tune: Option<Tune>,
-) -> Result<Store<A>, AllocError>
-    ensures state { IfOk result (λ store. store ≡ tuned tune (empty_state config)) }
-    ensures sound { IfOk result (λ store. Sound store) }
-{
-    let Ok(mut store) = Store::open(alloc, config) else {
-        return Err(AllocError);
-    };
-    match tune {
-        None => Ok(store),
-        Some(tune) => {
-            let _played = play(&mut store, &Step::Tune(tune))?;
-            Ok(store)
-        }
-    }
-}
-
-/// What the steps count on an empty store with the setting, or why no cache has it.
-///
-/// Err: a growth was refused.
-fn outcome_with<A: Allocator + Clone>(
-    alloc: A,
-    config: &Config,
-    setting: Setting,
-    steps: &[&Step<A>],
-) -> Result<Result<Counts, SettingFault>, AllocError>
-    requires { length steps.now < 2 ^ 32 }
-    ensures { IfOk result (λ outcome. outcome ≡ outcome_by config.entry.now (map (λ step. plain_step step.now) steps.now) setting (fault_with config.entry.now setting)) }
-{
-    let (config, tune) = match setting.applied_to(config) {
-        Ok(applied) => applied,
-        Err(fault) => return Ok(Err(fault)),
-    };
-    let mut store = opened(alloc, config, tune)?;
-    let counts = count_steps(&mut store, steps);
-    drop(store);
-    Ok(Ok(counts?))
-}
-
-/// The trial of a setting.
-///
-/// Err: a growth was refused.
-fn try_setting<A: Allocator + Clone>(
-    alloc: A,
-    config: &Config,
-    setting: Setting,
-    steps: &[&Step<A>],
-) -> Result<Trial, AllocError>
-    requires { length steps.now < 2 ^ 32 }
-    ensures { IsTried config.entry.now (map (λ step. plain_step step.now) steps.now) setting result }
-{
-    let outcome = outcome_with(alloc, config, setting, steps)?;
-    Ok(Trial { setting, outcome })
-}
-
-/// The trials of all settings, each on a thread of its own where one can be made.
-///
-/// Err: a growth was refused.
-fn try_each<R: Threads + Sync>(
-    rt: &R,
-    alloc: Global,
-    config: &Config,
-    settings: &[Setting],
-    steps: &[&Step<Global>],
-) -> Result<Vec<Result<Trial, AllocError>>, AllocError>
-    requires { length steps.now < 2 ^ 32 }
-    ensures count { IfOk result (λ results. length results.items ≡ length settings.now) }
-    ensures each { IfOk result (λ results. (i : ℕ) (d : _) (x : _) → i < length settings.now → IsTried config.entry.now (map (λ step. plain_step step.now) steps.now) (slice_index_or settings.now i x) (slice_index_or results.items i d)) }
-{
-    thread::map_indices(
-        rt,
-        alloc,
-        settings.len(),
-        &|i| { try_setting(alloc, config, settings[i], steps) },
-    )
-}
-
-/// The trials, if none lacked memory.
-///
-/// Err: a growth was refused.
-fn all_done(results: &[Result<Trial, AllocError>], alloc: Global) -> Result<Vec<Trial>, AllocError>
-    ensures { IfOk result (λ trials. map Ok trials.items ≡ results.now) }
-{
-    let mut trials = Vec::with_capacity(alloc, results.len())?;
-    for result in results {
-        match result {
-            Ok(trial) => trials.push(*trial)?,
-            Err(_) => return Err(AllocError),
-        }
-    }
-    Ok(trials)
-}
-
-/// A trial of each setting, in their order: the steps on the way from the session's root to its current node are played
-/// on an empty store that has the configuration with this one setting, and counted. What led to the root is not played.
-///
-/// Steps of `~evict` are left out: by them a log says what made way in the cache that was recorded.
-///
-/// A step that names a class by its number names the class of that number in the trial's own table of classes, and is
-/// answered as it is there.
-///
-/// Each trial has a thread of its own, where one can be made, and counts what it would count alone. The session is only
-/// read. A trial holds a store while it runs, whose data are those of the session's steps; it keeps no node and no
-/// record.
-///
-/// Err: a growth was refused.
-pub fn try_settings<R: Threads + Sync>(
-    rt: &R,
-    session: &Session<Global>,
-    config: &Config,
-    settings: &[Setting],
-) -> Result<Vec<Trial>, AllocError>
-    ensures { IfOk result (λ trials. trials.items ≡ map (trial_of config.entry.now (path_steps session.now.rows session.now.current)) settings.now) }
-{
-    let alloc = session.store().alloc()?;
-    let steps = steps(session)?;
-    let results = try_each(rt, alloc, config, settings, steps.as_slice())?;
-    all_done(results.as_slice(), alloc)
 }

@@ -1,10 +1,10 @@
-use Rattle.std.proofs.Common.{◌∷◌, [], refl, sym, ◌∙◌, ap, subst, arith, length, map}
-use Rattle.std.proofs.lemmas.List.{map-append, length-map}
+use Rattle.std.proofs.Common.{◌∷◌, [], refl, sym, ◌∙◌, ap, subst, length, map}
+use Rattle.std.proofs.lemmas.List.{map-append}
 use Rattle.rev_inverse.proofs.Lists.{map-reverse}
 use Rattle.rev_requests.specs.Plain.{plain_step}
 use Rattle.rev_tree.specs.Machine.{lineage}
 use Rattle.rev_explain.proofs.Climbs.{above_root}
-use Rattle.rev_whatif.proofs.Reading.{Reading, read_starts, read_more, read_ends, path_short}
+use Rattle.rev_whatif.proofs.Reading.{Reading, read_starts, read_more, read_ends}
 use Rattle.rev_whatif.proofs.path.steps.Goals as goal
 
 pub nodes-init : goal.nodes-init
@@ -21,15 +21,8 @@ nodes-preserved g c =
     (above_root c.nodes.depth (length (lineage v.rows v.current)) c.in-Some.ensures.none.1) c.in-Some.ensures.some
     (ap (map (λ step. plain_step step.now)) c.in_ok-push.ensures.items ∙ map-append (λ step. plain_step step.now) c.nodes.steps.items (c.in-Some.step ∷ []))
 
-pub returns-clause-steps : goal.returns-clause-steps
-returns-clause-steps g c =
+pub returns : goal.returns
+returns g c =
     read_ends c.args.session.now c.nodes.depth (map (λ step. plain_step step.now) c.nodes.steps.items) (map (λ step. plain_step step.now) c.reverse.new.self.items) c.nodes.invariant
     (c.in_default.ensures.none.0 refl)
     (ap (map (λ step. plain_step step.now)) c.reverse.ensures.items ∙ map-reverse (λ step. plain_step step.now) c.nodes.steps.items)
-
-pub returns-clause-few : goal.returns-clause-few
-returns-clause-few g c =
-    let all = ap length (returns-clause-steps g c) in
-    let same = length-map c.reverse.new.self.items (λ step. plain_step step.now) in
-    let short = path_short c.args.session.now.rows c.args.session.now.current in
-    omega (arith, all, same, short, c.current-current.ensures)

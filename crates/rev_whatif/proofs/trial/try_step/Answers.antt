@@ -1,5 +1,4 @@
 use Rattle.std.proofs.Common.{refl, sym, ◌∙◌}
-use Rattle.std.proofs.lemmas.Bool.{true≢false}
 use Rattle.rev_whatif.proofs.trial.try_step.Goals as goal
 
 pub returns-then-is_left_out-clause-state : goal.returns-then-is_left_out-clause-state
@@ -7,9 +6,6 @@ returns-then-is_left_out-clause-state g c = rw (sym c.is_left_out.ensures ∙ c.
 
 pub returns-then-is_left_out-clause-counts : goal.returns-then-is_left_out-clause-counts
 returns-then-is_left_out-clause-counts g c = rw (sym c.is_left_out.ensures ∙ c.if-is_left_out.true) refl
-
-pub returns-then-is_left_out-clause-few : goal.returns-then-is_left_out-clause-few
-returns-then-is_left_out-clause-few g c = λ f. absurd (true≢false (sym (sym c.is_left_out.ensures ∙ c.if-is_left_out.true) ∙ f))
 
 pub returns-clause-state : goal.returns-clause-state
 returns-clause-state g c = rw (sym c.is_left_out.ensures ∙ c.if-is_left_out.false) c.in_ok-count_step.ensures.state
