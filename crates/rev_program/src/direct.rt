@@ -10,6 +10,7 @@ ghost use Rattle.rev_program.specs.Program.{EndsNoted, EndsPlaced};
 
 use crate::lives::{keep_word, sampling_of};
 use crate::opening::{Full, answer, told_files};
+use crate::parted::{Traced, traced_in_parts};
 use crate::placed::{LedLogs, Opened, Placed, from_begin, placed_on, unled};
 use crate::starts::started;
 use crate::stopping::stop_of_trace;
@@ -250,6 +251,34 @@ fn sampling_for(alloc: Global, asked: &WatchOpening) -> Result<Option<Sampling<G
     }
 }
 
+// The keys that a session on the logs is of, where they are not all.
+fn sampled_keys(alloc: Global, asked: &WatchOpening) -> Result<Option<Sampling<Global>>, Stop> {
+    match asked.leader {
+        Leader::Rules(_) => Ok(None),
+        Leader::Log { .. } => sampling_for(alloc, asked),
+    }
+}
+
+// The session, where what is told of a key says whether it is one of these.
+fn limited(
+    opened: Opened,
+    sampling: Result<Option<Sampling<Global>>, Stop>,
+) -> Result<Opened, Stop> {
+    let Opened { session, log, at } = opened;
+    match sampling {
+        Err(stop) => {
+            // The program ends here, and all memory goes back at once.
+            let _session = ManuallyDrop::new(session);
+            Err(stop)
+        }
+        Ok(sampling) => {
+            let mut log = log;
+            log.limit_to(sampling);
+            Ok(Opened { session, log, at })
+        }
+    }
+}
+
 // The logs that are asked for, which lead, of a server with this setup, and the sample of them.
 fn led<'a>(
     setup: &'a Setup,
@@ -268,16 +297,20 @@ fn led<'a>(
     }
 }
 
-/// The session behind the logs, and the configuration of its store. Where the log leads, the tree is that of a life
-/// from its begin on.
+/// What the logs become. Where the log leads, that is the last life of the server in parts, if it may be; or the life
+/// that is asked for, from its begin on.
 pub(crate) fn with_logs<R: Files + AllocGlobal, C: Clock, W: Sink>(
     rt: &R,
     asked: WatchOpening,
+    in_parts: bool,
     notes: &mut Vec<u8>,
     progress: &Progress<C, W>,
-) -> Result<(Session<Global>, Config), Stop> {
+) -> Result<Traced, Stop> {
     match asked.leader {
-        Leader::Rules(rhythm) => with_rules(rt, asked, rhythm, notes, progress),
+        Leader::Rules(rhythm) => match with_rules(rt, asked, rhythm, notes, progress) {
+            Err(stop) => Err(stop),
+            Ok((session, config)) => Ok(Traced::whole(session, config)),
+        },
         Leader::Log { anyway } => {
             let (setup, coverage) = leading_setup(
                 rt,
@@ -287,15 +320,13 @@ pub(crate) fn with_logs<R: Files + AllocGlobal, C: Clock, W: Sink>(
                 notes,
             )?;
             let sampling = sampling_for(rt.alloc(), &asked)?;
-            match from_begin(
-                rt,
-                &led(&setup, coverage, &sampling, &asked),
-                asked.life,
-                notes,
-                progress,
-            ) {
+            let logs = led(&setup, coverage, &sampling, &asked);
+            if in_parts && asked.life.is_none() {
+                return traced_in_parts(rt, &logs, notes, progress);
+            }
+            match from_begin(rt, &logs, asked.life, notes, progress) {
                 Err(stop) => Err(stop),
-                Ok(Opened { session, .. }) => Ok((session, setup.config)),
+                Ok(Opened { session, .. }) => Ok(Traced::whole(session, setup.config)),
             }
         }
     }
@@ -451,6 +482,7 @@ pub fn open_watch<
     ensures { EndsPlaced (sought_key asked.standing) (E.contents errors.old) (E.contents errors.new) (E.failures errors.old) (E.failures errors.new) result }
 {
     let manner = asked.manner;
+    let sampling = sampled_keys(rt.alloc(), &asked);
     let mut notes = Vec::new(rt.alloc());
     let placed = placed_as(rt, asked, &mut notes, progress);
     progress.end();
@@ -459,7 +491,7 @@ pub fn open_watch<
             tell_bytes(errors, notes.as_slice());
             return 1;
         }
-        Ok(Placed::There(opened)) => Ok(opened),
+        Ok(Placed::There(opened)) => limited(opened, sampling),
         Err(stop) => Err(stop),
     };
     answered(

@@ -6,6 +6,7 @@ pub mod direct;
 mod json;
 pub mod lives;
 pub mod opening;
+mod parted;
 mod placed;
 pub mod program;
 pub mod report;

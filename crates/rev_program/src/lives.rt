@@ -239,6 +239,7 @@ fn tell_lives_of<R: Files + AllocGlobal, I: Read + Drop, O: Write + Drop, C: Clo
         keys,
         key_file,
         last,
+        prefix_end,
     } = asked;
     let alloc = rt.alloc();
     let keys = keys_of(rt, keys.as_slice(), &key_file)?;
@@ -256,6 +257,7 @@ fn tell_lives_of<R: Files + AllocGlobal, I: Read + Drop, O: Write + Drop, C: Clo
         last,
         life: logs.life.map(u64::from),
         json: logs.json,
+        prefix_end,
     };
     let Ok(room) = Room::new(alloc) else {
         return Err(Stop::Memory);

@@ -7,10 +7,12 @@ ghost use Rattle.rev_program.specs.Reporting.{played_fault};
 use crate::agreement::{agreement_of, copies};
 use crate::direct::{kept, with_logs, with_rows};
 use crate::opening::{Full, opened_with_traces};
+use crate::parted::Traced;
 use crate::trials::what_ifs;
 use rev_classes::{ClassTable, Config, ConfigFault, fault_of};
 use rev_comparisons::agreement::Agreement;
 use rev_comparisons::what_if::WhatIf;
+use rev_figures::Sums;
 use rev_import_commands::files::{cannot_write, rename, with_end};
 use rev_intake::report::put_part;
 use rev_intake::words::put_all_options;
@@ -20,7 +22,7 @@ use rev_messages::ends::ended;
 use rev_messages::progress::Progress;
 use rev_options::{Leader, Opening, Played, Reporting};
 use rev_output::Sink;
-use rev_report::figures::{Figures, figures_of};
+use rev_report::figures::{Figures, figures_of, figures_of_parts};
 use rev_report::life::{Life, life_of};
 use rev_report::page::{Curves, Subject, curves_of, put_page};
 use rev_report::rows::{
@@ -105,17 +107,42 @@ fn with_scripts<R: Files + AllocGlobal, C: Clock, W: Sink>(
     }
 }
 
-// The session behind what is played, and the configuration of its store.
-fn session_of<R: Files + AllocGlobal, C: Clock, W: Sink>(
+// A trace that was played in one part.
+fn whole(played: Result<(Session<Global>, Config), Stop>) -> Result<Traced, Stop> {
+    match played {
+        Ok((session, config)) => Ok(Traced::whole(session, config)),
+        Err(stop) => Err(stop),
+    }
+}
+
+// What is played, in parts if it may be.
+fn traced_of<R: Files + AllocGlobal, C: Clock, W: Sink>(
     rt: &R,
     asked: Played,
+    in_parts: bool,
     notes: &mut Vec<u8>,
     progress: &Progress<C, W>,
-) -> Result<(Session<Global>, Config), Stop> {
+) -> Result<Traced, Stop> {
     match asked {
-        Played::Traces(asked) => with_scripts(rt, asked, notes, progress),
-        Played::Logs(asked) => with_logs(rt, asked, notes, progress),
-        Played::Rows(asked) => with_rows(rt, asked, notes, progress),
+        Played::Traces(asked) => whole(with_scripts(rt, asked, notes, progress)),
+        Played::Logs(asked) => with_logs(rt, asked, in_parts, notes, progress),
+        Played::Rows(asked) => whole(with_rows(rt, asked, notes, progress)),
+    }
+}
+
+// The figures of a trace: of the last part, which the session has, and of those in front of it, where there are some.
+fn figures_by(
+    alloc: Global,
+    session: &mut Session<Global>,
+    sums: Option<Sums<Global>>,
+    table: &ClassTable,
+) -> Result<Figures, AllocError> {
+    match sums {
+        None => figures_of(alloc, session, table),
+        Some(mut sums) => {
+            sums.add(session)?;
+            figures_of_parts(alloc, sums, session, table)
+        }
     }
 }
 
@@ -186,7 +213,7 @@ fn lives_of(
 ) -> Result<Vec<Life>, AllocError> {
     let mut lives = Vec::new(alloc);
     for key in keys {
-        lives.push(life_of(alloc, session, &figures.path, key)?)?;
+        lives.push(life_of(alloc, session, &figures.path, figures.before(), key)?)?;
     }
     Ok(lives)
 }
@@ -253,16 +280,15 @@ fn add_data(
 // The page, and the files of its tables and curves where they are asked for.
 fn outputs_of(
     alloc: Global,
-    session: &mut Session<Global>,
-    table: &ClassTable,
+    session: &Session<Global>,
+    figures: &Figures,
     told: &Told,
     out: &str,
     data: &Option<String>,
     keys: &[Key<Global>],
 ) -> Result<Vec<Output>, AllocError> {
-    let figures = figures_of(alloc, session, table)?;
-    let curves = curves_of(alloc, &figures)?;
-    let lives = lives_of(alloc, session, &figures, keys)?;
+    let curves = curves_of(alloc, figures)?;
+    let lives = lives_of(alloc, session, figures, keys)?;
     let options = options_of(alloc, &told.config)?;
     let subject = Subject {
         names: told.names.as_slice(),
@@ -278,7 +304,7 @@ fn outputs_of(
         &mut page.text,
         alloc,
         &subject,
-        &figures,
+        figures,
         &curves,
         lives.as_slice(),
     )?;
@@ -288,7 +314,7 @@ fn outputs_of(
             &mut outputs,
             alloc,
             prefix.as_str(),
-            &figures,
+            figures,
             &curves,
             lives.as_slice(),
             subject.what_ifs,
@@ -353,11 +379,18 @@ fn make_files<R: Files + Threads + Sync + AllocGlobal, C: Clock, W: Sink>(
     let names = copies(alloc, names_of(&played))?;
     let agreement = agreement_with(rt, &played, progress)?;
     let mut notes = Vec::new(alloc);
-    let (session, config) = session_of(rt, played, &mut notes, progress)?;
+    // (what other settings would have done is counted of a session's tree)
+    let in_parts = others.is_empty();
+    let Traced {
+        session,
+        config,
+        sums,
+    } = traced_of(rt, played, in_parts, &mut notes, progress)?;
     // The program ends behind it, and all its memory goes back at once.
     let mut session = ManuallyDrop::new(session);
     let what_ifs = what_ifs(rt, &*session, &config, others.as_slice())?;
     let table = table_of(&config)?;
+    let figures = figures_by(alloc, &mut *session, sums, &table)?;
     let told = Told {
         names,
         config,
@@ -365,15 +398,7 @@ fn make_files<R: Files + Threads + Sync + AllocGlobal, C: Clock, W: Sink>(
         agreement,
         what_ifs,
     };
-    let outputs = outputs_of(
-        alloc,
-        &mut *session,
-        &table,
-        &told,
-        out.as_str(),
-        &data,
-        keys,
-    )?;
+    let outputs = outputs_of(alloc, &*session, &figures, &told, out.as_str(), &data, keys)?;
     put_files(rt, alloc, outputs.as_slice())
 }
 

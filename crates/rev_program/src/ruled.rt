@@ -23,6 +23,7 @@ use rev_messages::progress::{BesideProgress, Progress};
 use rev_options::{AskedRows, AskedTraces, GoneTraces, WhyTraces};
 use rev_output::Sink;
 use rev_output::outbox::{Outbox, Room};
+use rev_pushers::pushed::COLON;
 use rev_replay::fault::ReplayFault;
 use rev_replay::heard::Listener;
 use rev_rules::fault::RulesFault;
@@ -259,6 +260,8 @@ fn tell_lives_of<R: Files + AllocGlobal, I: Read + Drop, O: Write + Drop, C: Clo
         last,
         life: None,
         json: traces.json,
+        // (the rules tell of no prefix)
+        prefix_end: COLON,
     };
     let Ok(room) = Room::new(rt.alloc()) else {
         return Err(Stop::Memory);

@@ -24,7 +24,7 @@ fn asked_of(asked: &TopAsked) -> Asked {
         by: if asked.by_class {
             By::Class
         } else {
-            By::Prefix
+            By::Prefix(asked.prefix_end)
         },
         most: asked.most as usize,
         first: asked.first,

@@ -4,7 +4,7 @@ use rev_classes::Config;
 use rev_comparisons::what_if::{Counts, Trial, Value, Varied, WhatIf};
 use rev_options::WhatIf as Asked;
 use rev_undotree::Session;
-use rev_whatif::{Setting, Trial as Tried, try_settings};
+use rev_whatif::{Setting, Trial as Tried, Trials};
 use std::alloc::{AllocError, Global};
 use std::thread::Threads;
 
@@ -93,6 +93,18 @@ fn trial_of(tried: &Tried) -> Trial {
     }
 }
 
+// The trials of these settings.
+fn tried<R: Threads + Sync + AllocGlobal>(
+    rt: &R,
+    session: &Session<Global>,
+    config: &Config,
+    settings: &[Setting],
+) -> Result<Vec<Tried>, AllocError> {
+    let mut trials = Trials::open(rt.alloc(), config, settings)?;
+    trials.feed(rt, session)?;
+    trials.told(rt.alloc())
+}
+
 // What the trace does with the values that are asked for of one setting.
 fn what_if<R: Threads + Sync + AllocGlobal>(
     rt: &R,
@@ -104,7 +116,7 @@ fn what_if<R: Threads + Sync + AllocGlobal>(
     add_settings(&mut settings, asked)?;
     let mut trials = Vec::new(rt.alloc());
     for settings in settings.chunks(MOST_AT_ONCE) {
-        for tried in &try_settings(rt, session, config, settings)? {
+        for tried in &tried(rt, session, config, settings)? {
             trials.push(trial_of(tried))?;
         }
     }

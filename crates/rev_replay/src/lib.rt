@@ -15,6 +15,7 @@ pub mod keeping;
 mod logs;
 mod moments;
 pub mod notes;
+pub mod parts;
 pub mod run;
 pub mod sampling;
 pub mod seeking;

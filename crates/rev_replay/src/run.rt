@@ -16,7 +16,7 @@ use rev_classes::ClassTable;
 use rev_evidence::heard::step_number;
 use rev_import::setup::Setup;
 use rev_items::Key;
-use rev_lead::{Agreement, Driver, LeadFault, Role, Stage, Tally};
+use rev_lead::{Agreement, Driver, LeadFault, Role, Stage, Tally, Viewer};
 use rev_log::foresight::{Coming, Foresight};
 use rev_log::order::Order;
 use rev_requests::{ActorStep, ClientStep, KeyCommand, Step};
@@ -83,7 +83,8 @@ fn play_setup<A: Allocator + Copy>(stage: &mut Stage<A>, setup: &Setup) -> Resul
     Ok(())
 }
 
-// A key's item goes. A listener has heard of what was played before, and never hears of this step.
+// The item of a key goes that is in no sample. A listener has heard of what was played before, and never hears of this
+// step.
 #[tactic(auto, using(rev_lead::proofs::Leading::led_more, rev_lead::proofs::Leading::led_same))]
 fn delete<A: Allocator + Copy>(
     alloc: A,
@@ -97,8 +98,22 @@ fn delete<A: Allocator + Copy>(
         command: KeyCommand::Delete,
         key: key.copy(alloc)?,
     });
-    let _ = stage.play(step, Role::Actor)?;
+    let _ = stage.play(step, Role::Outside)?;
     Ok(())
+}
+
+// Who listens, as one who looks at the steps that are let go.
+#[derive(Drop)]
+struct Passing<'l, L> {
+    listener: &'l mut L,
+}
+
+impl<A: Allocator, L: Listener<A>> Viewer<A> for Passing<'_, L> {
+    type Fault = ReplayFault;
+
+    fn view(&mut self, session: &mut Session<A>) -> Result<(), ReplayFault> {
+        self.listener.passes(session)
+    }
 }
 
 // An empty cache that is set as the server was.
@@ -236,6 +251,29 @@ impl<'a, A: Allocator + Copy> Replay<'a, A> {
         }
     }
 
+    // Shows the steps that are let go, where the last ones are kept.
+    fn show<L: Listener<A>>(&mut self, listener: &mut L) -> Result<(), ReplayFault>
+        ensures { state_of self.new ≡ state_of self.old }
+    {
+        match self.keeping {
+            Keeping::Last => self.stage.show(&mut Passing { listener }),
+            _ => Ok(()),
+        }
+    }
+
+    // Passes, and shows what is let go.
+    #[tactic(auto, using(crate::proofs::Going::goes_more, crate::proofs::Going::goes_same, crate::proofs::Going::goes_led))]
+    fn pass_on<L: Listener<A>>(&mut self, listener: &mut L) -> Result<(), ReplayFault>
+        ensures { GoesOn false (state_of self.old) (state_of self.new) }
+    {
+        let nodes = self.stage.session().issued();
+        if self.keeping.passes(self.steps, nodes) {
+            self.show(listener)?;
+        }
+        self.pass();
+        Ok(())
+    }
+
     // Whether events are played: those of a life that is asked for, as long as there is room for them.
     fn is_playing(&self) -> bool
         ensures { result ≡ not (is_some (full_of self.entry.now)) && plays (state_of self.entry.now).keeping (life_of self.entry.now) }
@@ -322,8 +360,7 @@ impl<'a, A: Allocator + Copy> Replay<'a, A> {
         }
         self.tell(coming, listener)?;
         self.let_go(&coming.line.event)?;
-        self.pass();
-        Ok(())
+        self.pass_on(listener)
     }
 
     // The item of a storage command goes again that was played for the evictions that waited, and whose key is in no
@@ -419,8 +456,7 @@ impl<'a, A: Allocator + Copy> Replay<'a, A> {
         let played = self.driver.finish(&mut self.stage);
         self.ended(played)?;
         self.tell_end(listener)?;
-        self.pass();
-        Ok(())
+        self.pass_on(listener)
     }
 
     // Plays all that is held back, up to the end of the log or of the server's life.
@@ -461,6 +497,7 @@ impl<'a, A: Allocator + Copy> Replay<'a, A> {
         ensures { GoesOn true (state_of self.old) (state_of self.new) }
     {
         self.drain(listener)?;
+        self.show(listener)?;
         add(&mut self.counts.restarts, 1);
         listener.restarted(at, self.played())?;
         self.ahead.clear();

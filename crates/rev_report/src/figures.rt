@@ -1,12 +1,14 @@
 //! The figures of a session that a report is made of.
 ghost use Rattle.std.specs.Prelude.{◌≡◌, ◌+◌, ◌-◌, ◌^◌, min};
 
-use crate::slots::{Slot, rows_at, slots_of};
-use crate::words::{Clock, cause_numbers};
+use crate::keys::step_of;
+use crate::slots::{Slot, rows_at, slots_in_parts, slots_of};
+use crate::words::{Clock, cause_numbers, second_after};
 use rev_classes::ClassTable;
 use rev_comparisons::what_if::Counts;
 use rev_figures::{
-    CauseCounts, ClassFigures, Path, StepKind, Totals, class_figures, count_all, gather,
+    CauseCounts, ClassFigures, PageMove, Path, StepKind, Sums, Totals, class_figures, count_all,
+    gather,
 };
 use rev_undotree::Session;
 use std::alloc::{AllocError, Global};
@@ -25,7 +27,10 @@ pub struct ClassRow {
 /// What a report tells in numbers.
 #[derive(Drop)]
 pub struct Figures {
+    /// The whole trace, or its last part.
     pub path: Path<Global>,
+    /// What was counted of all parts, where the trace was read in some.
+    pub parts: Option<Sums<Global>>,
     pub totals: Totals,
     /// The class that lost most keys by eviction stands first.
     pub classes: Vec<ClassRow>,
@@ -35,12 +40,56 @@ pub struct Figures {
     pub begin: u32,
 }
 
+// The clock at the end of the slot that a step is in, in seconds, of a trace that was read in parts.
+fn second_in(parts: &Sums<Global>, steps: u64) -> u32 {
+    let slots = parts.slots();
+    let place = slots.partition_point(|slot| (slot.to as u64) < steps);
+    match slots.get(place) {
+        Some(slot) if steps > 0 => slot.second,
+        _ => parts.totals.first_second,
+    }
+}
+
 impl Figures {
     /// The clock along the path.
     pub fn clock(&self) -> Clock<'_> {
-        Clock {
-            path: &self.path,
-            begin: self.begin,
+        Clock { figures: self }
+    }
+
+    /// How many steps stand in front of the path.
+    pub fn before(&self) -> usize {
+        self.totals.steps.saturating_sub(self.path.steps.len())
+    }
+
+    /// The clock behind so many steps, in seconds. In front of the last part it is that at the end of the slot.
+    pub fn second_after(&self, steps: u64) -> u32 {
+        match steps.checked_sub(self.before() as u64) {
+            Some(steps) if steps > 0 => second_after(&self.path, steps),
+            _ => match &self.parts {
+                Some(parts) => second_in(parts, steps),
+                None => self.path.start,
+            },
+        }
+    }
+
+    /// Which step a node of the path is, from 1.
+    pub fn step_of(&self, node: u32) -> u64 {
+        step_of(&self.path, node).saturating_add(self.before() as u64)
+    }
+
+    /// The pages that moved, in order.
+    pub fn moves(&self) -> &[PageMove] {
+        match &self.parts {
+            Some(parts) => parts.moves.as_slice(),
+            None => self.path.moves.as_slice(),
+        }
+    }
+
+    /// How many steps a slot has, but for the last.
+    pub fn slot_length(&self) -> u64 {
+        match self.slots.first() {
+            Some(slot) => slot.to as u64,
+            None => self.path.slot_length as u64,
         }
     }
 }
@@ -106,16 +155,31 @@ fn has_part(figures: &ClassFigures) -> bool {
     figures.stores > 0 || figures.hits > 0 || all_left(&figures.left) > 0
 }
 
-// The rows of all classes that have a part in the trace.
+// The figures of all classes, in parts.
+fn figures_in_parts(
+    alloc: Global,
+    parts: &Sums<Global>,
+    last: u8,
+) -> Result<Vec<ClassFigures>, AllocError> {
+    let mut figures = Vec::new(alloc);
+    for before in 0..last {
+        figures.push(parts.figures(before + 1)?)?;
+    }
+    Ok(figures)
+}
+
+// The rows of all classes that have a part in the trace, of which these are the figures and the last part.
 fn class_rows(
     alloc: Global,
+    all: &[ClassFigures],
     path: &Path<Global>,
     table: &ClassTable,
 ) -> Result<Vec<ClassRow>, AllocError> {
     let mut rows = Vec::new(alloc);
-    let all = class_figures(path, table.last() as u8, &alloc)?;
-    for (place, figures) in all.iter().enumerate() {
-        let class = place + 1;
+    for class in 1..=table.last() {
+        let Some(figures) = all.get(class - 1) else {
+            break;
+        };
         let (pages, bytes) = held_at_end(path, class);
         if pages > 0 || has_part(figures) {
             rows.push(ClassRow {
@@ -138,7 +202,8 @@ pub fn figures_of(
     table: &ClassTable,
 ) -> Result<Figures, AllocError> {
     let path = gather(session)?;
-    let classes = class_rows(alloc, &path, table)?;
+    let all = class_figures(&path, table.last() as u8, &alloc)?;
+    let classes = class_rows(alloc, &all, &path, table)?;
     let slots = slots_of(alloc, &path)?;
     Ok(Figures {
         totals: count_all(&path),
@@ -146,5 +211,27 @@ pub fn figures_of(
         slots,
         begin: begin_of(&path),
         path,
+        parts: None,
+    })
+}
+
+/// The figures of a trace that was read in parts, of which the session has the last one. It stands where it stood.
+pub fn figures_of_parts(
+    alloc: Global,
+    parts: Sums<Global>,
+    session: &mut Session<Global>,
+    table: &ClassTable,
+) -> Result<Figures, AllocError> {
+    let path = gather(session)?;
+    let all = figures_in_parts(alloc, &parts, table.last() as u8)?;
+    let classes = class_rows(alloc, &all, &path, table)?;
+    let slots = slots_in_parts(alloc, &parts)?;
+    Ok(Figures {
+        totals: parts.totals,
+        classes,
+        slots,
+        begin: parts.first_use.unwrap_or(parts.totals.first_second),
+        path,
+        parts: Some(parts),
     })
 }

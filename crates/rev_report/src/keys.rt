@@ -115,7 +115,7 @@ fn put_stays(
     let mut queue = None;
     let mut from = 0u64;
     for event in events {
-        let step = step_of(&figures.path, event.node.0);
+        let step = figures.step_of(event.node.0);
         put_stay(out, plot, queue, from, step)?;
         queue = queue_after(event.kind);
         from = step;
@@ -167,7 +167,7 @@ fn put_marks(
     )?;
     let mut behind = 0u32;
     for event in events {
-        let x = plot.x(step_of(&figures.path, event.node.0));
+        let x = plot.x(figures.step_of(event.node.0));
         if mark_of(event.kind) == Some(mark) && x >= behind {
             put_mark(out, x, mark)?;
             behind = x.saturating_add(NEAR);
@@ -218,7 +218,7 @@ fn put_band(out: &mut Vec<u8>, figures: &Figures, life: &Life) -> Result<(), All
 
 // Puts which step a node is, and the clock behind it.
 fn put_moment(out: &mut Vec<u8>, figures: &Figures, node: u32) -> Result<(), AllocError> {
-    let step = step_of(&figures.path, node);
+    let step = figures.step_of(node);
     put(out, &[Markup("<li>Step "), Count(step)])?;
     put(out, &[Markup(" (node "), Plain(node as u64)])?;
     put(out, &[Markup(", clock ")])?;
@@ -329,12 +329,28 @@ fn put_legend(out: &mut Vec<u8>) -> Result<(), AllocError> {
     put(out, &[Markup("</ul>")])
 }
 
+// Puts from which step on lives are told, where the trace was read in parts.
+fn put_begin(out: &mut Vec<u8>, figures: &Figures) -> Result<(), AllocError> {
+    match figures.before() as u64 {
+        0 => Ok(()),
+        before => put(
+            out,
+            &[
+                Markup("<p class=\"soft\">Told are the steps behind step "),
+                Count(before),
+                Markup(". <code>lrudb why</code> tells all of them.</p>"),
+            ],
+        ),
+    }
+}
+
 /// Puts the lives of keys, a band for each.
 pub fn put_keys(out: &mut Vec<u8>, figures: &Figures, lives: &[Life]) -> Result<(), AllocError> {
     if lives.is_empty() {
         return Ok(());
     }
     put(out, &[Markup("<h2>Lives of keys</h2>")])?;
+    put_begin(out, figures)?;
     put_legend(out)?;
     for life in lives {
         put_life(out, figures, life)?;

@@ -66,6 +66,7 @@ fn asks_of(
     alloc: Global,
     session: &Session<Global>,
     path: &Path<Global>,
+    before: usize,
     key: &Key<Global>,
 ) -> Result<Vec<Ask>, AllocError> {
     let mut asks = Vec::new(alloc);
@@ -73,7 +74,7 @@ fn asks_of(
         if let Some(is_hit) = hit(row.kind) {
             if names(session, row.node, key) {
                 asks.push(Ask {
-                    step: place.saturating_add(1),
+                    step: before.saturating_add(place).saturating_add(1),
                     is_hit,
                 })?;
             }
@@ -103,12 +104,13 @@ fn command_of(
     Ok(command)
 }
 
-/// The life of a key on the way from the root to the current node, of which `path` has the rows: what befell it is what
-/// its story tells.
+/// The life of a key on the way from the root to the current node, of which `path` has the rows, behind so many steps:
+/// what befell it is what its story tells.
 pub fn life_of(
     alloc: Global,
     session: &Session<Global>,
     path: &Path<Global>,
+    before: usize,
     key: &Key<Global>,
 ) -> Result<Life, AllocError>
     ensures events { IfOk result (λ life. life.events.items ≡ story_of session.now.root session.now.rows session.now.current key.now) }
@@ -123,6 +125,6 @@ pub fn life_of(
         key: Vec::from_slice(alloc, key.bytes())?,
         events,
         commands,
-        asks: asks_of(alloc, session, path, key)?,
+        asks: asks_of(alloc, session, path, before, key)?,
     })
 }

@@ -6,7 +6,7 @@ use crate::keys::put_keys;
 use crate::life::Life;
 use crate::plot::Column;
 use crate::queues::{QueueCurve, put_queues, queue_curves};
-use crate::slots::{left_columns, move_columns};
+use crate::slots::{columns_of_left, columns_of_moves};
 use crate::style::{FILLS, STYLE};
 use crate::times::put_times;
 use rev_classes::Config;
@@ -46,8 +46,8 @@ pub struct Curves {
 /// The curves of figures.
 pub fn curves_of(alloc: Global, figures: &Figures) -> Result<Curves, AllocError> {
     Ok(Curves {
-        left: left_columns(alloc, &figures.path, &figures.slots)?,
-        moved: move_columns(alloc, &figures.path, &figures.slots)?,
+        left: columns_of_left(alloc, figures)?,
+        moved: columns_of_moves(alloc, figures)?,
         queues: queue_curves(alloc, figures)?,
     })
 }

@@ -33,7 +33,7 @@ pub fn queue_curves(alloc: Global, figures: &Figures) -> Result<Vec<QueueCurve>,
     let mut curves = Vec::new(alloc);
     for row in figures.classes.iter().take(DRAWN) {
         let class = usize::from(row.figures.class);
-        let columns = queue_columns(alloc, &figures.path, &figures.slots, class)?;
+        let columns = queue_columns(alloc, figures, class)?;
         if highest(&columns) > 0 {
             curves.push(QueueCurve { class, columns })?;
         }
@@ -53,7 +53,7 @@ fn highest_of(curves: &[QueueCurve]) -> u64 {
 // The steps at which a page came to a class.
 fn came(alloc: Global, figures: &Figures, class: usize) -> Result<Vec<u64>, AllocError> {
     let mut steps = Vec::new(alloc);
-    for moved in &figures.path.moves {
+    for moved in figures.moves() {
         if usize::from(moved.to) == class {
             steps.push(moved.step as u64)?;
         }
@@ -64,7 +64,7 @@ fn came(alloc: Global, figures: &Figures, class: usize) -> Result<Vec<u64>, Allo
 // The steps at which a page left a class.
 fn went(alloc: Global, figures: &Figures, class: usize) -> Result<Vec<u64>, AllocError> {
     let mut steps = Vec::new(alloc);
-    for moved in &figures.path.moves {
+    for moved in figures.moves() {
         if usize::from(moved.from) == class {
             steps.push(moved.step as u64)?;
         }

@@ -6,16 +6,15 @@ ghost use Rattle.csv.specs.declared.writer.QuoteStyle.TheVariants as style;
 
 use crate::classes::{CELL_NAMES, cells};
 use crate::figures::{Figures, own_counts};
-use crate::keys::{cause_words, step_of};
+use crate::keys::cause_words;
 use crate::life::Life;
 use crate::page::Curves;
 use crate::plot::Column;
-use crate::words::{CAUSES, QUEUES, second_after};
+use crate::words::{CAUSES, QUEUES};
 use csv::{Writer, WriterBuilder};
 use itoa::Buffer;
 use rev_comparisons::what_if::{Counts, Trial, Value, WhatIf, setting_word};
 use rev_explain::events::EventKind;
-use rev_figures::Path;
 use rev_model::Queue;
 use rev_texts::text::queue_text;
 use std::alloc::Global;
@@ -104,21 +103,21 @@ pub fn write_classes<W: Write + Drop>(writer: W, figures: &Figures) -> Result<()
 // Puts which steps a column is of, and the clock behind them.
 fn put_place<W: Write + Drop>(
     rows: &mut Writer<W>,
-    path: &Path<Global>,
+    figures: &Figures,
     column: &Column,
 ) -> Result<(), RowsFailed> {
     put_number(rows, column.from.saturating_add(1))?;
     put_number(rows, column.to)?;
-    put_number(rows, u64::from(second_after(path, column.to)))
+    put_number(rows, u64::from(figures.second_after(column.to)))
 }
 
 fn put_column<W: Write + Drop>(
     rows: &mut Writer<W>,
-    path: &Path<Global>,
+    figures: &Figures,
     column: &Column,
     series: usize,
 ) -> Result<(), RowsFailed> {
-    put_place(rows, path, column)?;
+    put_place(rows, figures, column)?;
     for value in column.values.iter().take(series) {
         put_number(rows, *value)?;
     }
@@ -128,7 +127,7 @@ fn put_column<W: Write + Drop>(
 // Writes columns, with the names of their numbers.
 fn write_columns<W: Write + Drop>(
     writer: W,
-    path: &Path<Global>,
+    figures: &Figures,
     names: &[&str],
     columns: &[Column],
 ) -> Result<(), RowsFailed> {
@@ -137,7 +136,7 @@ fn write_columns<W: Write + Drop>(
     put_words(&mut rows, names)?;
     end(&mut rows)?;
     for column in columns {
-        put_column(&mut rows, path, column, names.len())?;
+        put_column(&mut rows, figures, column, names.len())?;
     }
     sent(rows)
 }
@@ -148,7 +147,7 @@ pub fn write_left<W: Write + Drop>(
     figures: &Figures,
     curves: &Curves,
 ) -> Result<(), RowsFailed> {
-    write_columns(writer, &figures.path, &CAUSES, &curves.left)
+    write_columns(writer, figures, &CAUSES, &curves.left)
 }
 
 /// Writes the pages that moved.
@@ -157,7 +156,7 @@ pub fn write_moves<W: Write + Drop>(
     figures: &Figures,
     curves: &Curves,
 ) -> Result<(), RowsFailed> {
-    write_columns(writer, &figures.path, &["pages moved"], &curves.moved)
+    write_columns(writer, figures, &["pages moved"], &curves.moved)
 }
 
 /// Writes the bytes of the queues of the worst classes.
@@ -173,7 +172,7 @@ pub fn write_queues<W: Write + Drop>(
     for curve in &curves.queues {
         for column in &curve.columns {
             put_number(&mut rows, curve.class as u64)?;
-            put_column(&mut rows, &figures.path, column, QUEUES.len())?;
+            put_column(&mut rows, figures, column, QUEUES.len())?;
         }
     }
     sent(rows)
@@ -193,18 +192,18 @@ fn put_kind<W: Write + Drop>(rows: &mut Writer<W>, kind: EventKind) -> Result<()
 
 fn put_life<W: Write + Drop>(
     rows: &mut Writer<W>,
-    path: &Path<Global>,
+    figures: &Figures,
     life: &Life,
 ) -> Result<(), RowsFailed> {
     for (event, command) in life.events.iter().zip(&life.commands) {
-        let step = step_of(path, event.node.0);
+        let step = figures.step_of(event.node.0);
         put_word(rows, &life.key)?;
         put_numbers(
             rows,
             &[
                 step,
                 u64::from(event.node.0),
-                u64::from(second_after(path, step)),
+                u64::from(figures.second_after(step)),
             ],
         )?;
         put_kind(rows, event.kind)?;
@@ -215,7 +214,7 @@ fn put_life<W: Write + Drop>(
         put_word(rows, &life.key)?;
         put_number(rows, ask.step as u64)?;
         put_word(rows, b"")?;
-        put_number(rows, u64::from(second_after(path, ask.step as u64)))?;
+        put_number(rows, u64::from(figures.second_after(ask.step as u64)))?;
         put_words(
             rows,
             &["asked", if ask.is_hit { "hit" } else { "miss" }, ""],
@@ -246,7 +245,7 @@ pub fn write_lives<W: Write + Drop>(
     )?;
     end(&mut rows)?;
     for life in lives {
-        put_life(&mut rows, &figures.path, life)?;
+        put_life(&mut rows, figures, life)?;
     }
     sent(rows)
 }

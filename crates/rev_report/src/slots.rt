@@ -4,9 +4,10 @@ ghost use Rattle.rev_figures.specs.Slots.{slot_counts, slot_moves};
 ghost use Rattle.rev_report.specs.Cells.{causes_of};
 ghost use Rattle.rev_report.specs.declared.plot.Column.{Column};
 
+use crate::figures::Figures;
 use crate::plot::Column;
 use crate::words::cause_numbers;
-use rev_figures::{Path, QueueBytes, left_by_slot, moves_by_slot};
+use rev_figures::{Path, QueueBytes, Sums, left_by_slot, moves_by_slot};
 use std::alloc::{AllocError, Global};
 
 /// The most slots of a path.
@@ -33,6 +34,17 @@ pub fn slots_of(alloc: Global, path: &Path<Global>) -> Result<Vec<Slot>, AllocEr
             from,
             to: from.saturating_add(path.slot_length).min(steps),
         })?;
+    }
+    Ok(slots)
+}
+
+/// The slots of a trace that was read in parts.
+pub fn slots_in_parts(alloc: Global, parts: &Sums<Global>) -> Result<Vec<Slot>, AllocError> {
+    let mut slots = Vec::new(alloc);
+    let mut from = 0;
+    for slot in parts.slots() {
+        slots.push(Slot { from, to: slot.to })?;
+        from = slot.to;
     }
     Ok(slots)
 }
@@ -100,8 +112,8 @@ fn bytes_at(rows: &[QueueBytes], class: usize, step: usize) -> [u64; 8] {
     [0, 0, 0, 0, 0, 0, 0, 0]
 }
 
-/// The bytes of a class's queues at the end of each slot.
-pub fn queue_columns(
+// The bytes of a class's queues at the end of each slot of a path.
+fn queue_columns_of(
     alloc: Global,
     path: &Path<Global>,
     slots: &[Slot],
@@ -112,4 +124,72 @@ pub fn queue_columns(
         columns.push(column(*slot, bytes_at(&path.bytes, class, slot.to)))?;
     }
     Ok(columns)
+}
+
+// The same of a trace that was read in parts.
+fn queue_columns_in(
+    alloc: Global,
+    parts: &Sums<Global>,
+    slots: &[Slot],
+    class: usize,
+) -> Result<Vec<Column>, AllocError> {
+    let mut columns = Vec::new(alloc);
+    for (slot, sum) in slots.iter().zip(parts.slots()) {
+        columns.push(column(*slot, bytes_at(&sum.bytes, class, sum.to)))?;
+    }
+    Ok(columns)
+}
+
+/// The bytes of a class's queues at the end of each slot.
+pub fn queue_columns(
+    alloc: Global,
+    figures: &Figures,
+    class: usize,
+) -> Result<Vec<Column>, AllocError> {
+    match &figures.parts {
+        Some(parts) => queue_columns_in(alloc, parts, &figures.slots, class),
+        None => queue_columns_of(alloc, &figures.path, &figures.slots, class),
+    }
+}
+
+// How many keys left in each slot, by cause, of a trace that was read in parts.
+fn left_columns_in(
+    alloc: Global,
+    parts: &Sums<Global>,
+    slots: &[Slot],
+) -> Result<Vec<Column>, AllocError> {
+    let mut columns = Vec::new(alloc);
+    for (slot, sum) in slots.iter().zip(parts.slots()) {
+        columns.push(column(*slot, cause_numbers(&sum.left)))?;
+    }
+    Ok(columns)
+}
+
+// How many pages moved in each slot, of a trace that was read in parts.
+fn move_columns_in(
+    alloc: Global,
+    parts: &Sums<Global>,
+    slots: &[Slot],
+) -> Result<Vec<Column>, AllocError> {
+    let mut columns = Vec::new(alloc);
+    for (slot, sum) in slots.iter().zip(parts.slots()) {
+        columns.push(column(*slot, [sum.moves as u64, 0, 0, 0, 0, 0, 0, 0]))?;
+    }
+    Ok(columns)
+}
+
+/// The keys that left in each slot of a trace, by cause.
+pub fn columns_of_left(alloc: Global, figures: &Figures) -> Result<Vec<Column>, AllocError> {
+    match &figures.parts {
+        Some(parts) => left_columns_in(alloc, parts, &figures.slots),
+        None => left_columns(alloc, &figures.path, &figures.slots),
+    }
+}
+
+/// The pages that moved in each slot of a trace.
+pub fn columns_of_moves(alloc: Global, figures: &Figures) -> Result<Vec<Column>, AllocError> {
+    match &figures.parts {
+        Some(parts) => move_columns_in(alloc, parts, &figures.slots),
+        None => move_columns(alloc, &figures.path, &figures.slots),
+    }
 }

@@ -49,7 +49,7 @@ fn shown(columns: &[Column]) -> [bool; MOST_SERIES] {
 // Puts which part of the trace a column is.
 fn put_part(out: &mut Vec<u8>, figures: &Figures) -> Result<(), AllocError> {
     put(out, &[Markup(" in each part of ")])?;
-    put_counted(out, figures.path.slot_length as u64, "step", "steps")
+    put_counted(out, figures.slot_length(), "step", "steps")
 }
 
 fn put_left(out: &mut Vec<u8>, figures: &Figures, columns: &[Column]) -> Result<(), AllocError> {
@@ -87,7 +87,7 @@ fn put_moves(out: &mut Vec<u8>, figures: &Figures, columns: &[Column]) -> Result
     )?;
     put_part(out, figures)?;
     put(out, &[Markup(": ")])?;
-    put_counted(out, figures.path.moves.len() as u64, "page", "pages")?;
+    put_counted(out, figures.moves().len() as u64, "page", "pages")?;
     put(out, &[Markup(" in all.</figcaption></figure>")])
 }
 

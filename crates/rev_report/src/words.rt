@@ -2,6 +2,7 @@
 ghost use Rattle.std.specs.Prelude.{◌≡◌};
 ghost use Rattle.rev_report.specs.Cells.{causes_of};
 
+use crate::figures::Figures;
 use rev_figures::{CauseCounts, Path};
 use rev_markup::units::put_span;
 use std::alloc::{AllocError, Global};
@@ -56,15 +57,15 @@ pub fn second_after(path: &Path<Global>, steps: u64) -> u32 {
     }
 }
 
-/// The clock along a path, counted from its beginning.
+/// The clock along a trace, counted from its beginning.
 #[derive(Clone, Copy)]
 pub struct Clock<'a> {
-    pub path: &'a Path<Global>,
-    pub begin: u32,
+    pub figures: &'a Figures,
 }
 
 /// Puts how long after the beginning the clock stands behind so many steps.
 pub fn put_clock(out: &mut Vec<u8>, clock: Clock<'_>, steps: u64) -> Result<(), AllocError> {
-    let second = second_after(clock.path, steps).saturating_sub(clock.begin);
+    let figures = clock.figures;
+    let second = figures.second_after(steps).saturating_sub(figures.begin);
     put_span(out, u64::from(second))
 }
