@@ -142,12 +142,12 @@ impl<A: Allocator + Copy> Asked<A> {
 
 impl<A: Allocator + Copy> Lives<A> {
     /// No key is asked for. With `last` only the last life of each is kept. With `asked` only events of this life of
-    /// the server are looked at, from 1.
-    pub fn new(alloc: A, last: bool, asked: Option<u64>) -> Lives<A> {
+    /// the server are looked at, from 1. Prefixes end with this byte.
+    pub fn new(alloc: A, last: bool, asked: Option<u64>, prefix_end: u8) -> Lives<A> {
         Lives {
             alloc,
             keys: Vec::new(alloc),
-            classes: Classes::new(alloc),
+            classes: Classes::new(alloc, prefix_end),
             places: IndexMap::new(alloc),
             concerned: Vec::new(alloc),
             last,

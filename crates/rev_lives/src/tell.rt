@@ -32,6 +32,8 @@ pub struct LivesAsked<A: Allocator> {
     pub life: Option<u64>,
     /// Whether they are told as JSON.
     pub json: bool,
+    /// The byte that ends a prefix.
+    pub prefix_end: u8,
 }
 
 /// How much was told.
@@ -50,7 +52,7 @@ pub fn asked_for<A: Allocator + Copy>(
     alloc: A,
     asked: &LivesAsked<A>,
 ) -> Result<Lives<A>, AllocError> {
-    let mut lives = Lives::new(alloc, asked.last, asked.life);
+    let mut lives = Lives::new(alloc, asked.last, asked.life, asked.prefix_end);
     for key in &asked.keys {
         lives.ask(key)?;
     }

@@ -27,6 +27,10 @@ IsHeap bytes = (4096 ≤ bytes) × (bytes ≤ 1073741824)
 abbrev pub IsLife : Option ℕ → Type 0
 IsLife life = IfSome life (λ n. 1 ≤ n)
 
+-- a byte is a visible character of ASCII
+abbrev pub IsVisible : ℕ → Type 0
+IsVisible b = (33 ≤ b) × (b ≤ 126)
+
 -- so many steps may be kept in front of a place: as many as a tree has nodes
 abbrev pub IsKept : ℕ → Type 0
 IsKept n = (1 ≤ n) × (n ≤ 1048576)
@@ -67,11 +71,11 @@ IsInRange (Open asked) = is_temp_ttl asked.config.temp_ttl ≡ true
 IsInRange (OpenWatch asked) = IsLife asked.life × IfSome asked.standing IsStanding
 IsInRange (OpenCsv asked) = is_temp_ttl asked.config.temp_ttl ≡ true
 IsInRange (Report asked) = IsPlayedInRange asked.played
-IsInRange (Why asked) = AreAsked asked.logs × HasKeys asked.keys asked.key_file
+IsInRange (Why asked) = AreAsked asked.logs × HasKeys asked.keys asked.key_file × IsVisible asked.prefix_end
 IsInRange (Gone asked) = AreAsked asked.logs
 IsInRange (WhyTraces asked) = AreTraces asked.traces × HasKeys asked.keys asked.key_file
 IsInRange (GoneTraces asked) = AreTraces asked.traces
-IsInRange (Top asked) = AreAsked asked.logs
+IsInRange (Top asked) = AreAsked asked.logs × IsVisible asked.prefix_end
 
 -- the first word says `import`
 abbrev pub asks_import : List (List ℕ) → Bool

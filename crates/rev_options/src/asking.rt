@@ -1,6 +1,6 @@
 //! The words of `lrudb why`, `lrudb gone` and `lrudb top`.
 ghost use Rattle.std.specs.Prelude.{◌≡◌, ◌≤◌, Bool, length, map, true, false, IfOk, IfSome};
-ghost use Rattle.rev_options.specs.Request.{IsInRange, IsOfWords, OpensBy, BringsBy, ReportsBy, RunsBy, LivesBy, AreAsked, HasKeys, IsLife, asks_gone, asks_lives, asks_top, asks_why};
+ghost use Rattle.rev_options.specs.Request.{IsInRange, IsOfWords, OpensBy, BringsBy, ReportsBy, RunsBy, LivesBy, AreAsked, HasKeys, IsLife, IsVisible, asks_gone, asks_lives, asks_top, asks_why};
 
 use crate::import::{MOST_LOGS, factor_of, given, required, some_names};
 use crate::ruled::{gone_traces, why_traces};
@@ -44,6 +44,8 @@ pub struct WhyAsked {
     pub key_file: Option<String>,
     /// Whether only the last life of each key is told.
     pub last: bool,
+    /// The byte that ends a key's prefix: a visible character of ASCII.
+    pub prefix_end: u8,
 }
 
 /// Logs that tell which keys left, and of which that is told.
@@ -67,6 +69,8 @@ pub struct TopAsked {
     pub logs: AskedLogs,
     /// Whether it is summed by slab class, and not by prefix.
     pub by_class: bool,
+    /// The byte that ends a key's prefix: a visible character of ASCII.
+    pub prefix_end: u8,
     /// How many prefixes or classes are told one by one.
     pub most: u32,
     /// The first and the last second of the events that are counted, by the Unix clock.
@@ -174,9 +178,36 @@ pub(crate) fn keys_of(
     Ok((keys, key_file))
 }
 
+// The only byte of a text, where it is a visible character of ASCII.
+fn only_character(text: &str) -> Option<u8>
+    ensures { IfSome result IsVisible }
+{
+    match text.as_bytes() {
+        [byte] if b'!' <= *byte && *byte <= b'~' => Some(*byte),
+        _ => None,
+    }
+}
+
+// The byte that the words want to end a key's prefix, or the parser's error.
+fn prefix_end_of(alloc: Global, matches: &ArgMatches<'_>) -> Result<u8, Error>
+    ensures { IfOk result IsVisible }
+{
+    let Some(text) = matches.get_str("prefix") else {
+        return Ok(b':');
+    };
+    match only_character(text) {
+        Some(byte) => Ok(byte),
+        None => Err(fault(
+            alloc,
+            ErrorKind::ValueValidation,
+            "--prefix: one visible character of ASCII is wanted",
+        )),
+    }
+}
+
 // The lives that the words ask for, or the parser's error.
 fn why_of(alloc: Global, matches: &ArgMatches<'_>) -> Result<WhyAsked, Error>
-    ensures { IfOk result (λ asked. AreAsked asked.logs × HasKeys asked.keys asked.key_file) }
+    ensures { IfOk result (λ asked. AreAsked asked.logs × HasKeys asked.keys asked.key_file × IsVisible asked.prefix_end) }
 {
     let (keys, key_file) = keys_of(alloc, matches)?;
     Ok(WhyAsked {
@@ -184,6 +215,7 @@ fn why_of(alloc: Global, matches: &ArgMatches<'_>) -> Result<WhyAsked, Error>
         keys,
         key_file,
         last: matches.get_flag("last"),
+        prefix_end: prefix_end_of(alloc, matches)?,
     })
 }
 
@@ -247,11 +279,12 @@ fn gone_request(alloc: Global, matches: &ArgMatches<'_>) -> Result<Request, Erro
 
 // Where the room goes that the words ask for, or the parser's error.
 fn top_of(alloc: Global, matches: &ArgMatches<'_>) -> Result<TopAsked, Error>
-    ensures { IfOk result (λ asked. AreAsked asked.logs) }
+    ensures { IfOk result (λ asked. AreAsked asked.logs × IsVisible asked.prefix_end) }
 {
     Ok(TopAsked {
         logs: asked_logs(alloc, matches)?,
         by_class: matches.get_str("by") == Some("class"),
+        prefix_end: prefix_end_of(alloc, matches)?,
         most: matches.get_one("most").unwrap_or(MOST_ROWS),
         first: matches.get_one("from").unwrap_or(0),
         last: matches.get_one("to").unwrap_or(u32::MAX),

@@ -74,6 +74,14 @@ const SAMPLE: OptionSpec = OptionSpec {
     ..TEXT
 };
 
+const PREFIX_END: OptionSpec = OptionSpec {
+    name: "prefix",
+    unit: "CHAR",
+    help: "A key's prefix goes up to its first such character",
+    default: Some(&[":"]),
+    ..TEXT
+};
+
 const KEEP_KEY: OptionSpec = OptionSpec {
     name: "keep-key",
     unit: "KEY",
@@ -623,7 +631,7 @@ fn asked() -> &'static [OptionSpec] {
     &ASKED
 }
 
-static WHY: [OptionSpec; 4] = [
+static WHY: [OptionSpec; 5] = [
     OptionSpec {
         name: "key",
         unit: "KEY",
@@ -643,6 +651,10 @@ static WHY: [OptionSpec; 4] = [
         name: "last",
         help: "Tells only the last life of each key",
         ..FLAG
+    },
+    OptionSpec {
+        excludes: Some(&["trace", "csv"]),
+        ..PREFIX_END
     },
     OptionSpec {
         name: "json",
@@ -717,15 +729,16 @@ fn gone() -> CommandSpec {
     }
 }
 
-static TOP: [OptionSpec; 5] = [
+static TOP: [OptionSpec; 6] = [
     OptionSpec {
         name: "by",
         unit: "WORD",
-        help: "What it is summed by: a key's bytes up to its first colon, or the slab class",
+        help: "What it is summed by: a key's prefix, or the slab class",
         values: ValueParser::Names(&["prefix", "class"]),
         default: Some(&["prefix"]),
         ..TEXT
     },
+    PREFIX_END,
     OptionSpec {
         name: "most",
         unit: "N",

@@ -1,6 +1,6 @@
 -- Who pushed a key out: what was stored into its class while it was held.
--- Rule of this project: it is counted by prefix and by connection. A prefix is a key's bytes up to its first `:` and with
--- it; keys without one have an empty prefix.
+-- Rule of this project: it is counted by prefix and by connection. A prefix is a key's bytes up to the first one that ends
+-- a prefix and with it; keys without one have an empty prefix.
 use Rattle.std.specs.Prelude.{ℕ, ◌+◌, ◌-◌, ◌^◌, ◌==◌, nat_lt, min, Bool, cond, List, [], map, take, Option, Some, None}
 use Rattle.std.specs.List.{position}
 use Rattle.rev_pushers.specs.declared.pushed.Amount.{Amount}
@@ -60,10 +60,11 @@ is_above a b = cond (a.items == b.items) (nat_lt b.bytes a.bytes) (nat_lt b.item
 
 -- ---- prefixes
 
--- up to the place of a `:` and with it
+-- up to the place of a byte and with it
 abbrev pub cut_behind : List ℕ → Option ℕ → List ℕ
 cut_behind k None = []
 cut_behind k (Some n) = take (n + 1) k
 
-abbrev pub prefix_of : List ℕ → List ℕ
-prefix_of k = cut_behind k (position (λ b. b == 58) k)
+-- the prefix of a key, where this byte ends it
+abbrev pub prefix_of : ℕ → List ℕ → List ℕ
+prefix_of end k = cut_behind k (position (λ b. b == end) k)

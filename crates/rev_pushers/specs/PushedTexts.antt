@@ -1,7 +1,8 @@
 -- Who pushed a key out, as text for people.
 -- Rule of this project: four short lines: what was stored by prefix and by connection, how long evicted items had lived,
 -- and the pages that came and went. What is not known is left out.
-use Rattle.std.specs.Prelude.{ℕ, ◌==◌, Bool, if◌then◌else◌, cond, List, [], ◌∷◌, ◌++◌, length, Option, Some, None, decimal, codes}
+use Rattle.std.specs.Prelude.{ℕ, ◌==◌, ◌||◌, eqb, Bool, if◌then◌else◌, cond, List, [], ◌∷◌, ◌++◌, length, Option, Some, None, decimal, codes}
+use Rattle.std.specs.List.{ends_with}
 pub use Rattle.rev_pushers.specs.Joins.{joined, behind}
 use Rattle.rev_pushers.specs.Pieces.{connection_text}
 use Rattle.rev_pushers.specs.Pushed.{PlainShare, PlainPushed}
@@ -15,6 +16,10 @@ use Rattle.rev_pushers.specs.declared.pushed.Earlier.{Earlier}
 abbrev pub prefix_name : List ℕ → List ℕ
 prefix_name p = cond (length p == 0) (codes "(no prefix):") p
 
+-- what stands between a prefix and what was stored under it: a colon too, unless there is one
+abbrev pub gap_behind : List ℕ → List ℕ
+gap_behind p = cond ((length p == 0) || ends_with eqb p (codes ":")) (codes " ") (codes ": ")
+
 -- items and bytes
 abbrev pub items_word : ℕ → List ℕ
 items_word n = if n == 1 then codes " item, " else codes " items, "
@@ -27,7 +32,7 @@ amount_text a = joined (decimal a.items ∷ items_word a.items ∷ decimal a.byt
 
 -- what was stored under a prefix, by a connection, and by all others
 abbrev pub prefix_parts : List ℕ → Amount → List (List ℕ)
-prefix_parts p a = joined (prefix_name p ∷ codes " " ∷ []) ∷ amount_text a ∷ joined (codes "; " ∷ []) ∷ []
+prefix_parts p a = joined (prefix_name p ∷ gap_behind p ∷ []) ∷ amount_text a ∷ joined (codes "; " ∷ []) ∷ []
 
 abbrev pub connection_parts : ConnectionShare → List (List ℕ)
 connection_parts s = joined (connection_text s.connection ∷ codes ": " ∷ []) ∷ amount_text s.amount ∷ joined (codes "; " ∷ []) ∷ []

@@ -28,6 +28,8 @@ struct Class<A: Allocator> {
 #[derive(Drop)]
 pub struct Classes<A: Allocator> {
     alloc: A,
+    // the byte that ends a prefix
+    prefix_end: u8,
     classes: Vec<Class<A>, A>,
 }
 
@@ -75,9 +77,9 @@ impl<A: Allocator + Copy> Class<A> {
         }
     }
 
-    // A connection stored an item of so many bytes under a key.
-    fn count(&mut self, key: &Key<A>, connection: i32, size: u32) -> Result<(), AllocError> {
-        self.prefixes.count(prefix_of(key.bytes()), size)?;
+    // A connection stored an item of so many bytes under a key with this prefix.
+    fn count(&mut self, prefix: &[u8], connection: i32, size: u32) -> Result<(), AllocError> {
+        self.prefixes.count(prefix, size)?;
         self.connections.count(&connection.to_be_bytes(), size)
     }
 
@@ -119,10 +121,11 @@ impl<A: Allocator + Copy> Class<A> {
 }
 
 impl<A: Allocator + Copy> Classes<A> {
-    /// Nothing was counted. Memory is taken for the classes at the first event.
-    pub fn new(alloc: A) -> Classes<A> {
+    /// Nothing was counted, and this byte ends a prefix. Memory is taken for the classes at the first event.
+    pub fn new(alloc: A, prefix_end: u8) -> Classes<A> {
         Classes {
             alloc,
+            prefix_end,
             classes: Vec::new(alloc),
         }
     }
@@ -154,7 +157,7 @@ impl<A: Allocator + Copy> Classes<A> {
     ) -> Result<(), AllocError> {
         match self.classes.get_mut(class as usize) {
             Some(class) => {
-                class.count(key, connection, size)?;
+                class.count(prefix_of(key.bytes(), self.prefix_end), connection, size)?;
                 class.ages.stored(key, time, store)
             }
             None => Ok(()),

@@ -5,6 +5,9 @@ ghost use Rattle.rev_pushers.specs.Pushed as rule;
 
 use std::alloc::Allocator;
 
+/// The byte that ends a prefix where no other is asked for.
+pub const COLON: u8 = b':';
+
 /// Items that were stored, and the bytes of their data, as the log says them.
 #[derive(Clone, Copy)]
 pub struct Amount {
@@ -12,8 +15,8 @@ pub struct Amount {
     pub bytes: u64,
 }
 
-/// What was stored under a prefix: a key's bytes up to its first `:` and with it. Keys without a `:` have an empty
-/// prefix.
+/// What was stored under a prefix: a key's bytes up to the first one that ends a prefix and with it. Keys without one
+/// have an empty prefix.
 #[derive(Drop)]
 pub struct PrefixShare<A: Allocator> {
     pub prefix: Vec<u8, A>,
@@ -90,12 +93,12 @@ impl Amount {
     }
 }
 
-// The place of the first `:` in a key.
-fn colon_in(key: &[u8]) -> Option<usize>
-    ensures place { result ≡ position (λ b. b == 58) key.now }
+// The place of the first byte of a key that ends a prefix.
+fn end_in(key: &[u8], end: u8) -> Option<usize>
+    ensures place { result ≡ position (λ b. b == end) key.now }
     ensures within { IfSome result (λ place. place < length key.now) }
 {
-    key.iter().position(|byte| *byte == b':')
+    key.iter().position(|byte| *byte == end)
 }
 
 // The front of a key up to a place and with it, and nothing where there is none.
@@ -109,9 +112,9 @@ fn cut_behind(key: &[u8], place: Option<usize>) -> &[u8]
     }
 }
 
-/// The prefix of a key: its bytes up to its first `:` and with it, and none where it has no `:`.
-pub fn prefix_of(key: &[u8]) -> &[u8]
-    ensures { result.now ≡ rule.prefix_of key.now }
+/// The prefix of a key: its bytes up to the first one that ends a prefix and with it, and none where it has no such byte.
+pub fn prefix_of(key: &[u8], end: u8) -> &[u8]
+    ensures { result.now ≡ rule.prefix_of end key.now }
 {
-    cut_behind(key, colon_in(key))
+    cut_behind(key, end_in(key, end))
 }

@@ -20,6 +20,17 @@ fn prefix_name(prefix: &[u8]) -> &[u8]
     }
 }
 
+// What stands between a prefix and what was stored under it.
+fn gap_behind(prefix: &[u8]) -> &'static str
+    ensures { result.now ≡ rule.gap_behind prefix.now }
+{
+    if prefix.is_empty() || prefix.ends_with(b":") {
+        " "
+    } else {
+        ": "
+    }
+}
+
 fn items_word(items: u64) -> &'static str
     ensures { result.now ≡ rule.items_word items }
 {
@@ -62,7 +73,10 @@ fn put_prefix<A: Allocator + Copy>(
     put(
         alloc,
         out,
-        &[Piece::Key(prefix_name(prefix)), Piece::Text(" ")],
+        &[
+            Piece::Key(prefix_name(prefix)),
+            Piece::Text(gap_behind(prefix)),
+        ],
     )?;
     put_amount(alloc, out, amount)?;
     put(alloc, out, &[Piece::Text("; ")])

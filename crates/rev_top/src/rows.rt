@@ -11,7 +11,7 @@ use std::alloc::{AllocError, Allocator};
 /// What a row is of.
 #[derive(Clone, Copy)]
 pub enum Name<'a> {
-    /// The keys of a prefix; the empty one is of keys without a `:`.
+    /// The keys of a prefix; the empty one is of keys without a byte that ends one.
     Prefix(&'a [u8]),
     /// The keys of a slab class; none is of look-ups of which the log tells no class.
     Class(Option<usize>),

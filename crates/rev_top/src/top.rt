@@ -17,8 +17,8 @@ use std::alloc::{AllocError, Allocator};
 /// By what it is summed.
 #[derive(Clone, Copy, PartialEq, Eq)]
 pub enum By {
-    /// A key's bytes up to its first `:`.
-    Prefix,
+    /// A key's bytes up to the first one that ends a prefix, which is this byte.
+    Prefix(u8),
     /// The slab class.
     Class,
 }
@@ -55,7 +55,7 @@ pub struct Top<'a, A: Allocator> {
 // The name under which an event of a key and a class is counted: a class's number is the name's only byte.
 fn name_of<'a>(key: &'a [u8], class: &'a [u8], by: By) -> &'a [u8] {
     match by {
-        By::Prefix => prefix_of(key),
+        By::Prefix(end) => prefix_of(key, end),
         By::Class => class,
     }
 }
