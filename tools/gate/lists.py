@@ -39,8 +39,9 @@ OF_README = len(CLAIMS)
 CLAIMS += [
     ("A line of JSON for each line", ["rev_json/src/run.rt run_as_json"]),
     ("What a start and a trace leave", ["rev_plays/src/start.rt play_start", "rev_plays/src/trace.rt play_trace"]),
-    ("What a report counts", ["rev_figures/src/walk.rt gather", "rev_figures/src/tables.rt count_all"]),
-    ("What a trial of another setting counts", ["rev_whatif/src/trial.rt try_settings"]),
+    ("What a report counts",
+     ["rev_figures/src/walk.rt gather", "rev_figures/src/tables.rt count_all", "rev_figures/src/sums.rt add"]),
+    ("What a trial of another setting counts", ["rev_whatif/src/course.rt feed", "rev_whatif/src/course.rt told"]),
     ("What is played of an event of a log", ["rev_lead/src/driver.rt take"]),
     ("The script of played steps", ["rev_lines/src/line.rt put_step", "rev_transcript/src/path.rt put_path"]),
     ("What becomes of logs and traces by the rules",

@@ -29,6 +29,7 @@ PRUNED {node}
 MARK {name} {node}
 LEFT {node} {cause}
 LEFT {node} {cause} {evidence} {ts}
+LEFT {node} {cause} {evidence} {after} {before}
 NEVER since {since}
 ERROR {message}
 CLIENT_ERROR {message}
@@ -38,16 +39,21 @@ SERVER_ERROR {message}
 UNNAMED = {
     "NUMBER": ["{number}"],
     "TREE": ["{node} {parent} {step} {outcome}"],
-    "GONE": ["{node} {key} {cause}", "{node} {key} {cause} {evidence} {ts}"],
+    "GONE": [
+        "{node} {key} {cause}",
+        "{node} {key} {cause} {evidence} {ts}",
+        "{node} {key} {cause} {evidence} {after} {before}",
+    ],
     "HELP": ["{text}"],
     "EVENT": [
         "{node} {event} {class} {queue}",
         "{node} {event} {from} {to}",
         "{node} {event} {cause}",
         "{node} {event} {cause} {evidence} {ts}",
+        "{node} {event} {cause} {evidence} {after} {before}",
     ],
 }
-# What stands behind the evidence and the second, and not in the text: the step that pushed a key out, if one did.
+# What stands behind the evidence and the seconds, and not in the text: the step that pushed a key out, if one did.
 CULPRIT = ["key", "connection", "step"]
 FIELD = re.compile(r"{(\w+)}")
 # The commands whose answer is a list, at whose end the text has `END`, and the errors in its place.
