@@ -1,10 +1,11 @@
 -- What is told of an event that was heard.
 -- Rule of this project: all that is told of a key is read off the event and the steps that were played for it.
-use Rattle.std.specs.Prelude.{ℕ, Bool, List, Option, Some, None}
+use Rattle.std.specs.Prelude.{ℕ, Bool, true, List, Option, Some, None}
 use Rattle.std.specs.Option.{option_copied, option_map}
 use Rattle.rev_model.specs.State.{State}
 use Rattle.rev_tree.specs.Rows.{at}
 use Rattle.rev_watch.specs.declared.event.Event.{Event}
+use Rattle.rev_watch.specs.declared.event.Event.TheVariants.{Eviction}
 use Rattle.rev_evidence.specs.Heard.{role_of, step_number, has_flushed, said, connection, names, is_hit, gone_by}
 use Rattle.rev_life.specs.Alive.{is_dead}
 use Rattle.rev_evidence.specs.Blame.{PlainBlamed, blame}
@@ -19,9 +20,11 @@ use Rattle.rev_replay.specs.declared.heard.Heard.{Heard}
 abbrev pub state : {A : Type 0} → Heard A → State
 state h = at h.session.now.root h.session.now.rows h.session.now.current
 
--- what the line says of the loss of its key
+-- what the line says of the loss of its key: of an item that is held and dead no eviction says it, since it waits for the
+-- store that needed its chunk, and takes the item out there
 abbrev pub gone : {A : Type 0} → Option (Event A) → (dead : Bool) → Option Verdict
 gone None dead = None
+gone (Some (Eviction k f t l c s)) true = None
 gone (Some e) dead = gone_by e dead
 
 -- what is told of a key that left at a node, with this cause

@@ -22,7 +22,7 @@ use rev_pushers::stored::Stored;
 use rev_pushers::times::micros;
 use rev_replay::heard::Heard;
 use rev_undotree::NodeId;
-use rev_watch::event::Timestamp;
+use rev_watch::event::{Event as Logged, Timestamp};
 use std::alloc::{AllocError, Allocator};
 
 // The step that pushed a key out, copied.
@@ -278,12 +278,15 @@ fn said_left<A: Allocator>(
     }
 }
 
-// What the line says of the loss of the key that it names, which no look-up of the replay finds.
+// What the line says of the loss of the key that it names, which no look-up of the replay finds. The eviction of an
+// item that is held and dead waits for the store that needed its chunk, and takes the item out there.
 fn gone<A: Allocator + Copy>(heard: &Heard<'_, A>, key: &Key<A>) -> Option<Verdict>
     ensures { result ≡ said_gone (option_copied heard.now.event) (is_dead_key (state heard.now) key.now) }
 {
+    let dead = is_dead(heard.session, key);
     match heard.event {
-        Some(event) => gone_by(event, is_dead(heard.session, key)),
+        Some(Logged::Eviction { .. }) if dead => None,
+        Some(event) => gone_by(event, dead),
         None => None,
     }
 }

@@ -175,7 +175,8 @@ fn follow_asked<A: Allocator + Copy, F: Read + Drop, K: Sink>(
 }
 
 /// Tells the lives of the keys that are asked for, from the logs that the files hold, in their order, of a server with
-/// this setup; of a sample, where there is one. They are written behind the last log. What is told of the logs themselves goes behind `notes`.
+/// this setup; of a sample, where there is one. They are written behind the last log. What is told of the logs
+/// themselves goes behind `notes`.
 ///
 /// Err: the place of a log, from 0 on, and why nothing is told: memory was refused, a read or a write failed, a line
 /// that begins like one of the log is none, a log shows an item that the rules do not cover, or there are more lines
@@ -223,8 +224,8 @@ fn tell_leaving<A: Allocator + Copy, F: Read + Drop, K: Sink>(
 }
 
 /// Tells the keys that left and pass the filter, in the order in which they did, from the logs that the files hold, in
-/// their order, of a server with this setup; of a sample, where there is one. They are written as the logs are read. What
-/// is told of the logs themselves goes behind `notes`.
+/// their order, of a server with this setup; of a sample, where there is one. They are written as the logs are read.
+/// What is told of the logs themselves goes behind `notes`.
 ///
 /// Err: as of `tell_lives`; what was told before is written, or a part of it.
 pub fn tell_gone<A: Allocator + Copy, F: Read + Drop, K: Sink>(
