@@ -110,7 +110,7 @@ pub fn axis_name(setting: Varied) -> &'static str {
         Varied::Factor => "growth factor",
         Varied::Hot => "HOT\u{2019}s share, per cent",
         Varied::Warm => "WARM\u{2019}s share, per cent",
-        Varied::TempTtl => "enters TEMP if it expires within fewer seconds",
+        Varied::TempTtl => "TEMP takes items with fewer seconds to live",
     }
 }
 

@@ -8,3 +8,4 @@ pub mod Tables
 pub mod Classes
 pub mod Slots
 pub mod Sums
+pub mod Prefixes

@@ -1,10 +1,16 @@
-//! Keys that left, and are asked for again in the same part of a trace or in a later one.
+//! Keys that left, and are asked for again in the same part of a trace or in a later one. And what became of the keys of
+//! each prefix, which is counted in the same pass.
 //!
 //! That these counts are those of the whole trace in one part is tested, and in no contract.
+ghost use Rattle.std.specs.Prelude.{IfOk};
+ghost use Rattle.std.specs.List.Sorted.{IsNonDecreasingBy};
+ghost use Rattle.rev_figures.specs.Prefixes.{below_most};
+
 use crate::by_class::{NUMBERS, place_of};
 use crate::gone::add_gone;
 use crate::kinds::command_key;
 use crate::path::{Leaving, Path, PathStep, StepKind};
+use crate::prefixes::{ByPrefix, Happened, Prefixes};
 use crate::tables::is_eviction;
 use crate::waits::Waits;
 use indexmap::IndexMap;
@@ -37,6 +43,7 @@ struct LastLeft {
 }
 
 /// The keys that left and were not stored since, and how often keys of each class were asked for after they had left.
+/// With it what became of the keys of each prefix.
 #[derive(Drop)]
 pub struct Departed<A: Allocator> {
     alloc: A,
@@ -44,6 +51,7 @@ pub struct Departed<A: Allocator> {
     // by a class's number
     counts: Vec<AskedCounts, A>,
     waits: Waits<A>,
+    prefixes: Prefixes<A>,
 }
 
 impl AskedCounts {
@@ -70,22 +78,31 @@ impl<A: Allocator + Copy> Departed<A> {
             keys: IndexMap::new(alloc),
             counts: vec![in alloc; NO_ASKED; NUMBERS]?,
             waits: Waits::new(alloc),
+            prefixes: Prefixes::new(alloc),
         })
     }
 
     // A key left.
     fn leave(&mut self, key: &Key<A>, leaving: &Leaving) -> Result<(), AllocError> {
         let bytes = Vec::from_slice(self.alloc, key.bytes())?;
+        let is_evicted = is_eviction(leaving.cause);
         self.keys.insert(
             bytes,
             LastLeft {
                 class: leaving.class,
                 second: leaving.second,
-                is_evicted: is_eviction(leaving.cause),
+                is_evicted,
                 asks: 0,
             },
         )?;
-        Ok(())
+        self.prefixes.note(
+            key.bytes(),
+            if is_evicted {
+                Happened::Evicted
+            } else {
+                Happened::Left
+            },
+        )
     }
 
     // A look-up missed a key.
@@ -104,6 +121,7 @@ impl<A: Allocator + Copy> Departed<A> {
         }
         if is_first {
             self.waits.add(class, after)?;
+            self.prefixes.note(key.bytes(), Happened::AskedAgain)?;
         }
         Ok(())
     }
@@ -111,12 +129,16 @@ impl<A: Allocator + Copy> Departed<A> {
     // Notes what a step did with its command's key.
     fn note(&mut self, key: &Key<A>, step: &PathStep) -> Result<(), AllocError> {
         match step.kind {
-            StepKind::Miss => self.miss(key, step.second),
+            StepKind::Miss => {
+                self.prefixes.note(key.bytes(), Happened::Missed)?;
+                self.miss(key, step.second)
+            }
             StepKind::Stored => {
                 let _left = self.keys.swap_remove(key.bytes());
-                Ok(())
+                self.prefixes.note(key.bytes(), Happened::Stored)
             }
-            StepKind::Hit | StepKind::Other => Ok(()),
+            StepKind::Hit => self.prefixes.note(key.bytes(), Happened::Hit),
+            StepKind::Other => Ok(()),
         }
     }
 
@@ -160,4 +182,29 @@ impl<A: Allocator + Copy> Departed<A> {
     pub fn asked_after(&self, class: u8) -> Result<Option<u32>, AllocError> {
         self.waits.median(class)
     }
+
+    /// What became of the keys of each prefix.
+    ///
+    /// Err: a growth was refused.
+    pub fn by_prefix(&self) -> Result<ByPrefix<A>, AllocError>
+        ensures { IfOk result (λ told. IsNonDecreasingBy below_most told.rows.items) }
+    {
+        self.prefixes.told()
+    }
+}
+
+/// What became of the keys of each prefix on the way from a session's root to its current node, of which these are the
+/// rows. That the counts are those of all steps is tested, and in no contract.
+///
+/// Err: a growth was refused.
+pub fn by_prefix<A: Allocator + Copy>(
+    session: &Session<A>,
+    path: &Path<A>,
+    alloc: A,
+) -> Result<ByPrefix<A>, AllocError>
+    ensures { IfOk result (λ told. IsNonDecreasingBy below_most told.rows.items) }
+{
+    let mut departed = Departed::new(alloc)?;
+    departed.add(session, path)?;
+    departed.by_prefix()
 }

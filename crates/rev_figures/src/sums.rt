@@ -1,6 +1,8 @@
 //! Figures of a trace that is read in parts, one behind another.
 ghost use Rattle.std.specs.Prelude.{◌≡◌, ◌++◌, ◌<◌, [], ℕ, List, IfOk, OnOk, fold, get_or, length};
+ghost use Rattle.std.specs.List.Sorted.{IsNonDecreasingBy};
 ghost use Rattle.rev_figures.specs.Classes.{plus};
+ghost use Rattle.rev_figures.specs.Prefixes.{below_most};
 ghost use Rattle.rev_figures.specs.Sums.{both_causes, both_totals, totals_of, with_lost, step_at, lost_at, AreCounts, IsCounted};
 ghost use Rattle.rev_figures.specs.Paths.{path_steps, path_leavings};
 ghost use Rattle.rev_figures.specs.declared.path.Leaving.{Leaving};
@@ -11,6 +13,7 @@ use crate::by_class::{NUMBERS, StepCounts, more, place_of, with_cause, with_step
 use crate::classes::ClassFigures;
 use crate::departed::Departed;
 use crate::path::{Leaving, PageMove, Path, PathStep, StepKind};
+use crate::prefixes::ByPrefix;
 use crate::slot_sums::{SlotSum, Slots};
 use crate::tables::{
     CauseCounts, NO_CAUSES, Totals, Which, count_all, is_eviction, is_one, last_second,
@@ -292,6 +295,15 @@ impl<A: Allocator + Copy> Sums<A> {
     /// The slots of the whole trace, the first one first: at most 240, all of the same number of steps but for the last.
     pub fn slots(&self) -> &[SlotSum<A>] {
         self.slots.slots()
+    }
+
+    /// What became of the keys of each prefix. That the counts are those of all parts is tested, and in no contract.
+    ///
+    /// Err: a growth was refused.
+    pub fn by_prefix(&self) -> Result<ByPrefix<A>, AllocError>
+        ensures { IfOk result (λ told. IsNonDecreasingBy below_most told.rows.items) }
+    {
+        self.departed.by_prefix()
     }
 
     /// The figures of a class.

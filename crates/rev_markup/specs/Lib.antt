@@ -1,3 +1,4 @@
+pub mod Calendar
 pub mod Escape
 pub mod Markup
 pub mod Numbers

@@ -1,7 +1,7 @@
 -- How numbers are written.
 -- Rule of this project: groups of three digits with a narrow space between them; tenths behind a point, where there are
 -- any.
-use Rattle.std.specs.Prelude.{ℕ, zero, suc, ◌/◌, ◌%◌, cond, nat_eq, List, [], ◌∷◌, ◌++◌, length, codes, decimal}
+use Rattle.std.specs.Prelude.{ℕ, zero, suc, ◌/◌, ◌%◌, cond, nat_eq, nat_lt, List, [], ◌∷◌, ◌++◌, length, codes, decimal}
 
 -- a narrow space at which no line breaks, U+202F, between two groups
 abbrev pub narrow_space : List ℕ
@@ -24,3 +24,7 @@ grouped n = spaced (decimal n)
 -- so many tenths
 abbrev pub tenths : ℕ → List ℕ
 tenths n = decimal (n / 10) ++ cond (nat_eq (n % 10) 0) [] (codes "." ++ decimal (n % 10))
+
+-- a number with at least two digits
+abbrev pub two : ℕ → List ℕ
+two n = cond (nat_lt n 10) (codes "0") [] ++ decimal n

@@ -2,6 +2,7 @@
 //! lies where on the axis of a picture.
 #![tactic(auto)]
 
+pub mod calendar;
 pub mod charts;
 mod escape;
 pub mod markup;

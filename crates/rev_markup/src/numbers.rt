@@ -1,6 +1,6 @@
 //! How numbers are written.
 ghost use Rattle.std.specs.Prelude.{◌≡◌, ◌++◌, OnOk, decimal};
-ghost use Rattle.rev_markup.specs.Numbers.{gap, spaced, grouped, tenths};
+ghost use Rattle.rev_markup.specs.Numbers.{gap, spaced, grouped, tenths, two};
 
 use itoa::Buffer;
 use std::alloc::AllocError;
@@ -54,4 +54,14 @@ pub fn put_tenths(out: &mut Vec<u8>, n: u32) -> Result<(), AllocError>
     }
     out.extend_from_slice(b".")?;
     put_plain(out, u64::from(n % 10))
+}
+
+/// Puts a number with at least two digits.
+pub fn put_two(out: &mut Vec<u8>, n: u64) -> Result<(), AllocError>
+    ensures { OnOk result (out.new.items ≡ out.old.items ++ two n) }
+{
+    if n < 10 {
+        out.extend_from_slice(b"0")?;
+    }
+    put_plain(out, n)
 }

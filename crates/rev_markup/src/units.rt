@@ -2,6 +2,7 @@
 
 use crate::markup::Piece::{Count, Markup, Plain, Tenths};
 use crate::markup::put;
+use crate::numbers::put_two;
 use std::alloc::AllocError;
 
 /// Puts a number, and what it counts.
@@ -48,15 +49,6 @@ pub fn put_bytes(out: &mut Vec<u8>, bytes: u64) -> Result<(), AllocError> {
         out,
         &[Tenths(tenths.min(u64::from(u32::MAX)) as u32), Markup(name)],
     )
-}
-
-// Puts a number of two digits.
-fn put_two(out: &mut Vec<u8>, n: u64) -> Result<(), AllocError> {
-    if n < 10 {
-        put(out, &[Markup("0"), Plain(n)])
-    } else {
-        put(out, &[Plain(n)])
-    }
 }
 
 // Puts a number of three digits.

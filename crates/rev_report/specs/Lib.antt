@@ -1,1 +1,3 @@
 pub mod Cells
+pub mod Evidence
+pub mod Prefixes

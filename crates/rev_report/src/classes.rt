@@ -99,13 +99,18 @@ fn is_left_out(rows: &[ClassRow], place: usize) -> bool {
     place > 5 && place < 13 && largest(rows, place) == 0
 }
 
+/// Puts the name of a column.
+pub fn put_column_name(out: &mut Vec<u8>, name: &'static str) -> Result<(), AllocError> {
+    put(
+        out,
+        &[Markup("<th scope=\"col\">"), Markup(name), Markup("</th>")],
+    )
+}
+
 fn put_names(out: &mut Vec<u8>, rows: &[ClassRow]) -> Result<(), AllocError> {
     for (place, name) in CELL_NAMES.iter().enumerate() {
         if !is_left_out(rows, place) {
-            put(
-                out,
-                &[Markup("<th scope=\"col\">"), Markup(*name), Markup("</th>")],
-            )?;
+            put_column_name(out, *name)?;
         }
     }
     Ok(())
@@ -139,7 +144,8 @@ fn put_figure(out: &mut Vec<u8>, figure: Option<u64>) -> Result<(), AllocError>
     }
 }
 
-fn put_cell(
+/// Puts a cell of a named column: a figure, and a bar for its share of the largest one in the column.
+pub fn put_cell(
     out: &mut Vec<u8>,
     name: &'static str,
     value: Option<u64>,

@@ -7,11 +7,20 @@ use crate::words::{Clock, cause_numbers, second_after};
 use rev_classes::ClassTable;
 use rev_comparisons::what_if::Counts;
 use rev_figures::{
-    CauseCounts, ClassFigures, PageMove, Path, StepKind, Sums, Totals, class_figures, count_all,
-    gather,
+    ByPrefix, CauseCounts, ClassFigures, PageMove, Path, StepKind, Sums, Totals, by_prefix,
+    class_figures, count_all, gather,
 };
 use rev_undotree::Session;
 use std::alloc::{AllocError, Global};
+
+/// What the clock of a trace counts.
+#[derive(Clone, Copy, Debug, PartialEq, Eq)]
+pub enum ClockKind {
+    /// The seconds of the Unix clock, as a server's log has them: a moment is told as its time of day, in UTC.
+    Unix,
+    /// Seconds of the trace's own: a moment is told as the time since the beginning.
+    FromBegin,
+}
 
 /// A class that stored a key, lost one, or owns pages at the end.
 #[derive(Clone, Copy)]
@@ -34,10 +43,14 @@ pub struct Figures {
     pub totals: Totals,
     /// The class that lost most keys by eviction stands first.
     pub classes: Vec<ClassRow>,
+    /// The prefix that lost most keys by eviction stands first.
+    pub prefixes: ByPrefix<Global>,
     /// The parts of the trace, one behind another.
     pub slots: Vec<Slot>,
     /// The clock at the first step that stores or looks up, in seconds.
     pub begin: u32,
+    /// What the clock counts.
+    pub clock_kind: ClockKind,
 }
 
 // The clock at the end of the slot that a step is in, in seconds, of a trace that was read in parts.
@@ -200,16 +213,22 @@ pub fn figures_of(
     alloc: Global,
     session: &mut Session<Global>,
     table: &ClassTable,
-) -> Result<Figures, AllocError> {
+    clock_kind: ClockKind,
+) -> Result<Figures, AllocError>
+    ensures { session.new ≡ session.old }
+{
     let path = gather(session)?;
+    let prefixes = by_prefix(&*session, &path, alloc)?;
     let all = class_figures(&path, table.last() as u8, &alloc)?;
     let classes = class_rows(alloc, &all, &path, table)?;
     let slots = slots_of(alloc, &path)?;
     Ok(Figures {
         totals: count_all(&path),
         classes,
+        prefixes,
         slots,
         begin: begin_of(&path),
+        clock_kind,
         path,
         parts: None,
     })
@@ -221,16 +240,22 @@ pub fn figures_of_parts(
     parts: Sums<Global>,
     session: &mut Session<Global>,
     table: &ClassTable,
-) -> Result<Figures, AllocError> {
+    clock_kind: ClockKind,
+) -> Result<Figures, AllocError>
+    ensures { session.new ≡ session.old }
+{
     let path = gather(session)?;
+    let prefixes = parts.by_prefix()?;
     let all = figures_in_parts(alloc, &parts, table.last() as u8)?;
     let classes = class_rows(alloc, &all, &path, table)?;
     let slots = slots_in_parts(alloc, &parts)?;
     Ok(Figures {
         totals: parts.totals,
         classes,
+        prefixes,
         slots,
         begin: parts.first_use.unwrap_or(parts.totals.first_second),
+        clock_kind,
         path,
         parts: Some(parts),
     })

@@ -1,8 +1,9 @@
 //! What a report tells first: which cache, which trace, and how it went.
-use crate::figures::{Figures, all_left};
+use crate::figures::{ClockKind, Figures, all_left};
 use crate::page::Subject;
 use rev_classes::Config;
 use rev_comparisons::agreement::put_agreement;
+use rev_markup::calendar::put_moment;
 use rev_markup::charts::put_fact;
 use rev_markup::markup::Piece::{Count, Markup};
 use rev_markup::markup::{outside, put};
@@ -43,12 +44,29 @@ fn put_share(
     put(out, &[Markup("</dd></div>")])
 }
 
-// Puts how far the clock goes.
-fn put_clock_fact(out: &mut Vec<u8>, figures: &Figures) -> Result<(), AllocError> {
+// Puts a moment of the Unix clock.
+fn put_moment_fact(out: &mut Vec<u8>, name: &'static str, second: u32) -> Result<(), AllocError> {
+    put(
+        out,
+        &[Markup("<div><dt>"), Markup(name), Markup("</dt><dd>")],
+    )?;
+    put_moment(out, second)?;
+    put(out, &[Markup("</dd></div>")])
+}
+
+// Puts how far the clock goes, and its first and last moment where these are known.
+fn put_clock_facts(out: &mut Vec<u8>, figures: &Figures) -> Result<(), AllocError> {
     let (first, last) = (figures.begin, figures.totals.last_second);
     put(out, &[Markup("<div><dt>Clock</dt><dd>")])?;
     put_time(out, u64::from(last.saturating_sub(first)))?;
-    put(out, &[Markup("</dd></div>")])
+    put(out, &[Markup("</dd></div>")])?;
+    match figures.clock_kind {
+        ClockKind::Unix => {
+            put_moment_fact(out, "First moment", first)?;
+            put_moment_fact(out, "Last moment", last.max(first))
+        }
+        ClockKind::FromBegin => Ok(()),
+    }
 }
 
 fn put_pages(out: &mut Vec<u8>, config: &Config) -> Result<(), AllocError> {
@@ -78,7 +96,7 @@ fn put_facts(out: &mut Vec<u8>, config: &Config, figures: &Figures) -> Result<()
     let of_hits = share.thousandths();
     put(out, &[Markup("<dl>")])?;
     put_fact(out, "Steps", &[Count(totals.steps as u64)])?;
-    put_clock_fact(out, figures)?;
+    put_clock_facts(out, figures)?;
     put_share(out, "Hits", hits, share.whole, of_hits)?;
     put_share(out, "Misses", misses, share.whole, 1000 - of_hits)?;
     put_fact(out, "Stores", &[Count(totals.stores as u64)])?;
@@ -95,19 +113,43 @@ fn put_note(out: &mut Vec<u8>, line: &[u8]) -> Result<(), AllocError> {
     put(out, &[Markup("<li>"), outside(line), Markup("</li>")])
 }
 
-// Puts what was guessed or left out, a line each.
-fn put_notes(out: &mut Vec<u8>, notes: &[u8]) -> Result<(), AllocError> {
-    if notes.is_empty() {
-        return Ok(());
-    }
-    put(out, &[Markup("<h3>What was guessed or left out</h3><ul>")])?;
-    for line in notes.split(|byte| *byte == b'\n') {
+// Puts lines as a list.
+fn put_lines(out: &mut Vec<u8>, lines: &[u8]) -> Result<(), AllocError> {
+    put(out, &[Markup("<ul>")])?;
+    for line in lines.split(|byte| *byte == b'\n') {
         put_note(out, line)?;
     }
     put(out, &[Markup("</ul>")])
 }
 
-/// Puts the trace's steps and clock, hits and misses, how far the replay agrees with its log, the cache's options, and
+// Puts what was guessed or left out, a line each.
+fn put_notes(out: &mut Vec<u8>, notes: &[u8]) -> Result<(), AllocError> {
+    if notes.is_empty() {
+        return Ok(());
+    }
+    put(
+        out,
+        &[Markup("<h3>What was read, guessed or left out</h3>")],
+    )?;
+    put_lines(out, notes)
+}
+
+// Puts a box with what the figures do not cover, a line each.
+fn put_uncovered(out: &mut Vec<u8>, uncovered: &[u8]) -> Result<(), AllocError> {
+    if uncovered.is_empty() {
+        return Ok(());
+    }
+    put(
+        out,
+        &[Markup(
+            "<div class=\"uncovered\" role=\"note\"><h3>What these figures do not cover</h3>",
+        )],
+    )?;
+    put_lines(out, uncovered)?;
+    put(out, &[Markup("</div>")])
+}
+
+/// Puts what the figures do not cover, the trace's steps and clock, hits and misses, how far the replay agrees with its log, the cache's options, and
 /// what was guessed or left out.
 pub fn put_header(
     out: &mut Vec<u8>,
@@ -122,6 +164,7 @@ pub fn put_header(
     )?;
     put_names(out, subject.names)?;
     put(out, &[Markup("</p>")])?;
+    put_uncovered(out, subject.uncovered)?;
     put_facts(out, subject.config, figures)?;
     if let Some(agreement) = &subject.agreement {
         put_agreement(out, agreement)?;

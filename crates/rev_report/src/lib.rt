@@ -3,12 +3,14 @@
 #![tactic(auto)]
 
 mod classes;
+pub mod evidence;
 pub mod figures;
 mod header;
 mod keys;
 pub mod life;
 pub mod page;
 mod plot;
+pub mod prefixes;
 mod queues;
 pub mod rows;
 pub mod slots;

@@ -5,16 +5,19 @@ ghost use Rattle.csv.specs.Writing.{writer_setup, fields_written, text_written, 
 ghost use Rattle.csv.specs.declared.writer.QuoteStyle.TheVariants as style;
 
 use crate::classes::{CELL_NAMES, cells};
+use crate::evidence::{EVIDENCE_NAMES, LeftBy, left_in_all};
 use crate::figures::{Figures, own_counts};
 use crate::keys::cause_words;
 use crate::life::Life;
 use crate::page::Curves;
 use crate::plot::Column;
+use crate::prefixes::{self, has_any, total_of};
 use crate::words::{CAUSES, QUEUES};
 use csv::{Writer, WriterBuilder};
 use itoa::Buffer;
 use rev_comparisons::what_if::{Counts, Trial, Value, WhatIf, setting_word};
 use rev_explain::events::EventKind;
+use rev_figures::PrefixCounts;
 use rev_model::Queue;
 use rev_texts::text::queue_text;
 use std::alloc::Global;
@@ -97,6 +100,69 @@ pub fn write_classes<W: Write + Drop>(writer: W, figures: &Figures) -> Result<()
         put_number(&mut rows, u64::from(row.figures.class))?;
         put_cells(&mut rows, &cells(row))?;
     }
+    sent(rows)
+}
+
+// Puts a row of the table by prefix.
+fn put_prefix<W: Write + Drop>(
+    rows: &mut Writer<W>,
+    prefix: &[u8],
+    counts: &PrefixCounts,
+) -> Result<(), RowsFailed> {
+    put_word(rows, prefix)?;
+    put_numbers(rows, &prefixes::cells(counts))?;
+    end(rows)
+}
+
+/// Writes the table by prefix: all that are told apart, the others in one row, and the total. A prefix ends with a
+/// colon, or is empty, so none is one of the two words.
+pub fn write_prefixes<W: Write + Drop>(writer: W, figures: &Figures) -> Result<(), RowsFailed> {
+    let prefixes = &figures.prefixes;
+    let mut rows = WriterBuilder::new().from_writer(writer);
+    put_words(&mut rows, &["prefix"])?;
+    put_words(&mut rows, &prefixes::CELL_NAMES)?;
+    end(&mut rows)?;
+    for row in &prefixes.rows {
+        put_prefix(&mut rows, &row.prefix, &row.counts)?;
+    }
+    if has_any(&prefixes.others) {
+        put_prefix(&mut rows, b"others", &prefixes.others)?;
+    }
+    let total = total_of(&figures.totals, prefixes);
+    put_prefix(&mut rows, b"total", &total)?;
+    sent(rows)
+}
+
+// Puts a row of what tells of the keys that left.
+fn put_evidence<W: Write + Drop>(
+    rows: &mut Writer<W>,
+    cause: &str,
+    numbers: &[u64; 3],
+) -> Result<(), RowsFailed> {
+    put_word(rows, cause.as_bytes())?;
+    put_numbers(rows, numbers)?;
+    end(rows)
+}
+
+/// Writes what tells of the keys that left, by cause, and the total.
+pub fn write_evidence<W: Write + Drop>(writer: W, evidence: &[LeftBy]) -> Result<(), RowsFailed> {
+    let mut rows = WriterBuilder::new().from_writer(writer);
+    put_words(&mut rows, &["cause"])?;
+    put_words(&mut rows, &EVIDENCE_NAMES)?;
+    end(&mut rows)?;
+    for left in evidence {
+        put_evidence(
+            &mut rows,
+            left.cause,
+            &[left.logged, left.replayed, left.inferred],
+        )?;
+    }
+    let all = left_in_all(evidence);
+    put_evidence(
+        &mut rows,
+        "total",
+        &[all.logged, all.replayed, all.inferred],
+    )?;
     sent(rows)
 }
 

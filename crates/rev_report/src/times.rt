@@ -1,7 +1,7 @@
 //! What happened over time: keys that left, and pages that moved.
 use crate::figures::{Figures, all_left, clock_of};
 use crate::plot::{Column, MOST_SERIES, Plot, has_series, highest};
-use crate::words::{CAUSE_FILLS, CAUSES};
+use crate::words::{CAUSE_FILLS, CAUSES, clock_words};
 use rev_markup::charts::put_fills;
 use rev_markup::markup::Piece::Markup;
 use rev_markup::markup::put;
@@ -100,9 +100,13 @@ pub fn put_times(
 ) -> Result<(), AllocError> {
     put(
         out,
-        &[Markup(
-            "<h2>Over time</h2><p class=\"soft\">Below each picture stand the steps of the trace, and below them the clock since its beginning in minutes and seconds.</p><div class=\"pair\">",
-        )],
+        &[
+            Markup(
+                "<h2>Over time</h2><p class=\"soft\">Below each picture stand the steps of the trace, and below them ",
+            ),
+            Markup(clock_words(figures.clock_kind)),
+            Markup(".</p><div class=\"pair\">"),
+        ],
     )?;
     put_left(out, figures, left)?;
     put_moves(out, figures, moved)?;

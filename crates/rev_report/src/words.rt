@@ -2,8 +2,9 @@
 ghost use Rattle.std.specs.Prelude.{◌≡◌};
 ghost use Rattle.rev_report.specs.Cells.{causes_of};
 
-use crate::figures::Figures;
+use crate::figures::{ClockKind, Figures};
 use rev_figures::{CauseCounts, Path};
+use rev_markup::calendar::put_time_of_day;
 use rev_markup::units::put_span;
 use std::alloc::{AllocError, Global};
 
@@ -57,15 +58,26 @@ pub fn second_after(path: &Path<Global>, steps: u64) -> u32 {
     }
 }
 
-/// The clock along a trace, counted from its beginning.
+/// The clock along a trace.
 #[derive(Clone, Copy)]
 pub struct Clock<'a> {
     pub figures: &'a Figures,
 }
 
-/// Puts how long after the beginning the clock stands behind so many steps.
+/// Puts what the clock shows behind so many steps.
 pub fn put_clock(out: &mut Vec<u8>, clock: Clock<'_>, steps: u64) -> Result<(), AllocError> {
     let figures = clock.figures;
-    let second = figures.second_after(steps).saturating_sub(figures.begin);
-    put_span(out, u64::from(second))
+    let second = figures.second_after(steps).max(figures.begin);
+    match figures.clock_kind {
+        ClockKind::Unix => put_time_of_day(out, second),
+        ClockKind::FromBegin => put_span(out, u64::from(second.saturating_sub(figures.begin))),
+    }
+}
+
+/// What is told of the clocks below pictures.
+pub fn clock_words(kind: ClockKind) -> &'static str {
+    match kind {
+        ClockKind::Unix => "the time of day in UTC",
+        ClockKind::FromBegin => "the clock since its beginning in minutes and seconds",
+    }
 }

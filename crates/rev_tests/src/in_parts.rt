@@ -3,7 +3,10 @@ use crate::classes::SMALL_PAGES;
 use crate::owned::session_over;
 use crate::storing::store_of;
 use rev_classes::Config;
-use rev_figures::{CauseCounts, ClassFigures, PageMove, SlotSum, Sums, class_figures, gather};
+use rev_figures::{
+    ByPrefix, CauseCounts, ClassFigures, PageMove, PrefixCounts, SlotSum, Sums, by_prefix,
+    class_figures, gather,
+};
 use rev_inverse::Store;
 use rev_items::Key;
 use rev_model::Queue;
@@ -27,10 +30,18 @@ fn chance(place: usize, below: usize) -> usize {
     turned % below.max(1)
 }
 
+// A key of one of three prefixes, or of none.
 fn key_at<R: Abort>(rt: &R, alloc: Global, place: usize) -> Key<Global> {
     let mut name = Vec::new(alloc);
-    name.push(b'k').expect(rt, "no memory");
     let letter = u8::try_from(chance(place, 26)).unwrap_or(0);
+    let front = match letter % 4 {
+        0 => "a:",
+        1 => "k:",
+        2 => "k:a:",
+        _ => "k",
+    };
+    name.extend_from_slice(front.as_bytes())
+        .expect(rt, "no memory");
     name.push(b'a'.wrapping_add(letter)).expect(rt, "no memory");
     Key::new(alloc, name.as_slice()).expect(rt, "no key")
 }
@@ -187,6 +198,68 @@ fn same_sums<R: Abort>(rt: &R, one: &Sums<Global>, other: &Sums<Global>) {
     }
 }
 
+fn counts_of(counts: &PrefixCounts) -> [u64; 6] {
+    [
+        counts.stores,
+        counts.hits,
+        counts.misses,
+        counts.evicted,
+        counts.left,
+        counts.asked,
+    ]
+}
+
+fn same_prefixes<R: Abort>(rt: &R, one: &ByPrefix<Global>, other: &ByPrefix<Global>) {
+    assert!(rt; one.rows.len() == other.rows.len(), "other prefixes");
+    for (a, b) in one.rows.iter().zip(other.rows.iter()) {
+        assert!(rt;
+            a.prefix.as_slice() == b.prefix.as_slice(),
+            "another prefix"
+        );
+        assert!(rt;
+            counts_of(&a.counts) == counts_of(&b.counts),
+            "other counts"
+        );
+    }
+    assert!(rt; counts_of(&one.others) == counts_of(&other.others));
+}
+
+// The prefixes together have the counts of all steps.
+fn all_prefixes<R: Abort>(rt: &R, sums: &Sums<Global>, prefixes: &ByPrefix<Global>) {
+    let mut all = prefixes.others;
+    for row in prefixes.rows.iter() {
+        all = all.plus(row.counts);
+    }
+    let totals = sums.totals;
+    let mut gone = 0usize;
+    for count in &causes_of(&totals.left) {
+        gone = gone.saturating_add(*count);
+    }
+    assert!(rt; all.stores == totals.stores as u64 && all.hits == totals.hits as u64);
+    assert!(rt; all.misses == totals.misses as u64);
+    assert!(rt;
+        all.evicted.saturating_add(all.left) == gone as u64,
+        "keys that left"
+    );
+}
+
+// What became of the keys of each prefix is in parts what it is in the whole session.
+fn same_by_prefix<R: Abort>(
+    rt: &R,
+    alloc: Global,
+    session: &mut Session<Global>,
+    one: &Sums<Global>,
+    other: &Sums<Global>,
+) {
+    let path = gather(session).expect(rt, "no memory");
+    let whole = by_prefix(&*session, &path, alloc).expect(rt, "no memory");
+    let first = one.by_prefix().expect(rt, "no memory");
+    let second = other.by_prefix().expect(rt, "no memory");
+    same_prefixes(rt, &whole, &first);
+    same_prefixes(rt, &whole, &second);
+    all_prefixes(rt, one, &whole);
+}
+
 // The figures of each class of a trace in parts are those of the whole session.
 fn same_classes<R: Abort>(
     rt: &R,
@@ -237,6 +310,7 @@ fn parts_are_the_whole(rt: HostRuntime) {
         same_sums(&rt, &one, &other);
         same_classes(&rt, alloc, &mut whole, &one);
         same_classes(&rt, alloc, &mut whole, &other);
+        same_by_prefix(&rt, alloc, &mut whole, &one, &other);
         if *steps > 2000 {
             tells_all(&rt, &one);
         }
