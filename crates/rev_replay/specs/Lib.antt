@@ -2,6 +2,7 @@ pub mod Coverage
 pub mod Faults
 pub mod Moments
 pub mod Notes
+pub mod Parts
 pub mod Replayed
 pub mod Sampling
 pub mod Seeking

@@ -43,6 +43,26 @@ seen (Step step) is_found before time m = cond (not is_found && nat_le step (ste
 seen (Second second) is_found before time m = cond (nat_le time.seconds second) (Some (step_number before (length m.rows))) None
 seen (Gone key) is_found before time m = left_last before key None (departures m.root m.rows m.current)
 
+-- who looks for a place: the life of the server that is heard, how many steps stand in front of that, and what was found
+pub record SeekerState : Type 0 where
+  pub sought : PlainSought
+  pub life : ℕ
+  pub begin : ℕ
+  pub found : Option Spot
+
+-- nothing was heard
+abbrev pub at_first : PlainSought → SeekerState
+at_first sought = record { sought = sought; life = 1; begin = 0; found = None }
+
+-- a place behind so many steps in that life, where one is seen; else what was found before
+abbrev pub found_at : SeekerState → Option ℕ → Option Spot
+found_at s None = s.found
+found_at s (Some step) = Some (record { step = step; life = s.life; begin = s.begin })
+
+-- that was looked at: a session with so many steps in front of it, behind an event of this time
+abbrev pub looked : SeekerState → (before : ℕ) → Timestamp → SessionState → SeekerState
+looked s before time m = record s { found = found_at s (seen s.sought (is_some s.found) before time m) }
+
 -- a place in front of all events, where none was found
 abbrev pub or_first : Option Spot → Option Spot
 or_first None = Some (record { step = 0; life = 1; begin = 0 })

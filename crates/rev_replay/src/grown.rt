@@ -79,8 +79,8 @@ impl<A: Allocator + Copy> Grown<A> {
             && spot.step.saturating_sub(u64::from(keep)) <= spot.begin
     }
 
-    /// Goes to the node behind so many steps, over all lives of the server: to the root where that is behind them, and to
-    /// the last node where it is in front of them.
+    /// Goes to the node behind so many steps, over all lives of the server: to the root where that is behind them, and
+    /// to the last node where it is in front of them.
     pub fn go_behind(&mut self, step: u64)
         ensures session { self.new.session ≡ rule.stood self.old.session (rule.node_behind self.old.before (length self.old.session.rows) step) }
         ensures notes { self.new.notes ≡ self.old.notes }
@@ -203,9 +203,9 @@ fn told<A: Allocator + Copy>(
 /// configuration, and each other one with an empty cache. What is told of the logs goes behind `notes`.
 ///
 /// Err: the place of a log, from 0 on, and why nothing was made of it: memory was refused, a read failed, a line that
-/// begins like one of the log is none, a log shows an item that the rules do not cover, or there are more lines than can
-/// be counted. Or no log has an event, or the life that is asked for is not there, and then the place is 0, as it is
-/// where it was the end that failed.
+/// begins like one of the log is none, a log shows an item that the rules do not cover, or there are more lines than
+/// can be counted. Or no log has an event, or the life that is asked for is not there, and then the place is 0, as it
+/// is where it was the end that failed.
 #[tactic(auto, using(crate::proofs::Going::grows_of))]
 pub fn grow<A: Allocator + Copy, F: Read + Drop>(
     alloc: A,

@@ -1,6 +1,4 @@
 //! What a listener hears: an event of the log, and the steps that were played for it.
-ghost use Rattle.std.specs.Prelude.{◌≡◌};
-
 use crate::fault::ReplayFault;
 use rev_lead::Role;
 use rev_undotree::Session;
@@ -33,11 +31,4 @@ pub trait Listener<A: Allocator> {
     /// The server was started anew, behind all events that were heard and before a line of this time; so many steps
     /// were played so far.
     fn restarted(&mut self, at: Timestamp, steps: u64) -> Result<(), ReplayFault>;
-
-    /// Where the last steps are kept, those on the way from the session's root to its current node are let go.
-    fn passes(&mut self, session: &mut Session<A>) -> Result<(), ReplayFault>
-        ensures { session.new ≡ session.old }
-    {
-        Ok(())
-    }
 }

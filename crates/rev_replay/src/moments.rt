@@ -47,15 +47,19 @@ pub(crate) struct Noting<A: Allocator> {
     since: Option<Timestamp>,
     // the time of the last event, if there is one
     now: Option<Timestamp>,
-    // the number of the server's life, how the one ended that was played last, if it was played to its end, and when the
-    // next one began, where nothing of that was heard
+    // the number of the server's life, how the one ended that was played last, if it was played to its end, and when
+    // the next one began, where nothing of that was heard
     life: u64,
     ending: Option<Ending<A>>,
     restart: Option<Timestamp>,
 }
 
-// What an event says, for which steps of these roles were played.
-fn moment_of<A: Allocator>(event: Option<&Event<A>>, time: Timestamp, roles: &[Role]) -> Moment
+/// What an event says, for which steps of these roles were played.
+pub(crate) fn moment_of<A: Allocator>(
+    event: Option<&Event<A>>,
+    time: Timestamp,
+    roles: &[Role],
+) -> Moment
     ensures { result ≡ rule.moment_of (option_copied event.entry) time roles.now }
 {
     Moment {

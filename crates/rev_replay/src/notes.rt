@@ -57,8 +57,11 @@ fn put_read<A: Allocator>(out: &mut Vec<u8, A>, counts: &LineCounts) -> Result<(
     put_line(out, b"read: ", &kinds)
 }
 
+/// Writes which lines were left out, and nothing where none was.
+///
+/// Err: memory was refused.
 #[tactic(auto, unfolding(crate::specs::Notes::left_out_kinds))]
-fn put_left_out<A: Allocator>(
+pub(crate) fn put_left_out<A: Allocator>(
     out: &mut Vec<u8, A>,
     counts: &LineCounts,
     late: u64,

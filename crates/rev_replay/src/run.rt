@@ -38,6 +38,10 @@ pub struct Replay<'a, A: Allocator> {
     alloc: A,
     setup: &'a Setup,
     keeping: Keeping,
+    // whether nothing more is played where the tree may have no room for it, until the steps are let go by a call
+    in_parts: bool,
+    // the line behind which a part was full, where it was not taken in: before it the server was started anew
+    held: Option<LogLine<A>>,
     // the first and the last second of the events that are asked for
     first: u32,
     last: u32,
@@ -102,18 +106,13 @@ fn delete<A: Allocator + Copy>(
     Ok(())
 }
 
-// Who listens, as one who looks at the steps that are let go.
-#[derive(Drop)]
-struct Passing<'l, L> {
-    listener: &'l mut L,
-}
-
-impl<A: Allocator, L: Listener<A>> Viewer<A> for Passing<'_, L> {
-    type Fault = ReplayFault;
-
-    fn view(&mut self, session: &mut Session<A>) -> Result<(), ReplayFault> {
-        self.listener.passes(session)
-    }
+/// How far a log was read.
+#[derive(Clone, Copy, Debug, PartialEq, Eq)]
+pub(crate) enum Reading {
+    /// To its end.
+    Ended,
+    /// Up to a line behind which a part of the steps is full that is waited for.
+    PartFull,
 }
 
 // An empty cache that is set as the server was.
@@ -162,6 +161,8 @@ impl<'a, A: Allocator + Copy> Replay<'a, A> {
             alloc,
             setup,
             keeping,
+            in_parts: false,
+            held: None,
             first: 0,
             last: u32::MAX,
             order: Order::new(alloc),
@@ -251,27 +252,22 @@ impl<'a, A: Allocator + Copy> Replay<'a, A> {
         }
     }
 
-    // Shows the steps that are let go, where the last ones are kept.
-    fn show<L: Listener<A>>(&mut self, listener: &mut L) -> Result<(), ReplayFault>
-        ensures { state_of self.new ≡ state_of self.old }
+    // The same behind an event, where the steps are not let go by a call.
+    #[tactic(auto, using(crate::proofs::Going::goes_more, crate::proofs::Going::goes_same, crate::proofs::Going::goes_led))]
+    fn pass_on(&mut self)
+        ensures { GoesOn false (state_of self.old) (state_of self.new) }
     {
-        match self.keeping {
-            Keeping::Last => self.stage.show(&mut Passing { listener }),
-            _ => Ok(()),
+        if !self.in_parts {
+            self.pass();
         }
     }
 
-    // Passes, and shows what is let go.
-    #[tactic(auto, using(crate::proofs::Going::goes_more, crate::proofs::Going::goes_same, crate::proofs::Going::goes_led))]
-    fn pass_on<L: Listener<A>>(&mut self, listener: &mut L) -> Result<(), ReplayFault>
-        ensures { GoesOn false (state_of self.old) (state_of self.new) }
-    {
-        let nodes = self.stage.session().issued();
-        if self.keeping.passes(self.steps, nodes) {
-            self.show(listener)?;
-        }
-        self.pass();
-        Ok(())
+    // Whether nothing more is played until the steps are let go.
+    fn is_held(&self) -> bool {
+        self.in_parts
+            && self
+                .keeping
+                .passes(self.steps, self.stage.session().issued())
     }
 
     // Whether events are played: those of a life that is asked for, as long as there is room for them.
@@ -360,7 +356,8 @@ impl<'a, A: Allocator + Copy> Replay<'a, A> {
         }
         self.tell(coming, listener)?;
         self.let_go(&coming.line.event)?;
-        self.pass_on(listener)
+        self.pass_on();
+        Ok(())
     }
 
     // The item of a storage command goes again that was played for the evictions that waited, and whose key is in no
@@ -378,7 +375,7 @@ impl<'a, A: Allocator + Copy> Replay<'a, A> {
         }
     }
 
-    // Plays the events that wait, until at most so many do.
+    // Plays the events that wait, until at most so many do, or nothing more is played.
     #[tactic(auto, using(crate::proofs::Going::goes_more, crate::proofs::Going::goes_same, crate::proofs::Going::goes_led))]
     fn play_until<L: Listener<A>>(
         &mut self,
@@ -388,6 +385,9 @@ impl<'a, A: Allocator + Copy> Replay<'a, A> {
         ensures { GoesOn false (state_of self.old) (state_of self.new) }
     {
         for _ in most..self.ahead.len() {
+            if self.is_held() {
+                break;
+            }
             match self.ahead.pop() {
                 Some(coming) => {
                     if self.is_playing() {
@@ -400,8 +400,8 @@ impl<'a, A: Allocator + Copy> Replay<'a, A> {
         Ok(())
     }
 
-    // Whether an event is played: each one, or in a sample what is of its keys or is needed for them. What is left out is
-    // counted.
+    // Whether an event is played: each one, or in a sample what is of its keys or is needed for them. What is left out
+    // is counted.
     fn is_asked(&mut self, event: &Event<A>) -> bool
         ensures taken { result ≡ is_asked (sampling_of self.old) (sieve_of self.old) event.now }
         ensures behind { sieve_of self.new ≡ asked_behind (sampling_of self.old) (sieve_of self.old) event.now }
@@ -434,12 +434,15 @@ impl<'a, A: Allocator + Copy> Replay<'a, A> {
         self.play_until(MOST_AHEAD, listener)
     }
 
-    // Gives out the events that the order holds back.
+    // Gives out the events that the order holds back, until nothing more is played.
     #[tactic(auto, using(crate::proofs::Going::goes_more, crate::proofs::Going::goes_same, crate::proofs::Going::goes_led))]
     fn empty_order<L: Listener<A>>(&mut self, listener: &mut L) -> Result<(), ReplayFault>
         ensures { GoesOn false (state_of self.old) (state_of self.new) }
     {
         for _ in 0..=MOST_HELD {
+            if self.is_held() {
+                break;
+            }
             match self.order.pop() {
                 Some(line) => self.push(line, listener)?,
                 None => break,
@@ -456,20 +459,39 @@ impl<'a, A: Allocator + Copy> Replay<'a, A> {
         let played = self.driver.finish(&mut self.stage);
         self.ended(played)?;
         self.tell_end(listener)?;
-        self.pass_on(listener)
+        self.pass_on();
+        Ok(())
     }
 
-    // Plays all that is held back, up to the end of the log or of the server's life.
+    // Plays the events that are held back, up to the end of the log or of the server's life, or until nothing more is
+    // played.
     #[tactic(auto, using(crate::proofs::Going::goes_more, crate::proofs::Going::goes_same, crate::proofs::Going::goes_led))]
-    fn drain<L: Listener<A>>(&mut self, listener: &mut L) -> Result<(), ReplayFault>
+    fn play_waiting<L: Listener<A>>(&mut self, listener: &mut L) -> Result<(), ReplayFault>
         ensures { GoesOn false (state_of self.old) (state_of self.new) }
     {
+        self.play_until(MOST_AHEAD, listener)?;
         self.empty_order(listener)?;
-        self.play_until(0, listener)?;
+        // (events that the order still holds come behind those that wait)
+        if self.is_held() {
+            return Ok(());
+        }
+        self.play_until(0, listener)
+    }
+
+    // Plays all that is held back, up to the end of the log or of the server's life. The answer is whether all of it is
+    // played: what is left is played by the next call.
+    #[tactic(auto, using(crate::proofs::Going::goes_more, crate::proofs::Going::goes_same, crate::proofs::Going::goes_led))]
+    fn drain<L: Listener<A>>(&mut self, listener: &mut L) -> Result<bool, ReplayFault>
+        ensures { GoesOn false (state_of self.old) (state_of self.new) }
+    {
+        self.play_waiting(listener)?;
+        if self.is_held() {
+            return Ok(false);
+        }
         if self.is_playing() {
             self.end_life(listener)?;
         }
-        Ok(())
+        Ok(true)
     }
 
     // An empty cache stands in the place of the server, which was started anew, if this life of it is played.
@@ -487,7 +509,7 @@ impl<'a, A: Allocator + Copy> Replay<'a, A> {
         Ok(())
     }
 
-    // The server was started anew before a line of this time.
+    // The server was started anew before a line of this time, and all in front of that is played.
     #[tactic(auto, using(crate::proofs::Going::goes_more, crate::proofs::Going::goes_same, crate::proofs::Going::goes_always))]
     fn begin_life<L: Listener<A>>(
         &mut self,
@@ -496,8 +518,6 @@ impl<'a, A: Allocator + Copy> Replay<'a, A> {
     ) -> Result<(), ReplayFault>
         ensures { GoesOn true (state_of self.old) (state_of self.new) }
     {
-        self.drain(listener)?;
-        self.show(listener)?;
         add(&mut self.counts.restarts, 1);
         listener.restarted(at, self.played())?;
         self.ahead.clear();
@@ -508,27 +528,35 @@ impl<'a, A: Allocator + Copy> Replay<'a, A> {
         self.reopen()
     }
 
-    // Begins another life of the server, where a line shows that it was started anew.
+    // Begins another life of the server, where a line shows that it was started anew. The answer is whether the line
+    // can be taken in: before it, all that is held back has to be played.
     #[tactic(auto, using(crate::proofs::Going::goes_more, crate::proofs::Going::goes_same, crate::proofs::Going::goes_always))]
     fn see_restart<L: Listener<A>>(
         &mut self,
         line: &LogLine<A>,
         listener: &mut L,
-    ) -> Result<(), ReplayFault>
+    ) -> Result<bool, ReplayFault>
         ensures { GoesOn true (state_of self.old) (state_of self.new) }
     {
-        if self.order.is_restart(line) {
-            self.begin_life(line.time, listener)?;
+        if !self.order.is_restart(line) {
+            return Ok(true);
         }
-        Ok(())
+        if !self.drain(listener)? {
+            return Ok(false);
+        }
+        self.begin_life(line.time, listener)?;
+        Ok(true)
     }
 
-    // Takes in an event.
+    // Takes in an event, or holds it until a part of the steps is let go.
     #[tactic(auto, using(crate::proofs::Going::goes_more, crate::proofs::Going::goes_same, crate::proofs::Going::goes_always))]
     fn put<L: Listener<A>>(&mut self, line: LogLine<A>, listener: &mut L) -> Result<(), ReplayFault>
         ensures { GoesOn true (state_of self.old) (state_of self.new) }
     {
-        self.see_restart(&line, listener)?;
+        if !self.see_restart(&line, listener)? {
+            self.held = Some(line);
+            return Ok(());
+        }
         self.ends.note(line.gid);
         match self.order.put(line)? {
             Some(line) => self.push(line, listener),
@@ -544,8 +572,8 @@ impl<'a, A: Allocator + Copy> Replay<'a, A> {
         self.last = last;
     }
 
-    /// Of the logs to come, only what is of this sample's keys is played, and what these need; everything where there is
-    /// no sample.
+    /// Of the logs to come, only what is of this sample's keys is played, and what these need; everything where there
+    /// is no sample.
     pub fn limit_to_sample(&mut self, sampling: Option<&'a Sampling<A>>)
         ensures sampling { sampling_of self.new ≡ option_copied sampling.entry }
         ensures same { state_of self.new ≡ state_of self.old }
@@ -593,6 +621,47 @@ impl<'a, A: Allocator + Copy> Replay<'a, A> {
         }
     }
 
+    // Goes on behind a part that was full: with the line that was held, or with the events that wait.
+    #[tactic(auto, using(crate::proofs::Going::goes_more, crate::proofs::Going::goes_same, crate::proofs::Going::goes_always))]
+    fn go_on<L: Listener<A>>(&mut self, listener: &mut L) -> Result<(), ReplayFault>
+        ensures { GoesOn true (state_of self.old) (state_of self.new) }
+    {
+        match self.held.take() {
+            Some(line) => self.put(line, listener),
+            None => self.play_until(MOST_AHEAD, listener),
+        }
+    }
+
+    /// Takes in the lines of a log, behind those of the logs before it, up to its end or to where a part of the steps
+    /// is full. Behind that the next call goes on, once the steps are let go.
+    ///
+    /// Err: as of `take_log`.
+    #[tactic(auto, using(crate::proofs::Going::goes_more, crate::proofs::Going::goes_same, crate::proofs::Going::goes_always))]
+    pub(crate) fn read<S: Source, L: Listener<A>>(
+        &mut self,
+        log: &mut LogReader<S>,
+        listener: &mut L,
+    ) -> Result<Reading, ReplayFault>
+        ensures { GoesOn true (state_of self.old) (state_of self.new) }
+    {
+        self.go_on(listener)?;
+        for _ in 0..u64::MAX {
+            if self.is_held() {
+                return Ok(Reading::PartFull);
+            }
+            match log.next(self.alloc)? {
+                None => return self.end_log(),
+                Some(NextLine::CutOff) => {
+                    add(&mut self.counts.lines, 1);
+                    add(&mut self.counts.cut_off, 1);
+                    return self.end_log();
+                }
+                Some(NextLine::Whole(line)) => self.take_line(line, listener)?,
+            }
+        }
+        Err(ReplayFault::TooLong)
+    }
+
     /// Takes in the lines of a log, behind those of the logs before it.
     ///
     /// Where a tree that is kept has no room for what follows, nothing more of that life of the server is played.
@@ -608,37 +677,26 @@ impl<'a, A: Allocator + Copy> Replay<'a, A> {
         ensures { GoesOn true (state_of self.old) (state_of self.new) }
     {
         for _ in 0..u64::MAX {
-            match log.next(self.alloc)? {
-                None => return self.end_log(),
-                Some(NextLine::CutOff) => {
-                    add(&mut self.counts.lines, 1);
-                    add(&mut self.counts.cut_off, 1);
-                    return self.end_log();
-                }
-                Some(NextLine::Whole(line)) => self.take_line(line, listener)?,
+            match self.read(log, listener)? {
+                Reading::Ended => return Ok(()),
+                Reading::PartFull => self.pass(),
             }
         }
         Err(ReplayFault::TooLong)
     }
 
     // A log was read to its end.
-    fn end_log(&mut self) -> Result<(), ReplayFault>
+    fn end_log(&mut self) -> Result<Reading, ReplayFault>
         ensures { state_of self.new ≡ state_of self.old }
     {
         match self.ends.end_log() {
-            Ok(()) => Ok(()),
+            Ok(()) => Ok(Reading::Ended),
             Err(refused) => Err(ReplayFault::from(refused)),
         }
     }
 
-    /// Plays what waits, behind the last log.
-    ///
-    /// Err: no log had an event; the life that is asked for is not there; memory was refused; or who listens gave up.
-    #[tactic(auto, using(crate::proofs::Going::goes_more, crate::proofs::Going::goes_same, crate::proofs::Going::goes_led))]
-    pub fn finish<L: Listener<A>>(&mut self, listener: &mut L) -> Result<(), ReplayFault>
-        ensures { GoesOn false (state_of self.old) (state_of self.new) }
-    {
-        self.drain(listener)?;
+    // Whether the logs had an event, and the life that is asked for.
+    fn check_end(&self) -> Result<(), ReplayFault> {
         if self.counts.events == 0 {
             return Err(ReplayFault::NoEvent);
         }
@@ -648,6 +706,62 @@ impl<'a, A: Allocator + Copy> Replay<'a, A> {
             }
             _ => Ok(()),
         }
+    }
+
+    /// Plays what waits, behind the last log, up to where a part of the steps is full. Behind that the next call goes
+    /// on, once the steps are let go.
+    ///
+    /// Err: as of `finish`.
+    #[tactic(auto, using(crate::proofs::Going::goes_more, crate::proofs::Going::goes_same, crate::proofs::Going::goes_led))]
+    pub(crate) fn read_end<L: Listener<A>>(
+        &mut self,
+        listener: &mut L,
+    ) -> Result<Reading, ReplayFault>
+        ensures { GoesOn false (state_of self.old) (state_of self.new) }
+    {
+        if !self.drain(listener)? {
+            return Ok(Reading::PartFull);
+        }
+        self.check_end()?;
+        Ok(Reading::Ended)
+    }
+
+    /// Plays what waits, behind the last log.
+    ///
+    /// Err: no log had an event; the life that is asked for is not there; memory was refused; or who listens gave up.
+    #[tactic(auto, using(crate::proofs::Going::goes_more, crate::proofs::Going::goes_same, crate::proofs::Going::goes_led))]
+    pub fn finish<L: Listener<A>>(&mut self, listener: &mut L) -> Result<(), ReplayFault>
+        ensures { GoesOn false (state_of self.old) (state_of self.new) }
+    {
+        for _ in 0..u64::MAX {
+            match self.read_end(listener)? {
+                Reading::Ended => return Ok(()),
+                Reading::PartFull => self.pass(),
+            }
+        }
+        Err(ReplayFault::TooLong)
+    }
+
+    /// From now on nothing more is played where the tree may have no room for it, until `let_part_go` is called.
+    pub(crate) fn hold_parts(&mut self)
+        ensures { state_of self.new ≡ state_of self.old }
+    {
+        self.in_parts = true;
+    }
+
+    /// Lets the steps of a part go.
+    #[tactic(auto, using(crate::proofs::Going::goes_more, crate::proofs::Going::goes_same, crate::proofs::Going::goes_led))]
+    pub(crate) fn let_part_go(&mut self)
+        ensures { GoesOn false (state_of self.old) (state_of self.new) }
+    {
+        self.pass();
+    }
+
+    /// Shows the session with the steps that are kept.
+    pub(crate) fn show<V: Viewer<A>>(&mut self, viewer: &mut V) -> Result<(), V::Fault>
+        ensures { state_of self.new ≡ state_of self.old }
+    {
+        self.stage.show(viewer)
     }
 
     /// What became of the lines so far.

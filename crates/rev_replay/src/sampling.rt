@@ -1,7 +1,7 @@
 //! A sample of a server's keys: which events of its logs are replayed.
 //!
-//! A server of any size is replayed so. The pages of a sample stay whole, and there are plenty of them, so that the rules
-//! by themselves evict nothing, and each eviction comes from the log.
+//! A server of any size is replayed so. The pages of a sample stay whole, and there are plenty of them, so that the
+//! rules by themselves evict nothing, and each eviction comes from the log.
 ghost use Rattle.std.specs.Prelude.{◌≡◌};
 ghost use Rattle.std.specs.Option.{option_copied};
 ghost use Rattle.rev_replay.specs.Sampling as rule;
@@ -21,8 +21,8 @@ const MOST_PAGES: u64 = 2048;
 /// At most one key of so many is taken, where that is not asked for (this project's own figure).
 const FEWEST: u32 = 1 << 31;
 
-/// What is known of each class in front of an event: whether an eviction of a key of the sample waits for its store, and
-/// how many pages moved from the class since one was played.
+/// What is known of each class in front of an event: whether an eviction of a key of the sample waits for its store,
+/// and how many pages moved from the class since one was played.
 #[derive(Clone, Copy)]
 pub struct Sieve {
     pub waits: [bool; 64],

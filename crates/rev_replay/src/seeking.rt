@@ -1,5 +1,5 @@
 //! Who listens to a replay, and finds a place in its logs.
-ghost use Rattle.std.specs.Prelude.{◌≡◌, None, IfOk};
+ghost use Rattle.std.specs.Prelude.{◌≡◌, None, IfOk, OnOk};
 ghost use Rattle.rev_replay.specs.Seeking as rule;
 
 use crate::fault::ReplayFault;
@@ -10,9 +10,10 @@ use rev_evidence::keys::is_key;
 use rev_explain::departures;
 use rev_explain::events::Departure;
 use rev_items::Key;
-use rev_undotree::NodeId;
+use rev_undotree::{NodeId, Session};
 use rev_watch::event::Timestamp;
 use std::alloc::{AllocError, Allocator};
+use std::marker::Model;
 
 /// What is looked for in logs: a place between two steps, which are counted over all lives of the server.
 #[derive(Drop)]
@@ -54,12 +55,20 @@ pub struct Spot {
 
 /// A place that is looked for.
 #[derive(Drop)]
-pub(crate) struct Seeker<'a, A: Allocator> {
+pub struct Seeker<'a, A: Allocator> {
     sought: &'a Sought<A>,
     // the life of the server that is heard, and how many steps stand in front of it
     life: u64,
     begin: u64,
     found: Option<Spot>,
+}
+
+impl<'a, A: Allocator> Model for Seeker<'a, A> {
+    ghost use Rattle.rev_replay.specs.Seeking.{SeekerState, plain_sought};
+
+    ghost Value = { SeekerState };
+
+    ghost view = { λ s. record { sought = plain_sought s.sought.now; life = s.life; begin = s.begin; found = s.found } };
 }
 
 // The number of the last of these steps at which the key left, behind so many steps.
@@ -75,15 +84,18 @@ fn left_last<A: Allocator>(before: u64, gone: &[Departure<'_, A>], key: &Key<A>)
     last
 }
 
-// Behind how many steps the place is, where it is there by what was heard. It may have been found before, or not.
+// Behind how many steps the place is, where it is there by a session with so many steps in front of it, behind an event
+// of this time. It may have been found before, or not.
 fn seen<A: Allocator + Copy>(
     sought: &Sought<A>,
     is_found: bool,
-    heard: &Heard<'_, A>,
+    session: &Session<A>,
+    time: Timestamp,
+    before: u64,
 ) -> Result<Option<u64>, AllocError>
-    ensures { IfOk result (λ step. step ≡ rule.seen (rule.plain_sought sought.now) is_found heard.now.before heard.now.time heard.now.session.now) }
+    ensures { IfOk result (λ step. step ≡ rule.seen (rule.plain_sought sought.now) is_found before time session.now) }
 {
-    let last = step_number(heard.before, NodeId(heard.session.issued()));
+    let last = step_number(before, NodeId(session.issued()));
     match sought {
         Sought::Nowhere => Ok(None),
         Sought::End => Ok(Some(last)),
@@ -95,15 +107,15 @@ fn seen<A: Allocator + Copy>(
             }
         }
         Sought::Second(second) => {
-            if heard.time.seconds <= *second {
+            if time.seconds <= *second {
                 Ok(Some(last))
             } else {
                 Ok(None)
             }
         }
         Sought::Gone(key) => {
-            let gone = departures(heard.session, None)?;
-            Ok(left_last(heard.before, gone.as_slice(), key))
+            let gone = departures(session, None)?;
+            Ok(left_last(before, gone.as_slice(), key))
         }
     }
 }
@@ -132,9 +144,9 @@ fn behind(step: u64, found: Option<Spot>) -> Option<Spot>
     }
 }
 
-/// The place that is looked for, where this was heard of it. Where all events are later than a second, it is in front of
-/// them all. That a place behind so many steps is behind as many was heard, and what a listener promises does not say
-/// so.
+/// The place that is looked for, where this was heard of it. Where all events are later than a second, it is in front
+/// of them all. That a place behind so many steps is behind as many was heard, and what a listener promises does not
+/// say so.
 pub(crate) fn place_of<A: Allocator>(sought: &Sought<A>, found: Option<Spot>) -> Option<Spot>
     ensures { result ≡ rule.place_of (rule.plain_sought sought.now) found }
 {
@@ -149,7 +161,9 @@ pub(crate) fn place_of<A: Allocator>(sought: &Sought<A>, found: Option<Spot>) ->
 
 impl<'a, A: Allocator + Copy> Seeker<'a, A> {
     /// Nothing was heard.
-    pub(crate) fn new(sought: &'a Sought<A>) -> Seeker<'a, A> {
+    pub fn new(sought: &'a Sought<A>) -> Seeker<'a, A>
+        ensures { result ≡ rule.at_first (rule.plain_sought sought.now) }
+    {
         Seeker {
             sought,
             life: 1,
@@ -171,11 +185,26 @@ impl<'a, A: Allocator + Copy> Seeker<'a, A> {
     {
         self.begin
     }
-}
 
-impl<A: Allocator + Copy> Listener<A> for Seeker<'_, A> {
-    fn heard(&mut self, heard: &Heard<'_, A>) -> Result<(), ReplayFault> {
-        match seen(self.sought, self.found.is_some(), heard)? {
+    /// The place, where all was heard.
+    pub fn place(&self) -> Option<Spot>
+        ensures { result ≡ rule.place_of self.now.sought self.now.found }
+    {
+        place_of(self.sought, self.found)
+    }
+
+    /// Looks at a session with so many steps in front of its root, behind an event of this time.
+    ///
+    /// Err: memory was refused.
+    pub fn look(
+        &mut self,
+        session: &Session<A>,
+        time: Timestamp,
+        before: u64,
+    ) -> Result<(), AllocError>
+        ensures { OnOk result (self.new ≡ rule.looked self.old before time session.now) }
+    {
+        match seen(self.sought, self.found.is_some(), session, time, before)? {
             Some(step) => {
                 self.found = Some(Spot {
                     step,
@@ -185,6 +214,13 @@ impl<A: Allocator + Copy> Listener<A> for Seeker<'_, A> {
             }
             None => {}
         }
+        Ok(())
+    }
+}
+
+impl<A: Allocator + Copy> Listener<A> for Seeker<'_, A> {
+    fn heard(&mut self, heard: &Heard<'_, A>) -> Result<(), ReplayFault> {
+        self.look(heard.session, heard.time, heard.before)?;
         Ok(())
     }
 

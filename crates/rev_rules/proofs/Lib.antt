@@ -1,1 +1,4 @@
 pub mod Going
+pub mod Keeping
+pub mod Parting
+pub mod Taking

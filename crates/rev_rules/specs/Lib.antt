@@ -1,2 +1,4 @@
 pub mod Events
+pub mod Grown
+pub mod Parts
 pub mod Rules

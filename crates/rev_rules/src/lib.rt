@@ -6,5 +6,7 @@
 
 pub mod events;
 pub mod fault;
+pub mod grown;
+pub mod parts;
 pub mod quiet;
 pub mod rules;

@@ -1,0 +1,9 @@
+use Rattle.std.specs.Prelude.{false}
+use Rattle.rev_replay.specs.Replayed.{state_of}
+use Rattle.rev_replay.specs.Turns.{GoesOn}
+use Rattle.rev_replay.proofs.run.Replay.finish.Given as goal
+
+abbrev pub invariant-loop : goal.invariant-loop
+invariant-loop g l = record {
+  on : GoesOn false (state_of l.fn.self) (state_of l.self);
+}
