@@ -11,9 +11,10 @@ use crate::check::{Check, CheckedLogs};
 use crate::ending::end_import;
 use crate::files::{Making, copied, send, send_with_start};
 use crate::led::import_led;
+use crate::sampled::sampled_setup;
 use either::Either;
-use rev_choices::{Factor, LEAST_PAGE, Rhythm, Sample};
-use rev_classes::{ClassTable, Config};
+use rev_choices::{Factor, Rhythm};
+use rev_classes::Config;
 use rev_import::figures::Figures;
 use rev_import::setup::{Setup, follow};
 use rev_intake::counts::LineCounts;
@@ -21,7 +22,6 @@ use rev_intake::fault::IntakeFault;
 use rev_intake::intake::{Intake, Range};
 use rev_intake::logs::make_script;
 use rev_intake::report::{put_report, put_run, put_unfollowed};
-use rev_intake::row_report::put_thin;
 use rev_intake::told::{put_run_behind, put_sample, put_split};
 use rev_intake::words::put_options;
 use rev_messages::Stop;
@@ -227,29 +227,6 @@ impl<'a, F: Read + Drop> Making for Logs<'a, F> {
                 Err(stop) => Err(stop),
             },
         }
-    }
-}
-
-// The same store for a sample of the keys, with pages as much smaller, and a note where they would be too small.
-fn sampled(setup: Setup, sample: Sample, notes: &mut Vec<u8>) -> Result<Setup, Stop> {
-    let page_size = match sample.page_size(setup.config.page_size) {
-        Some(bytes) => bytes,
-        None => {
-            put_thin(notes, sample.one_of)?;
-            LEAST_PAGE
-        }
-    };
-    let config = Config {
-        page_size,
-        ..setup.config
-    };
-    match ClassTable::build(&config) {
-        Ok(classes) => Ok(Setup {
-            config,
-            classes,
-            ..setup
-        }),
-        Err(fault) => Err(Stop::from(fault)),
     }
 }
 
@@ -500,14 +477,13 @@ fn setup_asked<R: Files + AllocGlobal>(
     asked: &WatchImport,
     notes: &mut Vec<u8>,
 ) -> Result<Setup, Stop> {
-    let setup = setup_of(rt, asked.settings.as_str(), asked.factor)?;
-    match put_unfollowed(notes, &setup.unfollowed) {
-        Ok(()) => sampled(setup, asked.sample, notes),
-        Err(_) => {
-            drop(setup);
-            Err(Stop::Memory)
-        }
-    }
+    let settings = settings_of(rt, asked.settings.as_str())?;
+    let setup = setup_by(&settings, asked.factor)?;
+    let mut thin = Vec::new(rt.alloc());
+    let setup = sampled_setup(setup, &settings, asked.sample, &mut thin)?;
+    put_unfollowed(notes, &setup.unfollowed)?;
+    notes.extend_from_slice(thin.as_slice())?;
+    Ok(setup)
 }
 
 // Makes the script that is asked for by these means, and adds what is told of it to the notes.

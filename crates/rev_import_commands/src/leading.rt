@@ -7,7 +7,7 @@ use crate::files::copied;
 use crate::import::{settings_of, setup_by};
 use crate::state::bad_file;
 use rev_choices::Factor;
-use rev_import::setup::{PAGE_SIZE, Setup};
+use rev_import::setup::{MOST_PAGES, PAGE_SIZE, Setup, Unfollowed};
 use rev_intake::report::put_unfollowed;
 use rev_messages::Stop;
 use rev_replay::coverage::Coverage;
@@ -105,8 +105,42 @@ pub struct LeadingServer {
     pub pages: u64,
 }
 
-/// The server whose settings the file of this name has, where its logs are to lead. Behind `notes` goes what the rules do
-/// not cover of the settings.
+// The server whose settings the file of this name has, where its logs are to lead. Where a setting is an obstacle, that
+// goes behind `notes`, and nothing else.
+fn seen_server<R: Files + AllocGlobal>(
+    rt: &R,
+    name: &str,
+    factor: Option<Factor>,
+    anyway: bool,
+    notes: &mut Vec<u8>,
+) -> Result<LeadingServer, Stop>
+    ensures { IfOk result (λ server. IsWithinLimits server.setup.config) }
+{
+    let settings = settings_of(rt, name)?;
+    see_obstacles(rt.alloc(), name, &settings, anyway, notes)?;
+    Ok(LeadingServer {
+        setup: setup_by(&settings, factor)?,
+        coverage: coverage_of(&settings, anyway),
+        pages: settings.max_bytes / u64::from(PAGE_SIZE),
+    })
+}
+
+// Adds what is not followed of the settings, but for the number of pages where that is more than lrudb has.
+fn add_all_but_pages(
+    notes: &mut Vec<u8>,
+    unfollowed: &[Option<Unfollowed>],
+) -> Result<(), AllocError> {
+    for setting in unfollowed {
+        match setting {
+            Some(Unfollowed::TooMuchMemory) => {}
+            _ => put_unfollowed(notes, &[*setting])?,
+        }
+    }
+    Ok(())
+}
+
+/// The server whose settings the file of this name has, where its logs are to lead, and are replayed as a sample if it
+/// has more pages than lrudb. Behind `notes` goes what the rules do not cover of the settings.
 ///
 /// Err: memory was refused; the file can't be read, or is no text of settings; or the server has a setting under which
 /// other keys leave than the rules say, unless the logs are to be read `anyway`.
@@ -119,19 +153,27 @@ pub fn leading_server<R: Files + AllocGlobal>(
 ) -> Result<LeadingServer, Stop>
     ensures { IfOk result (λ server. IsWithinLimits server.setup.config) }
 {
-    let settings = settings_of(rt, name)?;
-    see_obstacles(rt.alloc(), name, &settings, anyway, notes)?;
-    let setup = setup_by(&settings, factor)?;
-    put_unfollowed(notes, &setup.unfollowed)?;
-    Ok(LeadingServer {
+    let server = seen_server(rt, name, factor, anyway, notes)?;
+    add_all_but_pages(notes, &server.setup.unfollowed)?;
+    Ok(server)
+}
+
+// What that server is opened with, with notes of all that is not followed of it.
+fn told_setup(server: LeadingServer, notes: &mut Vec<u8>) -> Result<(Setup, Coverage), Stop>
+    requires { IsWithinLimits server.setup.config }
+    ensures { IfOk result (λ leading. IsWithinLimits leading.0.config) }
+{
+    let LeadingServer {
         setup,
-        coverage: coverage_of(&settings, anyway),
-        pages: settings.max_bytes / u64::from(PAGE_SIZE),
-    })
+        coverage,
+        ..
+    } = server;
+    put_unfollowed(notes, &setup.unfollowed)?;
+    Ok((setup, coverage))
 }
 
 /// What lrudb is opened with in the place of that server, and what is to become of logs that show items which the rules
-/// do not cover.
+/// do not cover. Where it has more pages than lrudb, that is noted.
 ///
 /// Err: as of `leading_server`.
 pub fn leading_setup<R: Files + AllocGlobal>(
@@ -143,12 +185,34 @@ pub fn leading_setup<R: Files + AllocGlobal>(
 ) -> Result<(Setup, Coverage), Stop>
     ensures { IfOk result (λ leading. IsWithinLimits leading.0.config) }
 {
-    let LeadingServer {
-        setup,
-        coverage,
-        ..
-    } = leading_server(rt, name, factor, anyway, notes)?;
-    Ok((setup, coverage))
+    let server = seen_server(rt, name, factor, anyway, notes)?;
+    told_setup(server, notes)
+}
+
+// Why nothing is counted of a server of so many pages, whose settings the file of this name has.
+fn too_many_pages(alloc: Global, name: &str, pages: u64) -> Result<Stop, AllocError> {
+    refusal_by(format!(in alloc;
+        "lrudb: {name}: the server has {pages} pages, and lrudb at most {MOST_PAGES}: figures would be those of another cache; lrudb import watch --sample 1/N makes a script of a sample, and lrudb report takes that\n"
+    )?)
+}
+
+/// The same for figures, which are of the whole server.
+///
+/// Err: as of `leading_server`; or the server has more pages than lrudb, unless the logs are to be read `anyway`.
+pub fn whole_setup<R: Files + AllocGlobal>(
+    rt: &R,
+    name: &str,
+    factor: Option<Factor>,
+    anyway: bool,
+    notes: &mut Vec<u8>,
+) -> Result<(Setup, Coverage), Stop>
+    ensures { IfOk result (λ leading. IsWithinLimits leading.0.config) }
+{
+    let server = seen_server(rt, name, factor, anyway, notes)?;
+    if server.pages > u64::from(MOST_PAGES) && !anyway {
+        return Err(stop_by(too_many_pages(rt.alloc(), name, server.pages)));
+    }
+    told_setup(server, notes)
 }
 
 // Why there is nothing to tell of a life of the server that was not there.

@@ -9,5 +9,6 @@ pub mod import;
 pub mod imported;
 pub mod leading;
 mod led;
+pub mod sampled;
 pub mod state;
 pub mod traces;

@@ -7,11 +7,12 @@ ghost use Rattle.rev_import_commands.specs.Importing.{Reports, TellsRows};
 use crate::ending::end_import;
 use crate::files::{Making, copied, send};
 use crate::import::{all_opened, name_in};
-use rev_choices::{LEAST_PAGE, Rhythm, Sample};
-use rev_classes::{ClassTable, Config, fault_of};
+use crate::sampled::sampled;
+use rev_choices::{Rhythm, Sample};
+use rev_classes::{ClassTable, Config};
 use rev_intake::fault::RowsFault;
 use rev_intake::report::put_run;
-use rev_intake::row_report::{put_row_report, put_thin};
+use rev_intake::row_report::put_row_report;
 use rev_intake::rows::RowIntake;
 use rev_intake::traces::make_row_script;
 use rev_intake::words::put_all_options;
@@ -66,24 +67,6 @@ impl<'a, F: Read + Drop> Making for Traces<'a, F> {
             },
         }
     }
-}
-
-/// The configuration with pages as much smaller as the sample is, and a note where they would be too small.
-pub fn sampled(config: &Config, sample: Sample, notes: &mut Vec<u8>) -> Result<Config, Stop> {
-    if let Some(fault) = fault_of(config) {
-        return Err(Stop::from(fault));
-    }
-    let page_size = match sample.page_size(config.page_size) {
-        Some(bytes) => bytes,
-        None => {
-            put_thin(notes, sample.one_of)?;
-            LEAST_PAGE
-        }
-    };
-    Ok(Config {
-        page_size,
-        ..*config
-    })
 }
 
 /// An intake of the rows that are asked for.

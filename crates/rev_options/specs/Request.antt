@@ -39,12 +39,12 @@ IsKept n = (1 ≤ n) × (n ≤ 1048576)
 abbrev pub IsStanding : Standing → Type 0
 IsStanding standing = IsKept standing.keep
 
--- a time to live that there is, where a configuration is asked for, and a life that there may be, where one is; what is
--- of logs stands at their end
+-- a time to live that there is, where a configuration is asked for, and a life that there may be, where one is; all of it
+-- is played
 abbrev pub IsPlayedInRange : Played → Type 0
-IsPlayedInRange (Traces asked) = is_temp_ttl asked.config.temp_ttl ≡ true
+IsPlayedInRange (Traces asked) = (is_temp_ttl asked.config.temp_ttl ≡ true) × (asked.standing ≡ None)
 IsPlayedInRange (Logs asked) = IsLife asked.life × (asked.standing ≡ None)
-IsPlayedInRange (Rows asked) = is_temp_ttl asked.config.temp_ttl ≡ true
+IsPlayedInRange (Rows asked) = (is_temp_ttl asked.config.temp_ttl ≡ true) × (asked.standing ≡ None)
 
 -- 1 to 64 logs, and where a life of their server is asked for, lives are counted from 1
 abbrev pub AreAsked : AskedLogs → Type 0
@@ -67,9 +67,9 @@ IsInRange (Record config dialect starts files) = (is_temp_ttl config.temp_ttl �
 IsInRange (ImportWatch asked) = (1 ≤ length asked.logs.items) × IsLife asked.life
 IsInRange (ImportCsv asked) = (is_temp_ttl asked.config.temp_ttl ≡ true) × (1 ≤ length asked.traces.items)
 IsInRange (ImportState asked) = Unit {0}
-IsInRange (Open asked) = is_temp_ttl asked.config.temp_ttl ≡ true
+IsInRange (Open asked) = (is_temp_ttl asked.config.temp_ttl ≡ true) × IfSome asked.standing IsStanding
 IsInRange (OpenWatch asked) = IsLife asked.life × IfSome asked.standing IsStanding
-IsInRange (OpenCsv asked) = is_temp_ttl asked.config.temp_ttl ≡ true
+IsInRange (OpenCsv asked) = (is_temp_ttl asked.config.temp_ttl ≡ true) × IfSome asked.standing IsStanding
 IsInRange (Report asked) = IsPlayedInRange asked.played
 IsInRange (Why asked) = AreAsked asked.logs × HasKeys asked.keys asked.key_file × IsVisible asked.prefix_end
 IsInRange (Gone asked) = AreAsked asked.logs
@@ -125,10 +125,15 @@ abbrev pub sought_key : Option Standing → Option (List ℕ)
 sought_key None = None
 sought_key (Some standing) = key_until standing.until
 
+-- the place where a key is gone is asked for by words that seek one alone
+abbrev pub SeeksBy : (seeks : Bool) → Option Standing → Type 0
+SeeksBy seeks standing = IfSome (sought_key standing) (λ key. seeks ≡ true)
+
 -- what `open` imports is asked for by words that bring it alone, and the place where a key is gone by words that seek one
 abbrev pub BringsBy : (brings seeks : Bool) → Request → Type 0
-BringsBy brings seeks (OpenWatch asked) = (brings ≡ true) × IfSome (sought_key asked.standing) (λ key. seeks ≡ true)
-BringsBy brings seeks (OpenCsv asked) = brings ≡ true
+BringsBy brings seeks (Open asked) = SeeksBy seeks asked.standing
+BringsBy brings seeks (OpenWatch asked) = (brings ≡ true) × SeeksBy seeks asked.standing
+BringsBy brings seeks (OpenCsv asked) = (brings ≡ true) × SeeksBy seeks asked.standing
 BringsBy brings seeks other = Unit {0}
 
 -- the first word says `run`

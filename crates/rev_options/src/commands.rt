@@ -69,7 +69,7 @@ const STEPS: OptionSpec = OptionSpec {
 const SAMPLE: OptionSpec = OptionSpec {
     name: "sample",
     unit: "1/N",
-    help: "Takes one key of N, and makes pages N times smaller",
+    help: "Takes one key of N, of a cache with 1/N of the bytes",
     default: Some(&["1/1"]),
     ..TEXT
 };
@@ -207,7 +207,7 @@ static WATCHED: [OptionSpec; 5] = [
         ..NUMBER
     },
     OptionSpec {
-        help: "Implies --free, but for 1/1: takes one key of N, and makes pages N times smaller",
+        help: "Implies --free, but for 1/1: takes one key of N, of a cache with 1/N of the bytes",
         ..SAMPLE
     },
     OptionSpec {
@@ -365,7 +365,7 @@ static PLAYED: [OptionSpec; 6] = [
     OptionSpec {
         name: "sample",
         unit: "1/N",
-        help: "With --csv: takes one key of N, and makes pages N times smaller; with open --watch: replays one key of N, and pages stay whole",
+        help: "With --csv: takes one key of N, of a cache with 1/N of the bytes; with open --watch: replays one key of N, and pages stay whole",
         excludes: Some(&["traces", "free"]),
         ..TEXT
     },
@@ -412,20 +412,20 @@ fn followed() -> &'static [OptionSpec] {
     &FOLLOWED
 }
 
-// Where a session stands on logs that lead, and which keys it has.
+// Where a session stands, and which keys it has.
 static STOOD: [OptionSpec; 4] = [
     OptionSpec {
         name: "until",
         unit: "PLACE",
-        help: "With --watch: the session stands behind the step of this number, as `lrudb why` counts them, behind the last step up to @SECONDS by the Unix clock, or at the end [without it: at the end]",
-        excludes: Some(&["free", "steps", "life", "until-gone"]),
+        help: "The session stands behind the step of this number, as `lrudb why` counts them, behind the last step up to @SECONDS (with --watch by the Unix clock, unless --free; else by the cache's), or at the end [without it: at the end]",
+        excludes: Some(&["life", "until-gone"]),
         ..TEXT
     },
     OptionSpec {
         name: "until-gone",
         unit: "KEY",
-        help: "With --watch: the session stands behind the last step at which this key left",
-        excludes: Some(&["free", "steps", "life"]),
+        help: "The session stands behind the last step at which this key left",
+        excludes: Some(&["life"]),
         ..TEXT
     },
     OptionSpec {
@@ -616,7 +616,7 @@ static ASKED: [OptionSpec; 8] = [
     OptionSpec {
         name: "sample",
         unit: "1/N",
-        help: "Replays one key of N, and the stores that evict it; pages stay whole [without it: all keys, or of a server of more than 4096 pages as many as go in]. With --csv: takes one key of N, and makes pages N times smaller",
+        help: "Replays one key of N, and the stores that evict it; pages stay whole [without it: all keys, or of a server of more than 4096 pages as many as go in]. With --csv: takes one key of N, of a cache with 1/N of the bytes",
         excludes: Some(&["trace"]),
         ..TEXT
     },

@@ -6,7 +6,7 @@ use crate::asking::life_of;
 use crate::csv::sample_of;
 use crate::import::{STANDARD, factor_of, required, rhythm_of};
 use crate::leader::{Leader, leader_of};
-use crate::sampled::{AskedSample, led_sample, says_nothing_of_logs, takes_all};
+use crate::sampled::{AskedSample, keeps_none, led_sample, takes_all};
 use crate::standing::{Standing, standing_of};
 use crate::{Request, config_of, dialect_of, fault, files_of};
 use clap::error::ErrorKind;
@@ -38,6 +38,8 @@ pub struct Opening {
     pub starts: Vec<String>,
     /// The names of the traces in order, none of them `-`.
     pub traces: Vec<String>,
+    /// Where the session stands, where that is asked for.
+    pub standing: Option<Standing>,
 }
 
 /// Logs of a server's `watch` to look around in: what they tell is played as they are read.
@@ -74,6 +76,8 @@ pub struct CsvOpening {
     pub rhythm: Rhythm,
     /// Which keys are taken, of how many.
     pub sample: Sample,
+    /// Where the session stands, where that is asked for.
+    pub standing: Option<Standing>,
 }
 
 /// What the words say of an opening, and the parser's contracts do not.
@@ -196,8 +200,10 @@ pub(crate) fn csv_opening(
     matches: &ArgMatches<'_>,
     manner: Manner,
     traces: Vec<String>,
+    standing: Option<Standing>,
 ) -> Result<CsvOpening, Error>
-    ensures { IfOk result (λ asked. is_temp_ttl asked.config.temp_ttl ≡ true) }
+    ensures temp_ttl { IfOk result (λ asked. is_temp_ttl asked.config.temp_ttl ≡ true) }
+    ensures standing { IfOk result (λ asked. asked.standing ≡ standing) }
 {
     Ok(CsvOpening {
         rhythm: rhythm_of(alloc, matches)?,
@@ -206,6 +212,7 @@ pub(crate) fn csv_opening(
         config: config_of(matches),
         manner,
         traces,
+        standing,
     })
 }
 
@@ -232,10 +239,11 @@ fn brought(
         let asked = watch_opening(alloc, matches, manner, logs, standing, sampled)?;
         return Ok(Some(Request::OpenWatch(asked)));
     }
-    says_nothing_of_logs(alloc, matches)?;
+    keeps_none(alloc, matches)?;
     let traces = named(alloc, matches, "csv", NO_STANDARD)?;
     if !traces.is_empty() {
-        let asked = csv_opening(alloc, matches, manner, traces)?;
+        let standing = standing_of(alloc, matches, seeks_key)?;
+        let asked = csv_opening(alloc, matches, manner, traces, standing)?;
         return Ok(Some(Request::OpenCsv(asked)));
     }
     Ok(None)
@@ -261,9 +269,10 @@ pub fn opening_of(
             return Ok(asked);
         }
     }
-    says_nothing_of_logs(alloc, matches)?;
+    keeps_none(alloc, matches)?;
     takes_all(alloc, matches, NO_SAMPLE)?;
     Ok(Request::Open(Opening {
+        standing: standing_of(alloc, matches, said.seeks_key)?,
         config: config_of(matches),
         manner: manner_of(matches),
         starts: files_of(alloc, matches, "start")?,

@@ -82,7 +82,7 @@ fn played_of(alloc: Global, matches: &ArgMatches<'_>) -> Result<Played, Error>
     }
     let rows = named(alloc, matches, "csv", NO_STANDARD)?;
     if !rows.is_empty() {
-        let asked = csv_opening(alloc, matches, manner, rows)?;
+        let asked = csv_opening(alloc, matches, manner, rows, None)?;
         return Ok(Played::Rows(asked));
     }
     Ok(Played::Traces(Opening {
@@ -90,6 +90,7 @@ fn played_of(alloc: Global, matches: &ArgMatches<'_>) -> Result<Played, Error>
         manner,
         starts: files_of(alloc, matches, "start")?,
         traces: named(alloc, matches, "traces", NO_STANDARD)?,
+        standing: None,
     }))
 }
 

@@ -1,7 +1,6 @@
 //! Which keys of logs that lead are replayed.
 
 use crate::csv::sample_of;
-use crate::standing::stands_at_end;
 use crate::{fault, files_of};
 use clap::error::ErrorKind;
 use clap::{ArgMatches, Error};
@@ -64,8 +63,8 @@ pub(crate) fn takes_all(
     }
 }
 
-// Sees that the words keep no key, or the parser's error.
-fn keeps_none(alloc: Global, matches: &ArgMatches<'_>) -> Result<(), Error> {
+/// Sees that the words keep no key, which is of a sample of logs that lead. Or the parser's error.
+pub(crate) fn keeps_none(alloc: Global, matches: &ArgMatches<'_>) -> Result<(), Error> {
     match matches.get_strs("keep-key") {
         Some(_) => Err(fault(
             alloc,
@@ -74,11 +73,4 @@ fn keeps_none(alloc: Global, matches: &ArgMatches<'_>) -> Result<(), Error> {
         )),
         None => Ok(()),
     }
-}
-
-/// Sees that the words say nothing that is of logs that lead: a session stands behind all that is played, and no key is
-/// kept. Or the parser's error.
-pub(crate) fn says_nothing_of_logs(alloc: Global, matches: &ArgMatches<'_>) -> Result<(), Error> {
-    stands_at_end(alloc, matches)?;
-    keeps_none(alloc, matches)
 }

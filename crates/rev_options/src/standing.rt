@@ -1,4 +1,4 @@
-//! Where a session on logs that lead stands.
+//! Where a session on what is opened stands.
 ghost use Rattle.std.specs.Prelude.{◌≡◌, None, IfOk, IfSome, true};
 ghost use Rattle.rev_options.specs.Request.{IsKept, IsStanding, key_until, sought_key};
 
@@ -14,12 +14,13 @@ pub const KEPT: u32 = 500000;
 /// The most steps that may be asked for: so many nodes a tree has.
 const MOST_KEPT: u32 = 1048576;
 
-/// A place in logs that lead.
+/// A place between two steps of what is opened.
 #[derive(Drop)]
 pub enum Until {
-    /// Behind so many steps, over all lives of the server.
+    /// Behind so many steps: of logs that lead, over all lives of the server; of scripts, behind the starts.
     Step(u64),
-    /// Behind the last step whose event is not later than this second, by the Unix clock.
+    /// Behind the last step that is not later than this second: of logs that lead, by the Unix clock of its event; of
+    /// scripts, by the cache's clock.
     Second(u32),
     /// Behind the last step at which this key left. It is spelled as clients do or as the log does.
     Gone(String),
@@ -27,7 +28,7 @@ pub enum Until {
     End,
 }
 
-/// Where a session stands in logs that lead.
+/// Where a session stands.
 #[derive(Drop)]
 pub struct Standing {
     pub until: Until,
@@ -110,19 +111,4 @@ pub(crate) fn standing_of(
         )),
         None => Ok(None),
     }
-}
-
-/// Sees that the words say nothing of where a session stands: it stands behind all that is played. Or the parser's
-/// error.
-pub(crate) fn stands_at_end(alloc: Global, matches: &ArgMatches<'_>) -> Result<(), Error> {
-    for name in ["until", "until-gone", "keep"] {
-        if matches.get_str(name).is_some() {
-            return Err(fault(
-                alloc,
-                ErrorKind::ArgumentConflict,
-                "--until, --until-gone and --keep are for logs that lead: --watch LOG without --free",
-            ));
-        }
-    }
-    Ok(())
 }
