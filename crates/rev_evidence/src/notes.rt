@@ -30,8 +30,8 @@ pub struct Moment {
 }
 
 /// What a log says of the nodes of a session, that of node 1 first; where the log goes back behind the session's root,
-/// which keys left in front of that, and when it was; and of which keys it is, where not all are replayed. A session on a
-/// script has none.
+/// which keys left in front of that, and when it was; and of which keys it is, where not all are replayed. A session on
+/// a script has none.
 #[derive(Drop)]
 pub struct LogNotes<A: Allocator> {
     roles: Vec<Role, A>,
@@ -154,8 +154,8 @@ fn behind(
     }
 }
 
-/// What is told of a key of this hash that left at a node, with this cause, by the role of each node's step and what the
-/// log says at it, those of node 1 first. None where the log says nothing of the node.
+/// What is told of a key of this hash that left at a node, with this cause, by the role of each node's step and what
+/// the log says at it, those of node 1 first. None where the log says nothing of the node.
 pub fn told_by(
     roles: &[Role],
     moments: &[Moment],
@@ -198,8 +198,8 @@ impl<A: Allocator + Copy> LogNotes<A> {
 }
 
 impl<A: Allocator> LogNotes<A> {
-    /// The role of each node's step, and what the log says at it, those of node 1 first; and where the log goes back behind
-    /// the root, which keys left in front of that, and when it was. All keys are replayed.
+    /// The role of each node's step, and what the log says at it, those of node 1 first; and where the log goes back
+    /// behind the root, which keys left in front of that, and when it was. All keys are replayed.
     pub fn new(
         roles: Vec<Role, A>,
         moments: Vec<Moment, A>,

@@ -2,8 +2,8 @@
 //! is told of a key that left ([`leaving`]), which of those are asked for ([`filter`]), and how each is told, as text
 //! ([`text`]) and as JSON ([`lines`]).
 //!
-//! Beside them stands what is read off a session for that: whether it holds a key alive ([`alive`]), and from which slab
-//! class a key left ([`class`]).
+//! Beside them stands what is read off a session for that: whether it holds a key alive ([`alive`]), and from which
+//! slab class a key left ([`class`]).
 #![tactic(auto)]
 
 pub mod alive;

@@ -242,8 +242,8 @@ fn put_debug_line<A: Allocator + Clone>(
     }
 }
 
-/// Does what a line asks for, and writes its answer. A log tells of the session's nodes. At an error the answer is of no
-/// use.
+/// Does what a line asks for, and writes its answer. A log tells of the session's nodes. At an error the answer is of
+/// no use.
 #[inline(always)]
 pub fn put_answer<A: Allocator + Clone>(
     session: &mut Session<A>,

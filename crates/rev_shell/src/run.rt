@@ -159,7 +159,8 @@ fn put_prompt<A: Allocator>(
 }
 
 /// Does what a line asks for; the answer, and the prompt for the next line, are then in `text` and nothing else. A log
-/// tells of the session's nodes. Answers whether the tree refused a step of the line. At an error the text is of no use.
+/// tells of the session's nodes. Answers whether the tree refused a step of the line. At an error the text is of no
+/// use.
 #[inline(always)]
 pub fn answer_line<A: Allocator + Clone>(
     prompts: Prompts,
@@ -223,8 +224,8 @@ fn put_some<S: Duplex, A: Allocator>(
 }
 
 /// Plays the lines, from the first on, and writes each answer to their source once its line is done. A log tells of the
-/// session's nodes. `text` holds one answer at a time. Where prompts are shown, one is written before each line is read,
-/// and the line of the last is ended.
+/// session's nodes. `text` holds one answer at a time. Where prompts are shown, one is written before each line is
+/// read, and the line of the last is ended.
 pub fn run_lines<S: Duplex, A: Allocator + Clone>(
     prompts: Prompts,
     lines: &mut Lines<S, A>,

@@ -1,7 +1,7 @@
 //! The keys that were evicted and not yet asked for again.
 //!
-//! They are remembered by a hash of 64 bits, up to `MOST_KEYS`: in two halves, of which the older one goes when there is
-//! no room. What is remembered is in no contract: it is tested.
+//! They are remembered by a hash of 64 bits, up to `MOST_KEYS`: in two halves, of which the older one goes when there
+//! is no room. What is remembered is in no contract: it is tested.
 use indexmap::IndexMap;
 use std::alloc::{AllocError, Allocator};
 use std::hash::{BuildHasherDefault, FoldHasher, Hasher};

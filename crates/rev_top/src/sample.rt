@@ -1,8 +1,8 @@
 //! A sample of times that came one after another, and its median.
 //!
-//! At first each is kept. When there is no room, every second one goes, and from then on only every second one comes; and
-//! so on. So at any moment those that are kept are spread evenly over all that came. What is kept is in no contract: it
-//! is tested.
+//! At first each is kept. When there is no room, every second one goes, and from then on only every second one comes;
+//! and so on. So at any moment those that are kept are spread evenly over all that came. What is kept is in no
+//! contract: it is tested.
 use std::alloc::{AllocError, Allocator};
 
 /// Up to so many times are kept (this project's own figure).

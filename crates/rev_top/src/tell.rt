@@ -96,8 +96,9 @@ fn count_logs<A: Allocator + Copy, F: Read + Drop, K: Sink>(
     told
 }
 
-/// Tells where the room of a server with this setup went, from the logs that the files hold, in their order: of all keys,
-/// or of those of a sample. It is written behind the last log. What is told of the logs themselves goes behind `notes`.
+/// Tells where the room of a server with this setup went, from the logs that the files hold, in their order: of all
+/// keys, or of those of a sample. It is written behind the last log. What is told of the logs themselves goes behind
+/// `notes`.
 ///
 /// Err: the place of a log, from 0 on, and why nothing is told: memory was refused, a read or a write failed, a line
 /// that begins like one of the log is none, a log shows an item that the rules do not cover, or there are more lines
