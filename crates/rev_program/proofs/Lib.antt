@@ -1,5 +1,5 @@
 mod Ends
+mod Grows
 mod Places
-mod Traced
 mod Tallies
 mod Running

@@ -1,11 +1,10 @@
 -- Where a session on logs stands that lead, and what is told where it stands nowhere.
 -- Rule of this project: it has the tree that a replay of the logs grew, and stands at the node behind so many steps, or
 -- where the last step left it. A key may be looked for that never left: that is told last, and no session is opened.
-use Rattle.std.specs.Prelude.{◌≡◌, ℕ, List, ◌++◌, length, Option, None, Some, codes}
+use Rattle.std.specs.Prelude.{◌≡◌, ◌⊎◌, ℕ, List, ◌++◌, length, Option, None, Some, codes}
 use Rattle.std.specs.declared.alloc.Global.{Global}
 use Rattle.rev_classes.specs.declared.Config.{Config}
 use Rattle.rev_tree.specs.Positions.{SessionState}
-use Rattle.rev_evidence.specs.Notes.{no_notes}
 use Rattle.rev_replay.specs.Seeking as seeking
 use Rattle.rev_replay.specs.Seeking.{PlainSought, IsPlaceOf, node_behind, stood}
 use Rattle.rev_replay.specs.Turns.{Grows}
@@ -13,8 +12,6 @@ use Rattle.rev_replay.specs.declared.grown.Grown.{Grown}
 use Rattle.rev_replay.specs.declared.keeping.Keeping.{Keeping}
 use Rattle.rev_replay.specs.declared.seeking.Spot.{Spot}
 use Rattle.rev_options.specs.Request.{key_until}
-use Rattle.rev_options.specs.declared.leader.Leader.{Leader}
-use Rattle.rev_options.specs.declared.leader.Leader.TheVariants.{Rules, Log}
 use Rattle.rev_options.specs.declared.standing.Standing.{Standing}
 use Rattle.rev_options.specs.declared.standing.Until.{Until}
 use Rattle.rev_options.specs.declared.standing.Until.TheVariants as untils
@@ -52,16 +49,25 @@ Opens config opened = (step : Option ℕ) × OpensAt config step opened
 
 -- ---- a key that never left
 
+-- by what it is known that a key never left: by logs that lead, or by the steps of scripts
+abbrev pub by_logs : List ℕ
+by_logs = codes ": by the replay of the logs this key never left\n"
+
+abbrev pub by_steps : List ℕ
+by_steps = codes ": by the steps that were played this key never left\n"
+
 -- the text that a key never left, behind notes
-abbrev pub with_never : (notes key : List ℕ) → List ℕ
-with_never notes key = ((notes ++ codes "lrudb: ") ++ key) ++ codes ": by the replay of the logs this key never left\n"
+abbrev pub with_never : (how notes key : List ℕ) → List ℕ
+with_never how notes key = ((notes ++ codes "lrudb: ") ++ key) ++ how
 
 -- that is the end of a text, of the key that is to be gone, which there is
 pub record TellsNever (sought : Option (List ℕ)) (text : List ℕ) : Type 0 where
   pub key : List ℕ
   pub is_sought : sought ≡ Some key
+  pub how : List ℕ
+  pub is_how : (how ≡ by_logs) ⊎ (how ≡ by_steps)
   pub notes : List ℕ
-  pub text_is : text ≡ with_never notes key
+  pub text_is : text ≡ with_never how notes key
 
 -- ---- what comes of a place
 
@@ -96,9 +102,3 @@ abbrev pub IsPlaced : Config → Option Standing → (text : List ℕ) → Place
 IsPlaced config None text (There opened) = Opens config opened
 IsPlaced config None text NeverLeft = ⊥
 IsPlaced config (Some standing) text placed = IsSettled config standing.until text placed
-
--- where the rules alone lead, a session is opened of whose nodes no log tells
-abbrev pub IsPlacedBy : Leader → Option Standing → (text : List ℕ) → Placed → Type 0
-IsPlacedBy (Rules rhythm) standing text (There opened) = opened.log ≡ no_notes
-IsPlacedBy (Rules rhythm) standing text NeverLeft = ⊥
-IsPlacedBy (Log anyway) standing text placed = (config : Config) × IsPlaced config standing text placed

@@ -2,7 +2,7 @@
 -- Rule of this project: what its user is told, and when nothing.
 use Rattle.std.specs.Prelude.{◌≡◌, ◌≢◌, ◌≤◌, ◌⊎◌, ℕ, Bool, ◌&&◌, true, List, [], ◌∷◌, Option, IfSome, cond, nat_eq, codes, decimal}
 use Rattle.std.specs.Io.KnownBytes.{Keeps}
-use Rattle.rev_options.specs.Request.{asks_open, brings, seeks_key}
+use Rattle.rev_options.specs.Request.{asks_open, seeks_key}
 use Rattle.rev_recordings.specs.Fault as fault
 use Rattle.rev_messages.specs.Ends.{IsStatus, StopsBy}
 use Rattle.rev_messages.specs.Telling.{Told, joined}
@@ -10,6 +10,7 @@ use Rattle.rev_shell.specs.declared.run.Summary.{Summary}
 use Rattle.rev_shell.specs.declared.run.Tally.{Tally}
 use Rattle.rev_recordings.specs.declared.fault.RecordingFault.{RecordingFault}
 use Rattle.rev_recordings.specs.declared.fault.RecordingFault.TheVariants.{CannotWrite}
+use Rattle.rev_messages.specs.declared.opened.OpenedAt.{OpenedAt}
 use Rattle.rev_messages.specs.declared.stop.Stop.{Stop}
 use Rattle.rev_program.specs.Opening.{IsNoted}
 use Rattle.rev_program.specs.Placed.{TellsNever}
@@ -24,12 +25,14 @@ pub record FailsBy (told tells : Option (List ℕ)) (before after : ℕ) (result
 abbrev pub EndsEarly : Option (List ℕ) → Option (List ℕ) → ℕ → ℕ → ℕ → Type 0
 EndsEarly told tells before after result = ((s : Stop) × StopsBy told tells before after result s) ⊎ ((e : RecordingFault) × FailsBy told tells before after result e)
 
--- behind what may have been told of traces that fill the tree: nothing at status 0, else why the program ended early
+-- behind what may have been told of traces that fill the tree, and of where the session stands: nothing at status 0, else
+-- why the program ended early
 pub record EndsBehind (told tells : Option (List ℕ)) (before after : ℕ) (result : ℕ) : Type 0 where
   pub full : Option Full
+  pub at : Option OpenedAt
   pub between : Option (List ℕ)
   pub failures : ℕ
-  pub noted : IsNoted told between before failures full
+  pub noted : IsNoted told between before failures full at
   pub quiet : result ≡ 0 → Keeps between tells
   pub early : result ≢ 0 → EndsEarly between tells failures after result
 
@@ -43,12 +46,19 @@ pub record EndsNoted (told tells : Option (List ℕ)) (before after : ℕ) (resu
   pub quiet : result ≡ 0 → Keeps between tells
   pub early : result ≢ 0 → EndsEarly between tells failures after result
 
--- `open` is asked for, of what it imports, at the place where a key is gone
+-- `open` is asked for at the place where a key is gone
 abbrev pub seeks : List (List ℕ) → Bool
-seeks words = asks_open words && (brings words && seeks_key words)
+seeks words = asks_open words && seeks_key words
 
--- logs were opened, where this key is to be gone, if there is one: as above; or it never left, which was told behind what
--- may have been told of the logs, and nothing else
+-- traces were opened, where this key is to be gone, if there is one: as above; or it never left, which was told, and
+-- nothing else
+abbrev pub EndsStood : Option (List ℕ) → Option (List ℕ) → Option (List ℕ) → ℕ → ℕ → ℕ → Type 0
+EndsStood sought told tells before after result =
+    (IsStatus result × EndsBehind told tells before after result)
+    ⊎ ((result ≡ 1) × ((text : List ℕ) × TellsNever sought text × Told told tells before after text))
+
+-- what is imported was opened, where this key is to be gone, if there is one: as above; or it never left, which was told
+-- behind what may have been told of the import, and nothing else
 abbrev pub EndsPlaced : Option (List ℕ) → Option (List ℕ) → Option (List ℕ) → ℕ → ℕ → ℕ → Type 0
 EndsPlaced sought told tells before after result =
     (IsStatus result × EndsNoted told tells before after result)

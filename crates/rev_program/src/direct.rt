@@ -1,32 +1,27 @@
 //! `lrudb open` of logs and of published traces: what logs lead to, or what an import would write, is played as they
 //! are read, and then a session is answered.
-ghost use Rattle.std.specs.Prelude.{IfOk, IfSome};
+ghost use Rattle.std.specs.Prelude.{◌≡◌, IfOk, IfSome};
 ghost use Rattle.rev_classes.specs.Limits.{IsWithinLimits, fault_of};
 ghost use Rattle.rev_messages.specs.Ends.{IsStatus, StopsBy};
 ghost use Rattle.rev_messages.specs.Stop.{stop_of_config};
 ghost use Rattle.rev_options.specs.Request.{sought_key};
-ghost use Rattle.rev_program.specs.Placed.{IsPlacedBy};
+ghost use Rattle.rev_program.specs.Scripted.{IsPlacedBy, IsScripted};
 ghost use Rattle.rev_program.specs.Program.{EndsNoted, EndsPlaced};
+ghost use Rattle.rev_program.specs.declared.placed.Placed.TheVariants.{NeverLeft};
 
 use crate::lives::{keep_word, sampling_of};
 use crate::opening::{Full, answer, told_files};
-use crate::parted::{Traced, traced_in_parts};
-use crate::placed::{LedLogs, Opened, Placed, from_begin, placed_on, unled};
+use crate::placed::{LedLogs, Opened, Placed, add_place, placed_on, unled};
+use crate::scripted::{Material, Scripts, Settled, settled_on};
 use crate::starts::started;
-use crate::stopping::stop_of_trace;
 use rev_choices::{Rhythm, Sample};
 use rev_classes::{Config, fault_of};
 use rev_import::setup::Setup;
-use rev_import_commands::files::copied;
-use rev_import_commands::import::{all_opened as all_imported, name_in, setup_of};
-use rev_import_commands::imported::{Feed, ImportedScript, NamedLogs, NamedTraces};
+use rev_import_commands::import::{name_in, setup_of};
 use rev_import_commands::leading::leading_setup;
-use rev_import_commands::traces::{intake_of, sampled};
-use rev_intake::feed::{LogFeed, RowFeed};
-use rev_intake::intake::{Intake, Range};
-use rev_intake::report::{put_part, put_report, put_unfollowed};
-use rev_intake::row_report::put_row_report;
-use rev_intake::rows::RowIntake;
+use rev_import_commands::sampled::sampled;
+use rev_intake::intake::Range;
+use rev_intake::report::{put_part, put_unfollowed};
 use rev_messages::Stop;
 use rev_messages::ends::ended;
 use rev_messages::opened::{OpenedAt, put_opened, put_opened_object};
@@ -34,17 +29,14 @@ use rev_messages::progress::Progress;
 use rev_messages::telling::tell_bytes;
 use rev_options::{CsvOpening, Leader, Manner, Standing, Until, WatchOpening};
 use rev_output::Sink;
-use rev_plays::trace::{TraceEnd, play_trace};
 use rev_pushers::times::{micros, seconds_text};
 use rev_replay::coverage::Coverage;
 use rev_replay::grown::Server;
 use rev_replay::keeping::Place;
 use rev_replay::sampling::Sampling;
 use rev_script::dialect::Dialect;
-use rev_script::source::FromRead;
 use rev_undotree::Session;
 use std::alloc::{AllocError, Global};
-use std::io;
 use std::io::{Read, Write};
 use std::mem::ManuallyDrop;
 use std::rt::{Clock, Files};
@@ -55,30 +47,6 @@ pub(crate) const ALL: Range = Range {
     last: u32::MAX,
     sample: Sample { one_of: 1 },
 };
-
-// Plays the script of what is fed, each step as a node, and tells where it fills the tree, if it does.
-fn play_script<T: Feed + Drop>(
-    alloc: Global,
-    session: &mut Session<Global>,
-    feed: T,
-) -> Result<Option<Full>, Stop> {
-    let mut script = ImportedScript::new(alloc, feed);
-    let mut source = FromRead::new(&mut script);
-    match play_trace(&alloc, session, Dialect::CrLf, &mut source) {
-        Ok(TraceEnd::Whole) => Ok(None),
-        Ok(TraceEnd::Full { line }) => Ok(Some(Full {
-            file: copied(alloc, script.name())?,
-            line,
-        })),
-        Err(fault) => {
-            let name = copied(alloc, script.name())?;
-            match script.into_stop() {
-                Some(stop) => Err(stop),
-                None => Err(stop_of_trace(fault, name)),
-            }
-        }
-    }
-}
 
 // Adds where a script fills the tree, if it does. Each of its lines makes one step.
 fn add_full(notes: &mut Vec<u8>, full: Option<Full>) -> Result<(), AllocError> {
@@ -93,50 +61,6 @@ fn add_full(notes: &mut Vec<u8>, full: Option<Full>) -> Result<(), AllocError> {
         full.line,
         b": no room in the tree for this step and what follows; a script of `lrudb import` can be parted, and --start FILE plays any number of steps\n",
     )
-}
-
-// Plays what the logs become, and adds what is told of it.
-fn play_logs<R: Files + AllocGlobal, C: Clock, W: Sink>(
-    rt: &R,
-    names: &[String],
-    session: &mut Session<Global>,
-    intake: &mut Intake<Global>,
-    notes: &mut Vec<u8>,
-    progress: &Progress<C, W>,
-) -> Result<(), Stop> {
-    let alloc = rt.alloc();
-    let files = all_imported(rt, alloc, names, io::empty(), progress)?;
-    let logs = LogFeed::new(alloc, intake, files);
-    let full = play_script(alloc, session, NamedLogs { alloc, names, logs })?;
-    put_report(notes, &intake.counts(), &intake.figures(), None)?;
-    add_full(notes, full)?;
-    Ok(())
-}
-
-// Plays what the traces become, and adds what is told of it.
-fn play_rows<R: Files + AllocGlobal, C: Clock, W: Sink>(
-    rt: &R,
-    names: &[String],
-    session: &mut Session<Global>,
-    intake: &mut RowIntake,
-    notes: &mut Vec<u8>,
-    progress: &Progress<C, W>,
-) -> Result<(), Stop> {
-    let alloc = rt.alloc();
-    let files = all_imported(rt, alloc, names, io::empty(), progress)?;
-    let traces = RowFeed::new(alloc, intake, files);
-    let full = play_script(
-        alloc,
-        session,
-        NamedTraces {
-            alloc,
-            names,
-            traces,
-        },
-    )?;
-    put_row_report(notes, &intake.counts(), &intake.figures())?;
-    add_full(notes, full)?;
-    Ok(())
 }
 
 /// The session behind the starts. A configuration at fault is told before a file is opened.
@@ -155,56 +79,84 @@ pub(crate) fn begun<R: Files + AllocGlobal, C: Clock, W: Sink>(
     started(&alloc, config, dialect, files)
 }
 
-/// The session with the configuration of its store, where all went well.
-pub(crate) fn kept(
-    session: Session<Global>,
-    config: Config,
-    played: Result<(), Stop>,
-) -> Result<(Session<Global>, Config), Stop> {
-    match played {
-        Ok(()) => Ok((session, config)),
-        Err(stop) => {
-            // The program ends here, and all memory goes back at once.
-            let _session = ManuallyDrop::new(session);
-            Err(stop)
-        }
+// The logs that are asked for, led by the rules, of a server that was set up so.
+fn ruled<'a>(setup: &'a Setup, rhythm: Rhythm, asked: &'a WatchOpening) -> Scripts<'a> {
+    Scripts {
+        config: &setup.config,
+        dialect: asked.manner.dialect,
+        starts: asked.starts.as_slice(),
+        names: asked.logs.as_slice(),
+        material: Material::Logs { setup, rhythm },
     }
 }
 
-// The same where the rules alone lead.
-fn with_rules<R: Files + AllocGlobal, C: Clock, W: Sink>(
+// The published traces that are asked for, of a cache with this configuration.
+fn rows<'a>(config: &'a Config, asked: &'a CsvOpening) -> Scripts<'a> {
+    Scripts {
+        config,
+        dialect: asked.manner.dialect,
+        starts: asked.starts.as_slice(),
+        names: asked.traces.as_slice(),
+        material: Material::Rows {
+            rhythm: asked.rhythm,
+            sample: asked.sample,
+        },
+    }
+}
+
+// The server's setup. What cannot be followed of it goes behind `notes`.
+fn told_setup<R: Files + AllocGlobal>(
     rt: &R,
-    asked: WatchOpening,
-    rhythm: Rhythm,
+    asked: &WatchOpening,
+    notes: &mut Vec<u8>,
+) -> Result<Setup, Stop> {
+    let setup = setup_of(rt, asked.settings.as_str(), asked.factor)?;
+    put_unfollowed(notes, &setup.unfollowed)?;
+    Ok(setup)
+}
+
+// Adds where a script fills the tree, if it does, and where the session stands, where node 0 is not in front of the
+// first step.
+fn add_stood(
+    notes: &mut Vec<u8>,
+    full: Option<Full>,
+    at: Option<OpenedAt>,
+) -> Result<(), AllocError> {
+    add_full(notes, full)?;
+    add_place(notes, at)
+}
+
+// The session on scripts at the place that is asked for, if it is there.
+#[tactic(auto, using(crate::proofs::Grows::scripted_on))]
+fn placed_in<R: Files + AllocGlobal, C: Clock, W: Sink>(
+    rt: &R,
+    scripts: &Scripts<'_>,
+    standing: &Option<Standing>,
     notes: &mut Vec<u8>,
     progress: &Progress<C, W>,
-) -> Result<(Session<Global>, Config), Stop> {
-    let WatchOpening {
-        manner,
-        starts,
-        logs,
-        settings,
-        factor,
-        ..
-    } = asked;
-    let setup = setup_of(rt, settings.as_str(), factor)?;
-    put_unfollowed(notes, &setup.unfollowed)?;
-    let config = setup.config;
-    let mut intake = Intake::open(rt.alloc(), setup, rhythm, ALL, None)?;
-    progress.expect(rt, starts.as_slice());
-    progress.expect(rt, logs.as_slice());
-    match begun(rt, &config, manner.dialect, starts, progress) {
+) -> Result<Placed, Stop>
+    ensures { IfOk result (λ placed. IsScripted standing.now notes.new.items placed) }
+{
+    match settled_on(rt, scripts, standing, notes, progress) {
         Err(stop) => Err(stop),
-        Ok(mut session) => {
-            let played = play_logs(
-                rt,
-                logs.as_slice(),
-                &mut session,
-                &mut intake,
-                notes,
-                progress,
-            );
-            kept(session, config, played)
+        Ok(Settled { placed, full }) => told_of(placed, full, notes),
+    }
+}
+
+// The same, with what is told of a session that is opened behind `notes`.
+fn told_of(placed: Placed, full: Option<Full>, notes: &mut Vec<u8>) -> Result<Placed, Stop>
+    ensures placed { IfOk result (λ told. told ≡ placed) }
+    ensures never { placed ≡ NeverLeft → notes.new ≡ notes.old }
+{
+    let Placed::There(opened) = placed else {
+        return Ok(Placed::NeverLeft);
+    };
+    match add_stood(notes, full, opened.at) {
+        Ok(()) => Ok(Placed::There(opened)),
+        Err(_) => {
+            // The program ends here, and all memory goes back at once.
+            let _opened = ManuallyDrop::new(opened);
+            Err(Stop::Memory)
         }
     }
 }
@@ -232,8 +184,11 @@ pub(crate) fn add_end(
     )
 }
 
-// The sample that is asked for, where one is. The key whose leaving is looked for is in it.
-fn sampling_for(alloc: Global, asked: &WatchOpening) -> Result<Option<Sampling<Global>>, Stop> {
+/// The sample that is asked for, where one is. The key whose leaving is looked for is in it.
+pub(crate) fn sampling_for(
+    alloc: Global,
+    asked: &WatchOpening,
+) -> Result<Option<Sampling<Global>>, Stop> {
     match sampling_of(alloc, asked.sampled.sample, asked.sampled.kept.as_slice())? {
         None => Ok(None),
         Some(mut sampling) => {
@@ -279,8 +234,8 @@ fn limited(
     }
 }
 
-// The logs that are asked for, which lead, of a server with this setup, and the sample of them.
-fn led<'a>(
+/// The logs that are asked for, which lead, of a server with this setup, and the sample of them.
+pub(crate) fn led<'a>(
     setup: &'a Setup,
     coverage: Coverage,
     sampling: &'a Option<Sampling<Global>>,
@@ -297,43 +252,8 @@ fn led<'a>(
     }
 }
 
-/// What the logs become. Where the log leads, that is the last life of the server in parts, if it may be; or the life
-/// that is asked for, from its begin on.
-pub(crate) fn with_logs<R: Files + AllocGlobal, C: Clock, W: Sink>(
-    rt: &R,
-    asked: WatchOpening,
-    in_parts: bool,
-    notes: &mut Vec<u8>,
-    progress: &Progress<C, W>,
-) -> Result<Traced, Stop> {
-    match asked.leader {
-        Leader::Rules(rhythm) => match with_rules(rt, asked, rhythm, notes, progress) {
-            Err(stop) => Err(stop),
-            Ok((session, config)) => Ok(Traced::whole(session, config)),
-        },
-        Leader::Log { anyway } => {
-            let (setup, coverage) = leading_setup(
-                rt,
-                asked.settings.as_str(),
-                asked.factor,
-                anyway,
-                notes,
-            )?;
-            let sampling = sampling_for(rt.alloc(), &asked)?;
-            let logs = led(&setup, coverage, &sampling, &asked);
-            if in_parts && asked.life.is_none() {
-                return traced_in_parts(rt, &logs, notes, progress);
-            }
-            match from_begin(rt, &logs, asked.life, notes, progress) {
-                Err(stop) => Err(stop),
-                Ok(Opened { session, .. }) => Ok(Traced::whole(session, setup.config)),
-            }
-        }
-    }
-}
-
 // The session on the logs at the place that is asked for, if it is there.
-#[tactic(auto, using(crate::proofs::Places::placed_by_log))]
+#[tactic(auto, using(crate::proofs::Places::placed_by_log, crate::proofs::Places::placed_by_rules))]
 fn placed_as<R: Files + AllocGlobal, C: Clock, W: Sink>(
     rt: &R,
     asked: WatchOpening,
@@ -343,10 +263,11 @@ fn placed_as<R: Files + AllocGlobal, C: Clock, W: Sink>(
     ensures { IfOk result (λ placed. IsPlacedBy asked.leader asked.standing notes.new.items placed) }
 {
     match asked.leader {
-        Leader::Rules(rhythm) => match with_rules(rt, asked, rhythm, notes, progress) {
-            Err(stop) => Err(stop),
-            Ok((session, _)) => Ok(Placed::There(unled(rt.alloc(), session))),
-        },
+        Leader::Rules(rhythm) => {
+            let setup = told_setup(rt, &asked, notes)?;
+            let scripts = ruled(&setup, rhythm, &asked);
+            placed_in(rt, &scripts, &asked.standing, notes, progress)
+        }
         Leader::Log { anyway } => {
             let (setup, coverage) = leading_setup(
                 rt,
@@ -362,39 +283,17 @@ fn placed_as<R: Files + AllocGlobal, C: Clock, W: Sink>(
     }
 }
 
-/// The session behind what the published traces become, and the configuration of its store.
-pub(crate) fn with_rows<R: Files + AllocGlobal, C: Clock, W: Sink>(
+// The session on what the published traces become, at the place that is asked for, if it is there.
+fn placed_on_rows<R: Files + AllocGlobal, C: Clock, W: Sink>(
     rt: &R,
-    asked: CsvOpening,
+    asked: &CsvOpening,
     notes: &mut Vec<u8>,
     progress: &Progress<C, W>,
-) -> Result<(Session<Global>, Config), Stop> {
-    let CsvOpening {
-        config,
-        manner,
-        starts,
-        traces,
-        rhythm,
-        sample,
-    } = asked;
-    let config = sampled(&config, sample, notes)?;
-    let mut intake = intake_of(rt.alloc(), &config, rhythm, sample)?;
-    progress.expect(rt, starts.as_slice());
-    progress.expect(rt, traces.as_slice());
-    match begun(rt, &config, manner.dialect, starts, progress) {
-        Err(stop) => Err(stop),
-        Ok(mut session) => {
-            let played = play_rows(
-                rt,
-                traces.as_slice(),
-                &mut session,
-                &mut intake,
-                notes,
-                progress,
-            );
-            kept(session, config, played)
-        }
-    }
+) -> Result<Placed, Stop>
+    ensures { IfOk result (λ placed. IsScripted asked.now.standing notes.new.items placed) }
+{
+    let config = sampled(&asked.config, asked.sample, notes)?;
+    placed_in(rt, &rows(&config, asked), &asked.standing, notes, progress)
 }
 
 // What is written in front of the answers, in this manner, of a session that stands there.
@@ -411,8 +310,8 @@ fn greeting_of(alloc: Global, manner: Manner, at: Option<OpenedAt>) -> Result<Ve
     Ok(greeting)
 }
 
-// Answers the session that the reader gives, in the manner that is asked for.
-fn answer_opened<I: Read + Drop, O: Write + Drop>(
+/// Answers the session that the reader gives, in the manner that is asked for.
+pub(crate) fn answer_opened<I: Read + Drop, O: Write + Drop>(
     alloc: Global,
     opened: Opened,
     manner: Manner,
@@ -462,8 +361,8 @@ fn answered<I: Read + Drop, O: Write + Drop, E: Sink>(
 
 /// Plays the logs that are asked for, each step as a node, as they are read, and answers the session that the reader
 /// gives at the place that is asked for. What is told of the logs, where the tree is full, and where the session stands
-/// is told before it is read. Answers the exit status, and tells why where it is not 0. It is 1 where a key is asked for
-/// that never left, and then nothing is answered.
+/// is told before it is read. Answers the exit status, and tells why where it is not 0. It is 1 where a key is asked
+/// for that never left, and then nothing is answered.
 pub fn open_watch<
     R: Files + AllocGlobal,
     I: Read + Drop,
@@ -507,6 +406,7 @@ pub fn open_watch<
 
 /// Plays what the published traces become that are asked for, in the same way. A configuration at fault is told before
 /// a file is opened.
+#[tactic(auto, using(crate::proofs::Ends::placed_well, crate::proofs::Ends::placed_never, crate::proofs::Ends::placed_stopped))]
 pub fn open_csv<
     R: Files + AllocGlobal,
     I: Read + Drop,
@@ -516,26 +416,29 @@ pub fn open_csv<
     W: Sink,
 >(rt: &R, asked: CsvOpening, reader: I, writer: O, errors: &mut E, progress: &Progress<C, W>) -> u8
     ensures config { IfSome (fault_of asked.config) (λ fault. StopsBy (E.contents errors.old) (E.contents errors.new) (E.failures errors.old) (E.failures errors.new) result (stop_of_config fault)) }
-    ensures status { IsStatus result }
-    ensures ends { EndsNoted (E.contents errors.old) (E.contents errors.new) (E.failures errors.old) (E.failures errors.new) result }
+    ensures ends { EndsPlaced (sought_key asked.standing) (E.contents errors.old) (E.contents errors.new) (E.failures errors.old) (E.failures errors.new) result }
 {
     if let Some(fault) = fault_of(&asked.config) {
         return ended(Err(Stop::from(fault)), errors);
     }
     let manner = asked.manner;
     let mut notes = Vec::new(rt.alloc());
-    let opened = match with_rows(rt, asked, &mut notes, progress) {
-        Ok((session, _)) => Ok(unled(rt.alloc(), session)),
-        Err(stop) => Err(stop),
-    };
+    let placed = placed_on_rows(rt, &asked, &mut notes, progress);
     progress.end();
-    answered(
-        rt.alloc(),
-        opened,
-        notes.as_slice(),
-        manner,
-        reader,
-        writer,
-        errors,
-    )
+    match placed {
+        Err(stop) => ended(Err(stop), errors),
+        Ok(Placed::NeverLeft) => {
+            tell_bytes(errors, notes.as_slice());
+            1
+        }
+        Ok(Placed::There(opened)) => answered(
+            rt.alloc(),
+            Ok(opened),
+            notes.as_slice(),
+            manner,
+            reader,
+            writer,
+            errors,
+        ),
+    }
 }

@@ -2,6 +2,7 @@
 #![tactic(auto)]
 
 mod agreement;
+mod counting;
 pub mod direct;
 mod json;
 pub mod lives;
@@ -9,8 +10,10 @@ pub mod opening;
 mod parted;
 mod placed;
 pub mod program;
+mod replayed;
 pub mod report;
 pub mod ruled;
+mod scripted;
 mod starts;
 mod stopping;
 mod top;

@@ -139,8 +139,8 @@ pub(crate) fn server_of<R: Files + AllocGlobal>(
     )
 }
 
-// Of how many keys one is replayed: as it is asked for, or where a server has too many pages, of so many that the sample
-// goes in, with a note of that. None where all keys are.
+// Of how many keys one is replayed: as it is asked for, or where a server has too many pages, of so many that the
+// sample goes in, with a note of that. None where all keys are.
 fn sample_of(
     asked: Option<Sample>,
     pages: u64,
@@ -347,8 +347,8 @@ fn tell_gone_of<R: Files + AllocGlobal, I: Read + Drop, O: Write + Drop, C: Cloc
     sent(alloc, names, told, &mut outbox)
 }
 
-/// The status of logs that were asked so, where it is said whether all was seen that they were asked for. Where all went
-/// well the notes are told, and else why nothing more is.
+/// The status of logs that were asked so, where it is said whether all was seen that they were asked for. Where all
+/// went well the notes are told, and else why nothing more is.
 pub(crate) fn end_asking<E: Sink>(done: Result<bool, Stop>, notes: &[u8], errors: &mut E) -> u8
     ensures ends { EndsAsked (E.contents errors.old) (E.contents errors.new) (E.failures errors.old) (E.failures errors.new) result }
     ensures status { IfOk done (λ all_seen. all_seen ≡ true) → IsStatus result }

@@ -1,33 +1,34 @@
 //! `lrudb open`: traces are played, each step as a node, and then a session is answered at any of them.
-ghost use Rattle.std.specs.Prelude.{IfOk, IfSome};
-ghost use Rattle.rev_classes.specs.Limits.{IsWithinLimits, fault_of};
+ghost use Rattle.std.specs.Prelude.{◌≡◌, IfOk, IfSome, OnOk};
+ghost use Rattle.rev_classes.specs.Limits.{fault_of};
 ghost use Rattle.rev_messages.specs.Ends.{IsStatus, StopsBy};
 ghost use Rattle.rev_messages.specs.Stop.{stop_of_config};
-ghost use Rattle.rev_program.specs.Opening.{IsTrace, AreTraces, IsOpened, IsNoted};
-ghost use Rattle.rev_program.specs.Program.{EndsBehind};
+ghost use Rattle.rev_options.specs.Request.{sought_key};
+ghost use Rattle.rev_program.specs.Opening.{IsNoted, notes_text, with_full};
+ghost use Rattle.rev_program.specs.Program.{EndsBehind, EndsStood};
+ghost use Rattle.rev_program.specs.Scripted.{IsScripted};
 
+use crate::direct::answer_opened;
 use crate::json::run_as_json_on;
+use crate::placed::{Opened, Placed, add_place};
 use crate::program::{all_opened, run_on};
-use crate::starts::started;
-use crate::stopping::stop_of_trace;
+use crate::scripted::{Material, Scripts, Settled, settled_on};
 use itoa::Buffer;
-use rev_classes::{Config, fault_of};
+use rev_classes::fault_of;
 use rev_evidence::notes::LogNotes;
 use rev_messages::Stop;
 use rev_messages::ends::ended;
+use rev_messages::opened::OpenedAt;
 use rev_messages::progress::{Progress, ToldFile};
-use rev_messages::telling::tell_parts;
+use rev_messages::telling::tell_bytes;
 use rev_options::{Manner, Opening};
 use rev_output::Sink;
-use rev_plays::trace::{TraceEnd, play_trace};
 use rev_script::dialect::Dialect;
 use rev_script::duplex::Duplex;
 use rev_script::exchange::{Buffers, Exchange};
-use rev_script::source::FromRead;
 use rev_shell::run::Prompts;
 use rev_undotree::Session;
-use std::alloc::{Allocator, Global};
-use std::collections::VecDeque;
+use std::alloc::{AllocError, Global};
 use std::io::{Read, Write};
 use std::mem::ManuallyDrop;
 use std::rt::{Clock, Files};
@@ -39,85 +40,69 @@ pub struct Full {
     pub line: u64,
 }
 
-// Plays the steps of a trace, and tells where it fills the tree, if it does.
-fn play_file<A: Allocator + Clone, F: Read + Drop>(
-    alloc: &A,
-    session: &mut Session<A>,
-    dialect: Dialect,
-    name: String,
-    reader: F,
-) -> Result<Option<Full>, Stop>
-    ensures { IfOk result (λ full. IsTrace dialect (F.remaining reader) name session.old session.new full) }
+// Adds where the traces fill the tree, if they do.
+fn add_full(notes: &mut Vec<u8>, full: &Option<Full>) -> Result<(), AllocError>
+    ensures { OnOk result (notes.new.items ≡ with_full notes.old.items full.now) }
 {
-    let mut source = FromRead::new(reader);
-    match play_trace(alloc, session, dialect, &mut source) {
-        Ok(TraceEnd::Whole) => Ok(None),
-        Ok(TraceEnd::Full { line }) => Ok(Some(Full { file: name, line })),
-        Err(fault) => Err(stop_of_trace(fault, name)),
-    }
-}
-
-// Plays the steps of the traces, in order, and tells where they fill the tree, if they do. The first fault ends it.
-fn play_files<A: Allocator + Clone, F: Read + Drop>(
-    alloc: &A,
-    session: &mut Session<A>,
-    dialect: Dialect,
-    files: Vec<(String, F)>,
-) -> Result<Option<Full>, Stop>
-    ensures { IfOk result (λ full. AreTraces dialect F.remaining files.items session.old session.new full) }
-{
-    let mut rest = VecDeque::from_vec(files);
-    while let Some((name, reader)) = rest.pop_front() {
-        match play_file(alloc, session, dialect, name, reader) {
-            Err(stop) => return Err(stop),
-            Ok(Some(full)) => return Ok(Some(full)),
-            Ok(None) => {}
-        }
-    }
-    Ok(None)
-}
-
-// The session behind the starts and the traces, each a name and a reader, and where these fill its tree, if they do.
-fn with_traces<A: Allocator + Clone, F: Read + Drop>(
-    alloc: &A,
-    config: &Config,
-    dialect: Dialect,
-    starts: Vec<(String, F)>,
-    traces: Vec<(String, F)>,
-) -> Result<(Session<A>, Option<Full>), Stop>
-    requires { IsWithinLimits config.now }
-    ensures { IfOk result (λ opened. IsOpened dialect F.remaining config.entry.now starts.items traces.items opened.0 opened.1) }
-{
-    let mut session = match started(alloc, config, dialect, starts) {
-        Err(stop) => return Err(stop),
-        Ok(session) => session,
+    let Some(full) = full else {
+        return Ok(());
     };
-    match play_files(alloc, &mut session, dialect, traces) {
-        Ok(full) => Ok((session, full)),
-        Err(stop) => {
-            // The program ends here, and all memory goes back at once.
-            let _session = ManuallyDrop::new(session);
-            Err(stop)
-        }
+    let mut number = Buffer::new();
+    notes.extend_from_slice(b"lrudb: ")?;
+    notes.extend_from_slice(full.file.as_bytes())?;
+    notes.extend_from_slice(b": line ")?;
+    notes.extend_from_slice(number.format(full.line).as_bytes())?;
+    notes.extend_from_slice(
+        b": no room in the tree for this step and what follows; --start FILE plays any number of steps before the traces\n",
+    )
+}
+
+// What is told of a session on traces: where they fill the tree, if they do, and where it stands, where node 0 is not
+// in front of the first step.
+fn notes_of(alloc: Global, full: &Option<Full>, at: Option<OpenedAt>) -> Result<Vec<u8>, AllocError>
+    ensures { IfOk result (λ notes. notes.items ≡ notes_text full.now at) }
+{
+    let mut notes = Vec::new(alloc);
+    add_full(&mut notes, full)?;
+    add_place(&mut notes, at)?;
+    Ok(notes)
+}
+
+// Tells that, where there is something to tell.
+fn note<E: Sink>(full: &Option<Full>, at: Option<OpenedAt>, notes: &[u8], errors: &mut E)
+    requires { notes.now ≡ notes_text full.now at }
+    ensures { IsNoted (E.contents errors.old) (E.contents errors.new) (E.failures errors.old) (E.failures errors.new) full.now at }
+{
+    match (full, at) {
+        (None, None) => {}
+        _ => tell_bytes(errors, notes),
     }
 }
 
-// Tells where the traces fill the tree, if they do.
-fn note<E: Sink>(full: &Option<Full>, errors: &mut E)
-    ensures { IsNoted (E.contents errors.old) (E.contents errors.new) (E.failures errors.old) (E.failures errors.new) full.now }
+// Tells where the session stands, and answers it, in the manner that is asked for.
+fn answer_stood<I: Read + Drop, O: Write + Drop, E: Sink>(
+    alloc: Global,
+    opened: Opened,
+    full: &Option<Full>,
+    manner: Manner,
+    reader: I,
+    writer: O,
+    errors: &mut E,
+) -> u8
+    ensures status { IsStatus result }
+    ensures ends { EndsBehind (E.contents errors.old) (E.contents errors.new) (E.failures errors.old) (E.failures errors.new) result }
 {
-    if let Some(full) = full {
-        let mut number = Buffer::new();
-        let digits = number.format(full.line);
-        let parts = [
-            "lrudb: ",
-            full.file.as_str(),
-            ": line ",
-            digits,
-            ": no room in the tree for this step and what follows; --start FILE plays any number of steps before the traces\n",
-        ];
-        // There is nobody left to tell that this cannot be written.
-        let _ = tell_parts(errors, &parts);
+    let at = opened.at;
+    match notes_of(alloc, full, at) {
+        Err(_) => {
+            // The program ends here, and all memory goes back at once.
+            let _opened = ManuallyDrop::new(opened);
+            ended(Err(Stop::Memory), errors)
+        }
+        Ok(notes) => {
+            note(full, at, notes.as_slice(), errors);
+            ended(answer_opened(alloc, opened, manner, reader, writer), errors)
+        }
     }
 }
 
@@ -138,24 +123,6 @@ pub(crate) fn told_files<'p, R: Files, C, W>(
     Ok(files)
 }
 
-/// The files, opened in order, those of the starts first, and what `with_traces` makes of them.
-pub(crate) fn opened_with_traces<R: Files + AllocGlobal, C: Clock, W: Sink>(
-    rt: &R,
-    config: &Config,
-    dialect: Dialect,
-    starts: Vec<String>,
-    traces: Vec<String>,
-    progress: &Progress<C, W>,
-) -> Result<(Session<Global>, Option<Full>), Stop>
-    requires { IsWithinLimits config.now }
-{
-    progress.expect(rt, starts.as_slice());
-    progress.expect(rt, traces.as_slice());
-    let starts = told_files(rt, rt.alloc(), starts, progress)?;
-    let traces = told_files(rt, rt.alloc(), traces, progress)?;
-    with_traces(&rt.alloc(), config, dialect, starts, traces)
-}
-
 fn prompts_of(has_prompt: bool) -> Prompts {
     if has_prompt {
         Prompts::Shown
@@ -164,8 +131,8 @@ fn prompts_of(has_prompt: bool) -> Prompts {
     }
 }
 
-/// Answers the session that the reader gives, of which LF ends data as CR LF does, in the manner that is asked for. What
-/// a log tells of its nodes is told with it, and a greeting stands in front of the answers.
+/// Answers the session that the reader gives, of which LF ends data as CR LF does, in the manner that is asked for.
+/// What a log tells of its nodes is told with it, and a greeting stands in front of the answers.
 pub(crate) fn answer<I: Read + Drop, O: Write + Drop>(
     alloc: Global,
     session: Session<Global>,
@@ -202,9 +169,34 @@ pub(crate) fn answer<I: Read + Drop, O: Write + Drop>(
     }
 }
 
-/// Plays the traces that are asked for, and answers the session that the reader gives. A configuration at fault is told
-/// before a file is opened, and a file that cannot be opened before one is read. Traces that fill the tree are told of
-/// before the session is read. Answers the exit status, and tells why where it is not 0.
+// The traces that are asked for.
+fn traces_of(asked: &Opening) -> Scripts<'_> {
+    Scripts {
+        config: &asked.config,
+        dialect: asked.manner.dialect,
+        starts: asked.starts.as_slice(),
+        names: asked.traces.as_slice(),
+        material: Material::Traces,
+    }
+}
+
+// The session on the traces that are asked for, at the place that is asked for, if it is there.
+fn settled_traces<R: Files + AllocGlobal, C: Clock, W: Sink>(
+    rt: &R,
+    asked: &Opening,
+    notes: &mut Vec<u8>,
+    progress: &Progress<C, W>,
+) -> Result<Settled, Stop>
+    ensures { IfOk result (λ settled. IsScripted asked.now.standing notes.new.items settled.placed) }
+{
+    settled_on(rt, &traces_of(asked), &asked.standing, notes, progress)
+}
+
+/// Plays the traces that are asked for, and answers the session that the reader gives, at the place that is asked for.
+/// A configuration at fault is told before a file is opened, and a file that cannot be opened before one is read. Where
+/// the tree is full, and where the session stands, is told before it is read. Answers the exit status, and tells why
+/// where it is not 0. It is 1 where a key is asked for that never left, and then nothing is answered.
+#[tactic(auto, using(crate::proofs::Ends::stood_well, crate::proofs::Ends::stood_never))]
 pub fn open_traces<
     R: Files + AllocGlobal,
     I: Read + Drop,
@@ -214,27 +206,31 @@ pub fn open_traces<
     W: Sink,
 >(rt: &R, asked: Opening, reader: I, writer: O, errors: &mut E, progress: &Progress<C, W>) -> u8
     ensures config { IfSome (fault_of asked.config) (λ fault. StopsBy (E.contents errors.old) (E.contents errors.new) (E.failures errors.old) (E.failures errors.new) result (stop_of_config fault)) }
-    ensures status { IsStatus result }
-    ensures ends { EndsBehind (E.contents errors.old) (E.contents errors.new) (E.failures errors.old) (E.failures errors.new) result }
+    ensures ends { EndsStood (sought_key asked.standing) (E.contents errors.old) (E.contents errors.new) (E.failures errors.old) (E.failures errors.new) result }
 {
-    let Opening {
-        config,
-        manner,
-        starts,
-        traces,
-    } = asked;
-    if let Some(fault) = fault_of(&config) {
+    if let Some(fault) = fault_of(&asked.config) {
         return ended(Err(Stop::from(fault)), errors);
     }
-    let opened = opened_with_traces(rt, &config, manner.dialect, starts, traces, progress);
+    let manner = asked.manner;
+    let mut notes = Vec::new(rt.alloc());
+    let settled = settled_traces(rt, &asked, &mut notes, progress);
     progress.end();
-    match opened {
+    match settled {
         Err(stop) => ended(Err(stop), errors),
-        Ok((session, full)) => {
-            note(&full, errors);
-            let log = LogNotes::none(rt.alloc());
-            let answered = answer(rt.alloc(), session, &log, b"", manner, reader, writer);
-            ended(answered, errors)
-        }
+        Ok(Settled { placed, full }) => match placed {
+            Placed::NeverLeft => {
+                tell_bytes(errors, notes.as_slice());
+                1
+            }
+            Placed::There(opened) => answer_stood(
+                rt.alloc(),
+                opened,
+                &full,
+                manner,
+                reader,
+                writer,
+                errors,
+            ),
+        },
     }
 }

@@ -1,145 +1,347 @@
-//! Logs of any length, of which a report tells: they are replayed in parts, and what is counted of each is added up.
+//! Traces of any length, of which a report tells: they are played in parts, and what is counted of each is added up.
 ghost use Rattle.std.specs.Prelude.{◌≡◌};
 
 use crate::agreement::copies;
+use crate::counting::Counting;
 use crate::direct::begun;
+use crate::opening::told_files;
 use crate::placed::LedLogs;
-use rev_classes::Config;
-use rev_explain::clock_at;
-use rev_figures::Sums;
+use crate::starts::started;
+use crate::stopping::stop_of_trace;
+use rev_classes::{Config, fault_of};
+use rev_import_commands::files::copied;
 use rev_import_commands::import::{all_opened, name_in};
+use rev_import_commands::imported::{Feed, ImportedScript};
 use rev_import_commands::leading::stop_of_replay;
 use rev_messages::Stop;
 use rev_messages::progress::Progress;
+use rev_options::{Opening, WhatIf};
 use rev_output::Sink;
-use rev_replay::fault::ReplayFault;
-use rev_replay::heard::{Heard, Listener};
+use rev_plays::quiet::TraceFault;
 use rev_replay::notes::put_life;
-use rev_replay::parts::{Parted, replay_in_parts};
-use rev_undotree::{NodeId, Session};
-use rev_watch::event::Timestamp;
+use rev_replay::parts::{LogParts, PartEnd as LogPartEnd};
+use rev_rules::parts::{PartEnd, ScriptParts};
+use rev_script::dialect::Dialect;
+use rev_script::source::{FromRead, Source};
+use rev_undotree::Session;
 use std::alloc::{AllocError, Global};
+use std::collections::VecDeque;
 use std::io;
+use std::io::Read;
 use std::mem::ManuallyDrop;
 use std::rt::{Clock, Files};
+use std::thread::Threads;
 
-/// A trace that was played.
+/// A trace that is played in parts.
 #[derive(Drop)]
 pub(crate) struct Traced {
     /// The steps of its last part, a node for each.
     pub(crate) session: Session<Global>,
     /// The configuration of the session's store.
     pub(crate) config: Config,
-    /// The figures of the parts in front of that, where there are some.
-    pub(crate) sums: Option<Sums<Global>>,
+    /// What is counted of the parts in front of that.
+    pub(crate) counting: Counting,
 }
 
 impl Traced {
-    /// A trace in one part.
-    pub(crate) fn whole(session: Session<Global>, config: Config) -> Traced {
-        Traced {
-            session,
-            config,
-            sums: None,
+    /// A trace of which no step is played; it begins where the session stands, and is tried with these other settings.
+    pub(crate) fn begin(
+        session: Session<Global>,
+        config: Config,
+        alloc: Global,
+        others: &[WhatIf],
+    ) -> Result<Traced, Stop> {
+        match Counting::open(alloc, config, others) {
+            Ok(counting) => Ok(Traced {
+                session,
+                config,
+                counting,
+            }),
+            Err(_) => {
+                // The program ends here, and all memory goes back at once.
+                let _session = ManuallyDrop::new(session);
+                Err(Stop::Memory)
+            }
+        }
+    }
+
+    /// The trace, where all of it was played.
+    pub(crate) fn ended(self, played: Result<(), Stop>) -> Result<Traced, Stop> {
+        match played {
+            Ok(()) => Ok(self),
+            Err(stop) => {
+                // The program ends here, and all memory goes back at once.
+                let _trace = ManuallyDrop::new(self);
+                Err(stop)
+            }
+        }
+    }
+
+    // Counts a part, and lets its steps go.
+    fn pass<R: Threads + Sync>(&mut self, rt: &R) -> Result<(), Halt> {
+        match self.counting.add(rt, &mut self.session) {
+            Ok(()) => {
+                self.session.restart();
+                Ok(())
+            }
+            Err(_) => Err(Halt::Memory),
         }
     }
 }
 
-/// Who counts the parts of a server's life that are let go.
+// ---- scripts
+
+/// Why a script is not played on.
 #[derive(Drop)]
-struct Counting {
-    alloc: Global,
-    sums: Option<Sums<Global>>,
+enum Halt {
+    Script(TraceFault),
+    /// What is counted of it found no memory.
+    Memory,
 }
 
-impl Counting {
-    // Counts a part: the steps from the session's root to its current node.
-    fn add(&mut self, session: &mut Session<Global>) -> Result<(), AllocError>
-        ensures { session.new ≡ session.old }
-    {
-        if self.sums.is_none() {
-            self.sums = Some(Sums::new(clock_at(session, NodeId(0)), self.alloc)?);
-        }
-        match &mut self.sums {
-            Some(sums) => sums.add(session),
-            None => Ok(()),
-        }
-    }
-}
-
-impl Listener<Global> for Counting {
-    fn heard(&mut self, _heard: &Heard<'_, Global>) -> Result<(), ReplayFault> {
-        Ok(())
-    }
-
-    // What is told is the last life of the server.
-    fn restarted(&mut self, _at: Timestamp, _steps: u64) -> Result<(), ReplayFault> {
-        self.sums = None;
-        Ok(())
-    }
-
-    fn passes(&mut self, session: &mut Session<Global>) -> Result<(), ReplayFault> {
-        match self.add(session) {
-            Ok(()) => Ok(()),
-            Err(refused) => Err(ReplayFault::from(refused)),
-        }
-    }
-}
-
-/// Replays the logs, behind the starts, in parts. What is told is the last life of the server.
-pub(crate) fn traced_in_parts<R: Files + AllocGlobal, C: Clock, W: Sink>(
+// Plays a script in parts, behind what was played.
+fn play_parts<R: Threads + Sync, S: Source>(
     rt: &R,
-    logs: &LedLogs<'_>,
-    notes: &mut Vec<u8>,
+    trace: &mut Traced,
+    parts: &mut ScriptParts<S, Global>,
+) -> Result<(), Halt> {
+    for _ in 0..u64::MAX {
+        match parts.play_part(&mut trace.session) {
+            Ok(PartEnd::Whole) => return Ok(()),
+            Ok(PartEnd::Full) => trace.pass(rt)?,
+            Err(fault) => return Err(Halt::Script(fault)),
+        }
+    }
+    Err(Halt::Script(TraceFault::TooLong))
+}
+
+// Why nothing more is played of a script of this name.
+fn stop_of(halt: Halt, name: String) -> Stop {
+    match halt {
+        Halt::Script(fault) => stop_of_trace(fault, name),
+        Halt::Memory => Stop::Memory,
+    }
+}
+
+// Plays the scripts of the files in parts, in their order. The first fault ends it.
+fn play_files<R: Threads + Sync + AllocGlobal, F: Read + Drop>(
+    rt: &R,
+    trace: &mut Traced,
+    dialect: Dialect,
+    files: Vec<(String, F)>,
+) -> Result<(), Stop> {
+    let mut rest = VecDeque::from_vec(files);
+    while let Some((name, file)) = rest.pop_front() {
+        let mut parts = ScriptParts::over(rt.alloc(), dialect, FromRead::new(file));
+        match play_parts(rt, trace, &mut parts) {
+            Ok(()) => {}
+            Err(halt) => return Err(stop_of(halt, name)),
+        }
+    }
+    Ok(())
+}
+
+/// Plays the scripts that are asked for in parts, behind their starts. All files are opened before one is read.
+pub(crate) fn traced_scripts<R: Files + Threads + Sync + AllocGlobal, C: Clock, W: Sink>(
+    rt: &R,
+    asked: Opening,
+    others: &[WhatIf],
     progress: &Progress<C, W>,
 ) -> Result<Traced, Stop> {
+    let Opening {
+        config,
+        manner,
+        starts,
+        traces,
+        ..
+    } = asked;
+    if let Some(fault) = fault_of(&config) {
+        return Err(Stop::from(fault));
+    }
     let alloc = rt.alloc();
-    let config = logs.server.setup.config;
-    progress.expect(rt, logs.starts);
-    progress.expect(rt, logs.names);
-    let files = all_opened(rt, alloc, logs.names, io::empty(), progress)?;
-    let starts = copies(alloc, logs.starts)?;
-    match begun(rt, &config, logs.dialect, starts, progress) {
+    progress.expect(rt, starts.as_slice());
+    progress.expect(rt, traces.as_slice());
+    let starts = told_files(rt, alloc, starts, progress)?;
+    let traces = told_files(rt, alloc, traces, progress)?;
+    let session = started(&alloc, &config, manner.dialect, starts)?;
+    match Traced::begin(session, config, alloc, others) {
         Err(stop) => Err(stop),
-        Ok(session) => {
-            let mut counting = Counting { alloc, sums: None };
-            let played = replay_in_parts(
-                alloc,
-                logs.server,
-                logs.sampling,
-                session,
-                files,
-                &mut counting,
-                notes,
-            );
-            match played {
-                Err((place, fault)) => {
-                    Err(stop_of_replay(alloc, fault, name_in(logs.names, place)))
-                }
-                Ok(parted) => traced_by(parted, config, counting.sums, notes),
+        Ok(mut trace) => {
+            let played = play_files(rt, &mut trace, manner.dialect, traces);
+            trace.ended(played)
+        }
+    }
+}
+
+/// Plays the script of what is fed in parts, behind what was played.
+pub(crate) fn play_feed<R: Threads + Sync + AllocGlobal, T: Feed + Drop>(
+    rt: &R,
+    trace: &mut Traced,
+    feed: T,
+) -> Result<(), Stop> {
+    let alloc = rt.alloc();
+    let mut script = ImportedScript::new(alloc, feed);
+    let mut parts = ScriptParts::over(alloc, Dialect::CrLf, FromRead::new(&mut script));
+    let played = play_parts(rt, trace, &mut parts);
+    let _source = parts.into_source();
+    match played {
+        Ok(()) => Ok(()),
+        Err(halt) => {
+            let name = copied(alloc, script.name())?;
+            match script.into_stop() {
+                Some(stop) => Err(stop),
+                None => Err(stop_of(halt, name)),
             }
         }
     }
 }
 
-// The trace of a replay in parts. How many lives the server had goes behind `notes`.
-fn traced_by(
-    parted: Parted<Global>,
+// ---- logs that lead
+
+// Counts a part of logs, and lets its steps go.
+fn count_logs<R: Threads + Sync, F: Read + Drop>(
+    rt: &R,
+    parts: &mut LogParts<'_, F, Global>,
+    counting: &mut Counting,
+) -> Result<(), Stop> {
+    count_verdicts(parts, counting)?;
+    parts.show(counting)?;
+    counting.feed(rt, parts.session())?;
+    parts.let_go();
+    Ok(())
+}
+
+// Counts what tells that keys left in a part of logs.
+fn count_verdicts<F: Read + Drop>(
+    parts: &LogParts<'_, F, Global>,
+    counting: &mut Counting,
+) -> Result<(), AllocError> {
+    let verdicts = parts.verdicts(counting.alloc())?;
+    counting.add_verdicts(verdicts.as_slice())
+}
+
+// Adds of how many lives of the server the last one is told, and which lines of the logs were left out.
+fn add_uncovered<F: Read + Drop>(
+    uncovered: &mut Vec<u8>,
+    parts: &LogParts<'_, F, Global>,
+) -> Result<(), AllocError> {
+    let lives = parts.lives();
+    put_life(uncovered, lives, lives)?;
+    parts.put_left_out(uncovered)
+}
+
+// Replays the next part of logs of these names. What was counted of another life of the server is counted no more.
+fn play_part<F: Read + Drop>(
+    names: &[String],
+    parts: &mut LogParts<'_, F, Global>,
+    counting: &mut Counting,
+) -> Result<LogPartEnd, Stop> {
+    match parts.play_part() {
+        Err((place, fault)) => {
+            let name = name_in(names, place);
+            Err(stop_of_replay(counting.alloc(), fault, name))
+        }
+        Ok(end) => {
+            if parts.take_restart() {
+                counting.begin_anew()?;
+            }
+            Ok(end)
+        }
+    }
+}
+
+// Replays logs of these names in parts, up to the last one, which is not let go. What is counted is of the last life of
+// the server. What of the logs is not looked at goes behind `uncovered`.
+fn play_logs<R: Threads + Sync, F: Read + Drop>(
+    rt: &R,
+    names: &[String],
+    parts: &mut LogParts<'_, F, Global>,
+    counting: &mut Counting,
+    uncovered: &mut Vec<u8>,
+) -> Result<(), Stop> {
+    for _ in 0..u64::MAX {
+        match play_part(names, parts, counting)? {
+            LogPartEnd::Full => count_logs(rt, parts, counting)?,
+            LogPartEnd::Whole => {
+                count_verdicts(parts, counting)?;
+                add_uncovered(uncovered, parts)?;
+                return Ok(());
+            }
+        }
+    }
+    Err(Stop::TooLong)
+}
+
+// The last part of logs that were replayed. What is told of the logs goes behind `notes`.
+fn finished<F: Read + Drop>(
+    parts: LogParts<'_, F, Global>,
     config: Config,
-    sums: Option<Sums<Global>>,
+    counting: Counting,
     notes: &mut Vec<u8>,
 ) -> Result<Traced, Stop> {
-    let Parted { session, lives } = parted;
-    match put_life(notes, lives, lives) {
-        Ok(()) => Ok(Traced {
+    match parts.finish(notes) {
+        Ok(session) => Ok(Traced {
             session,
             config,
-            sums,
+            counting,
         }),
         Err(_) => {
             // The program ends here, and all memory goes back at once.
-            let _session = ManuallyDrop::new(session);
+            let _counting = ManuallyDrop::new(counting);
             Err(Stop::Memory)
         }
+    }
+}
+
+// Replays logs of these names in parts, of a server with this configuration.
+fn replayed<R: Threads + Sync + AllocGlobal, F: Read + Drop>(
+    rt: &R,
+    names: &[String],
+    config: Config,
+    parts: LogParts<'_, F, Global>,
+    counting: Counting,
+    notes: &mut Vec<u8>,
+    uncovered: &mut Vec<u8>,
+) -> Result<Traced, Stop> {
+    let (mut parts, mut counting) = (parts, counting);
+    match play_logs(rt, names, &mut parts, &mut counting, uncovered) {
+        Ok(()) => finished(parts, config, counting, notes),
+        Err(stop) => {
+            // The program ends here, and all memory goes back at once.
+            let _parts = ManuallyDrop::new(parts);
+            let _counting = ManuallyDrop::new(counting);
+            Err(stop)
+        }
+    }
+}
+
+/// Replays the logs, behind the starts, in parts. What is counted is of the last life of the server. What of the logs
+/// is not looked at goes behind `uncovered`.
+pub(crate) fn traced_logs<R: Files + Threads + Sync + AllocGlobal, C: Clock, W: Sink>(
+    rt: &R,
+    logs: &LedLogs<'_>,
+    others: &[WhatIf],
+    notes: &mut Vec<u8>,
+    uncovered: &mut Vec<u8>,
+    progress: &Progress<C, W>,
+) -> Result<Traced, Stop> {
+    let alloc = rt.alloc();
+    let config = logs.server.setup.config;
+    let names = logs.names;
+    progress.expect(rt, logs.starts);
+    progress.expect(rt, names);
+    let files = all_opened(rt, alloc, names, io::empty(), progress)?;
+    let starts = copies(alloc, logs.starts)?;
+    let session = begun(rt, &config, logs.dialect, starts, progress)?;
+    match LogParts::open(alloc, logs.server, logs.sampling, session, files) {
+        Err(fault) => Err(stop_of_replay(alloc, fault, name_in(names, 0))),
+        Ok(parts) => match Counting::open(alloc, config, others) {
+            Ok(counting) => replayed(rt, names, config, parts, counting, notes, uncovered),
+            Err(_) => {
+                // The program ends here, and all memory goes back at once.
+                let _parts = ManuallyDrop::new(parts);
+                Err(Stop::Memory)
+            }
+        },
     }
 }

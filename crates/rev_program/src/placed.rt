@@ -3,7 +3,8 @@ ghost use Rattle.std.specs.Prelude.{◌≡◌, Some, IfOk, OnOk};
 ghost use Rattle.rev_classes.specs.Limits.{IsWithinLimits};
 ghost use Rattle.rev_evidence.specs.Notes.{no_notes};
 ghost use Rattle.rev_options.specs.Request.{key_until};
-ghost use Rattle.rev_program.specs.Placed.{IsGrown, IsNowhere, IsPlaced, IsPlacedAt, LooksFor, Opens, OpensAt, stood_behind, with_never};
+ghost use Rattle.rev_program.specs.Opening.{with_place};
+ghost use Rattle.rev_program.specs.Placed.{IsGrown, IsNowhere, IsPlaced, IsPlacedAt, LooksFor, Opens, OpensAt, by_logs, stood_behind, with_never};
 ghost use Rattle.rev_replay.specs.Seeking.{IsPlaceOf, plain_sought};
 
 use crate::agreement::copies;
@@ -41,14 +42,16 @@ pub(crate) struct Opened {
     pub(crate) at: Option<OpenedAt>,
 }
 
-/// A session that no log led to, which stands behind all that was played.
-pub(crate) fn unled(alloc: Global, session: Session<Global>) -> Opened
-    ensures { result.log ≡ no_notes }
+/// A session that no log led to, which stands there.
+pub(crate) fn unled(alloc: Global, session: Session<Global>, at: Option<OpenedAt>) -> Opened
+    ensures log { result.log ≡ no_notes }
+    ensures session { result.session ≡ session }
+    ensures at { result.at ≡ at }
 {
     Opened {
         session,
         log: LogNotes::none(alloc),
-        at: None,
+        at,
     }
 }
 
@@ -116,6 +119,20 @@ fn opened_at(grown: &Grown<Global>, steps: u64) -> OpenedAt {
     }
 }
 
+/// Adds where the session stands, where node 0 is not in front of the first step.
+pub(crate) fn add_place(notes: &mut Vec<u8>, at: Option<OpenedAt>) -> Result<(), AllocError>
+    ensures { OnOk result (notes.new.items ≡ with_place notes.old.items at) }
+{
+    match at {
+        None => Ok(()),
+        Some(at) => {
+            notes.extend_from_slice(b"lrudb: ")?;
+            put_opened(notes, at)?;
+            notes.extend_from_slice(b"\n")
+        }
+    }
+}
+
 // Adds which life of the server the tree is of, where it has no room for what follows, and where the session stands.
 fn add_told(
     alloc: Global,
@@ -127,14 +144,7 @@ fn add_told(
 ) -> Result<(), AllocError> {
     put_life(notes, life, grown.lives)?;
     add_end(alloc, notes, names, grown.full)?;
-    match at {
-        None => Ok(()),
-        Some(at) => {
-            notes.extend_from_slice(b"lrudb: ")?;
-            put_opened(notes, at)?;
-            notes.extend_from_slice(b"\n")
-        }
-    }
+    add_place(notes, at)
 }
 
 // The session with the tree of a life, and what is told of it behind `notes`.
@@ -236,8 +246,8 @@ fn stand(
     finished(alloc, notes, names, grown, spot.life, at)
 }
 
-// The first of the logs that is no file, and so can be read once, if there is one.
-fn read_once<'a, R: Files>(rt: &R, names: &'a [String]) -> Option<&'a str> {
+/// The first of these that is no file, and so can be read once, if there is one.
+pub(crate) fn read_once<'a, R: Files>(rt: &R, names: &'a [String]) -> Option<&'a str> {
     for name in names {
         match fs::metadata(rt, name.as_str()) {
             Ok(metadata) if metadata.is_file() => {}
@@ -295,8 +305,8 @@ fn at_end_of<R: Files + AllocGlobal, C: Clock, W: Sink>(
     from_begin(rt, logs, None, &mut known, progress)
 }
 
-// What is looked for in the logs.
-fn sought_of(alloc: Global, until: &Until) -> Result<Sought<Global>, Stop>
+/// What is looked for.
+pub(crate) fn sought_of(alloc: Global, until: &Until) -> Result<Sought<Global>, Stop>
     ensures { IfOk result (λ sought. LooksFor until.now (plain_sought sought)) }
 {
     match until {
@@ -325,7 +335,7 @@ pub(crate) enum Placed {
 
 // Adds that a key never left.
 fn add_never(notes: &mut Vec<u8>, word: &str) -> Result<(), AllocError>
-    ensures { OnOk result (notes.new.items ≡ with_never notes.old.items word.now) }
+    ensures { OnOk result (notes.new.items ≡ with_never by_logs notes.old.items word.now) }
 {
     notes.extend_from_slice(b"lrudb: ")?;
     notes.extend_from_slice(word.as_bytes())?;
@@ -425,8 +435,8 @@ fn at_place<R: Files + AllocGlobal, C: Clock, W: Sink>(
     }
 }
 
-/// The session on logs at the place that is asked for, if it is there; where none is asked for, behind the life that is,
-/// or behind the last one.
+/// The session on logs at the place that is asked for, if it is there; where none is asked for, behind the life that
+/// is, or behind the last one.
 pub(crate) fn placed_on<R: Files + AllocGlobal, C: Clock, W: Sink>(
     rt: &R,
     logs: &LedLogs<'_>,

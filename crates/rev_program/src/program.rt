@@ -422,7 +422,7 @@ fn program_with<
         (I.remaining reader) (O.contents writer.old) (O.contents writer.new) result }
     ensures placed { asks_import (map S.text words.now) ≡ false → asks_run (map S.text words.now) ≡ false → asks_lives (map S.text words.now) ≡ false → EndsSought (seeks (map S.text words.now)) (E.contents errors.old) (E.contents errors.new) (E.failures errors.old) (E.failures errors.new) result }
     ensures noted { asks_import (map S.text words.now) ≡ false → asks_run (map S.text words.now) ≡ false → asks_lives (map S.text words.now) ≡ false → seeks (map S.text words.now) ≡ false → EndsNoted (E.contents errors.old) (E.contents errors.new) (E.failures errors.old) (E.failures errors.new) result }
-    ensures behind { asks_import (map S.text words.now) ≡ false → asks_run (map S.text words.now) ≡ false → asks_lives (map S.text words.now) ≡ false → brings (map S.text words.now) ≡ false → EndsBehind (E.contents errors.old) (E.contents errors.new) (E.failures errors.old) (E.failures errors.new) result }
+    ensures behind { asks_import (map S.text words.now) ≡ false → asks_run (map S.text words.now) ≡ false → asks_lives (map S.text words.now) ≡ false → brings (map S.text words.now) ≡ false → seeks (map S.text words.now) ≡ false → EndsBehind (E.contents errors.old) (E.contents errors.new) (E.failures errors.old) (E.failures errors.new) result }
     ensures report { asks_report (map S.text words.now) ≡ true → EndsPlainly (E.contents errors.old) (E.contents errors.new) (E.failures errors.old) (E.failures errors.new) result }
     ensures lives { asks_lives (map S.text words.now) ≡ true → EndsAsked (E.contents errors.old) (E.contents errors.new) (E.failures errors.old) (E.failures errors.new) result }
 {
@@ -474,11 +474,11 @@ fn program_with<
 /// `why` is asked for a key that was never seen, or `open` where one is gone that never left.
 ///
 /// Answers go to `writer`. At status 0 nothing goes to `errors`, but what an import tells of itself, that of `open`
-/// too, what is told of traces that fill the tree, which commands of a run were malformed or refused, and what is to be
-/// known of logs that were asked of keys. At status 1 that goes there, too. At any other the text of the reason does,
-/// whole where no write to `errors` has failed. A report goes to its files, and only how the program was stopped is
-/// told of it. How far traces, imports and logs have come goes to `progress`, and nothing does where no word asks for
-/// it. The players of a recording wait for one another.
+/// too, what is told of traces that fill the tree and of where a session on them stands, which commands of a run were
+/// malformed or refused, and what is to be known of logs that were asked of keys. At status 1 that goes there, too. At
+/// any other the text of the reason does, whole where no write to `errors` has failed. A report goes to its files, and
+/// only how the program was stopped is told of it. How far traces, imports and logs have come goes to `progress`, and
+/// nothing does where no word asks for it. The players of a recording wait for one another.
 pub fn program<
     R: Files + Threads + Wait + Clock + Sync + AllocGlobal,
     S: AsStr,
@@ -495,7 +495,7 @@ pub fn program<
         (I.remaining reader) (O.contents writer.old) (O.contents writer.new) result }
     ensures placed { asks_import (map S.text words.now) ≡ false → asks_run (map S.text words.now) ≡ false → asks_lives (map S.text words.now) ≡ false → EndsSought (seeks (map S.text words.now)) (E.contents errors.old) (E.contents errors.new) (E.failures errors.old) (E.failures errors.new) result }
     ensures noted { asks_import (map S.text words.now) ≡ false → asks_run (map S.text words.now) ≡ false → asks_lives (map S.text words.now) ≡ false → seeks (map S.text words.now) ≡ false → EndsNoted (E.contents errors.old) (E.contents errors.new) (E.failures errors.old) (E.failures errors.new) result }
-    ensures behind { asks_import (map S.text words.now) ≡ false → asks_run (map S.text words.now) ≡ false → asks_lives (map S.text words.now) ≡ false → brings (map S.text words.now) ≡ false → EndsBehind (E.contents errors.old) (E.contents errors.new) (E.failures errors.old) (E.failures errors.new) result }
+    ensures behind { asks_import (map S.text words.now) ≡ false → asks_run (map S.text words.now) ≡ false → asks_lives (map S.text words.now) ≡ false → brings (map S.text words.now) ≡ false → seeks (map S.text words.now) ≡ false → EndsBehind (E.contents errors.old) (E.contents errors.new) (E.failures errors.old) (E.failures errors.new) result }
     ensures report { asks_report (map S.text words.now) ≡ true → EndsPlainly (E.contents errors.old) (E.contents errors.new) (E.failures errors.old) (E.failures errors.new) result }
     ensures lives { asks_lives (map S.text words.now) ≡ true → EndsAsked (E.contents errors.old) (E.contents errors.new) (E.failures errors.old) (E.failures errors.new) result }
     ensures progress { asks_progress (map S.text words.now) ≡ false → Keeps (P.contents progress.old) (P.contents progress.new) }

@@ -5,28 +5,27 @@ ghost use Rattle.rev_messages.specs.Stop.{stop_of_config};
 ghost use Rattle.rev_program.specs.Reporting.{played_fault};
 
 use crate::agreement::{agreement_of, copies};
-use crate::direct::{kept, with_logs, with_rows};
-use crate::opening::{Full, opened_with_traces};
-use crate::parted::Traced;
-use crate::trials::what_ifs;
+use crate::parted::{Traced, traced_scripts};
+use crate::replayed::{traced_logs_of, traced_rows};
 use rev_classes::{ClassTable, Config, ConfigFault, fault_of};
 use rev_comparisons::agreement::Agreement;
 use rev_comparisons::what_if::WhatIf;
 use rev_figures::Sums;
 use rev_import_commands::files::{cannot_write, rename, with_end};
-use rev_intake::report::put_part;
 use rev_intake::words::put_all_options;
 use rev_items::{Key, KeyFault};
 use rev_messages::Stop;
 use rev_messages::ends::ended;
 use rev_messages::progress::Progress;
-use rev_options::{Leader, Opening, Played, Reporting};
+use rev_options::{Leader, Played, Reporting, WhatIf as Asked};
 use rev_output::Sink;
-use rev_report::figures::{Figures, figures_of, figures_of_parts};
+use rev_report::evidence::LeftBy;
+use rev_report::figures::{ClockKind, Figures, figures_of, figures_of_parts};
 use rev_report::life::{Life, life_of};
 use rev_report::page::{Curves, Subject, curves_of, put_page};
 use rev_report::rows::{
-    RowsFailed, write_classes, write_left, write_lives, write_moves, write_queues, write_what_ifs,
+    RowsFailed, write_classes, write_evidence, write_left, write_lives, write_moves,
+    write_prefixes, write_queues, write_what_ifs,
 };
 use rev_undotree::Session;
 use std::alloc::{AllocError, Global};
@@ -55,94 +54,89 @@ impl Output {
     }
 }
 
+/// What is to be written: the name of the page, what the names of its tables begin with, if they are asked for, and the
+/// keys whose lives are told.
+#[derive(Clone, Copy)]
+struct Wanted<'a> {
+    out: &'a str,
+    data: Option<&'a String>,
+    keys: &'a [Key<Global>],
+}
+
 /// What is told of a trace beside its figures.
 #[derive(Drop)]
 struct Told {
     // the names of the traces
     names: Vec<String>,
-    config: Config,
+    clock_kind: ClockKind,
     // what was guessed or left out, a line each
     notes: Vec<u8>,
+    // what part of the trace is not looked at, a line each
+    uncovered: Vec<u8>,
     agreement: Option<Agreement>,
-    what_ifs: Vec<WhatIf>,
 }
 
-// Adds where the traces fill the tree, if they do.
-fn add_full(notes: &mut Vec<u8>, full: Option<Full>) -> Result<(), Stop> {
-    let Some(full) = full else {
-        return Ok(());
-    };
-    notes.extend_from_slice(full.file.as_bytes())?;
-    put_part(
-        notes,
-        b": line ",
-        full.line,
-        b": no room in the tree for this step and what follows; --start FILE plays any number of steps before the traces\n",
-    )?;
-    Ok(())
-}
-
-// The session behind the traces, and the configuration of its store.
-fn with_scripts<R: Files + AllocGlobal, C: Clock, W: Sink>(
-    rt: &R,
-    asked: Opening,
-    notes: &mut Vec<u8>,
-    progress: &Progress<C, W>,
-) -> Result<(Session<Global>, Config), Stop> {
-    let Opening {
-        config,
-        manner,
-        starts,
-        traces,
-    } = asked;
-    if let Some(fault) = fault_of(&config) {
-        return Err(Stop::from(fault));
-    }
-    match opened_with_traces(rt, &config, manner.dialect, starts, traces, progress) {
-        Err(stop) => Err(stop),
-        Ok((session, full)) => {
-            let told = add_full(notes, full);
-            kept(session, config, told)
-        }
+impl Told {
+    // Nothing but what is played.
+    fn of(alloc: Global, asked: &Played) -> Result<Told, AllocError> {
+        Ok(Told {
+            names: copies(alloc, names_of(asked))?,
+            clock_kind: clock_kind_of(asked),
+            notes: Vec::new(alloc),
+            uncovered: Vec::new(alloc),
+            agreement: None,
+        })
     }
 }
 
-// A trace that was played in one part.
-fn whole(played: Result<(Session<Global>, Config), Stop>) -> Result<Traced, Stop> {
-    match played {
-        Ok((session, config)) => Ok(Traced::whole(session, config)),
-        Err(stop) => Err(stop),
-    }
-}
-
-// What is played, in parts if it may be.
-fn traced_of<R: Files + AllocGlobal, C: Clock, W: Sink>(
+// What is played, and tried with other settings.
+fn traced_of<R: Files + Threads + Sync + AllocGlobal, C: Clock, W: Sink>(
     rt: &R,
     asked: Played,
-    in_parts: bool,
+    others: &[Asked],
     notes: &mut Vec<u8>,
+    uncovered: &mut Vec<u8>,
     progress: &Progress<C, W>,
 ) -> Result<Traced, Stop> {
     match asked {
-        Played::Traces(asked) => whole(with_scripts(rt, asked, notes, progress)),
-        Played::Logs(asked) => with_logs(rt, asked, in_parts, notes, progress),
-        Played::Rows(asked) => whole(with_rows(rt, asked, notes, progress)),
+        Played::Traces(asked) => traced_scripts(rt, asked, others, progress),
+        Played::Logs(asked) => traced_logs_of(rt, asked, others, notes, uncovered, progress),
+        Played::Rows(asked) => traced_rows(rt, asked, others, notes, progress),
     }
 }
 
-// The figures of a trace: of the last part, which the session has, and of those in front of it, where there are some.
+// The figures of a session, which has the last part of a trace, and of the parts in front of it, where there are some.
 fn figures_by(
     alloc: Global,
     session: &mut Session<Global>,
     sums: Option<Sums<Global>>,
     table: &ClassTable,
+    clock_kind: ClockKind,
 ) -> Result<Figures, AllocError> {
     match sums {
-        None => figures_of(alloc, session, table),
+        None => figures_of(alloc, session, table, clock_kind),
         Some(mut sums) => {
             sums.add(session)?;
-            figures_of_parts(alloc, sums, session, table)
+            figures_of_parts(alloc, sums, session, table, clock_kind)
         }
+    }
+}
+
+// The figures of a trace.
+fn figures_in(alloc: Global, trace: &mut Traced, clock_kind: ClockKind) -> Result<Figures, Stop> {
+    let table = table_of(&trace.config)?;
+    let sums = trace.counting.take_sums();
+    match figures_by(alloc, &mut trace.session, sums, &table, clock_kind) {
+        Ok(figures) => Ok(figures),
+        Err(_) => Err(Stop::Memory),
+    }
+}
+
+// What the clock of a trace counts.
+fn clock_kind_of(asked: &Played) -> ClockKind {
+    match asked {
+        Played::Logs(_) => ClockKind::Unix,
+        Played::Traces(_) | Played::Rows(_) => ClockKind::FromBegin,
     }
 }
 
@@ -251,10 +245,14 @@ fn add_data(
     curves: &Curves,
     lives: &[Life],
     what_ifs: &[WhatIf],
+    evidence: &[LeftBy],
 ) -> Result<(), AllocError> {
     let mut classes = Output::new(alloc, prefix, ".classes.csv")?;
     in_memory(write_classes(&mut classes.text, figures))?;
     outputs.push(classes)?;
+    let mut prefixes = Output::new(alloc, prefix, ".prefixes.csv")?;
+    in_memory(write_prefixes(&mut prefixes.text, figures))?;
+    outputs.push(prefixes)?;
     let mut left = Output::new(alloc, prefix, ".left.csv")?;
     in_memory(write_left(&mut left.text, figures, curves))?;
     outputs.push(left)?;
@@ -264,6 +262,11 @@ fn add_data(
     let mut queues = Output::new(alloc, prefix, ".queues.csv")?;
     in_memory(write_queues(&mut queues.text, figures, curves))?;
     outputs.push(queues)?;
+    if !evidence.is_empty() {
+        let mut told = Output::new(alloc, prefix, ".evidence.csv")?;
+        in_memory(write_evidence(&mut told.text, evidence))?;
+        outputs.push(told)?;
+    }
     if !lives.is_empty() {
         let mut keys = Output::new(alloc, prefix, ".keys.csv")?;
         in_memory(write_lives(&mut keys.text, figures, lives))?;
@@ -280,26 +283,28 @@ fn add_data(
 // The page, and the files of its tables and curves where they are asked for.
 fn outputs_of(
     alloc: Global,
-    session: &Session<Global>,
+    trace: &Traced,
     figures: &Figures,
     told: &Told,
-    out: &str,
-    data: &Option<String>,
-    keys: &[Key<Global>],
+    what_ifs: &[WhatIf],
+    asked: &Wanted<'_>,
 ) -> Result<Vec<Output>, AllocError> {
     let curves = curves_of(alloc, figures)?;
-    let lives = lives_of(alloc, session, figures, keys)?;
-    let options = options_of(alloc, &told.config)?;
+    let lives = lives_of(alloc, &trace.session, figures, asked.keys)?;
+    let options = options_of(alloc, &trace.config)?;
+    let evidence = trace.counting.evidence()?;
     let subject = Subject {
         names: told.names.as_slice(),
-        config: &told.config,
+        config: &trace.config,
         options: options.as_slice(),
+        uncovered: told.uncovered.as_slice(),
         notes: told.notes.as_slice(),
         agreement: told.agreement,
-        what_ifs: told.what_ifs.as_slice(),
+        evidence: evidence.as_slice(),
+        what_ifs,
     };
     let mut outputs = Vec::new(alloc);
-    let mut page = Output::new(alloc, out, "")?;
+    let mut page = Output::new(alloc, asked.out, "")?;
     put_page(
         &mut page.text,
         alloc,
@@ -309,7 +314,7 @@ fn outputs_of(
         lives.as_slice(),
     )?;
     outputs.push(page)?;
-    if let Some(prefix) = data {
+    if let Some(prefix) = asked.data {
         add_data(
             &mut outputs,
             alloc,
@@ -318,6 +323,7 @@ fn outputs_of(
             &curves,
             lives.as_slice(),
             subject.what_ifs,
+            subject.evidence,
         )?;
     }
     Ok(outputs)
@@ -361,6 +367,47 @@ fn put_files<R: Files>(rt: &R, alloc: Global, outputs: &[Output]) -> Result<(), 
     put
 }
 
+// The files of a report on a trace.
+fn report_on<R: Threads + Sync>(
+    rt: &R,
+    alloc: Global,
+    trace: &mut Traced,
+    told: &Told,
+    asked: &Wanted<'_>,
+) -> Result<Vec<Output>, Stop> {
+    let what_ifs = trace.counting.what_ifs(rt, &trace.session)?;
+    let figures = figures_in(alloc, trace, told.clock_kind)?;
+    match outputs_of(alloc, trace, &figures, told, what_ifs.as_slice(), asked) {
+        Ok(outputs) => Ok(outputs),
+        Err(_) => Err(Stop::Memory),
+    }
+}
+
+// The files of a report on what is played.
+fn report_of<R: Files + Threads + Sync + AllocGlobal, C: Clock, W: Sink>(
+    rt: &R,
+    played: Played,
+    others: &[Asked],
+    asked: &Wanted<'_>,
+    progress: &Progress<C, W>,
+) -> Result<Vec<Output>, Stop> {
+    let mut told = Told::of(rt.alloc(), &played)?;
+    told.agreement = agreement_with(rt, &played, progress)?;
+    let Told {
+        notes,
+        uncovered,
+        ..
+    } = &mut told;
+    match traced_of(rt, played, others, notes, uncovered, progress) {
+        Err(stop) => Err(stop),
+        Ok(trace) => {
+            // The program ends behind it, and all its memory goes back at once.
+            let mut trace = ManuallyDrop::new(trace);
+            report_on(rt, rt.alloc(), &mut *trace, &told, asked)
+        }
+    }
+}
+
 // Plays what is asked for, and writes the report of it.
 fn make_files<R: Files + Threads + Sync + AllocGlobal, C: Clock, W: Sink>(
     rt: &R,
@@ -375,31 +422,13 @@ fn make_files<R: Files + Threads + Sync + AllocGlobal, C: Clock, W: Sink>(
         keys: _,
         what_ifs: others,
     } = asked;
-    let alloc = rt.alloc();
-    let names = copies(alloc, names_of(&played))?;
-    let agreement = agreement_with(rt, &played, progress)?;
-    let mut notes = Vec::new(alloc);
-    // (what other settings would have done is counted of a session's tree)
-    let in_parts = others.is_empty();
-    let Traced {
-        session,
-        config,
-        sums,
-    } = traced_of(rt, played, in_parts, &mut notes, progress)?;
-    // The program ends behind it, and all its memory goes back at once.
-    let mut session = ManuallyDrop::new(session);
-    let what_ifs = what_ifs(rt, &*session, &config, others.as_slice())?;
-    let table = table_of(&config)?;
-    let figures = figures_by(alloc, &mut *session, sums, &table)?;
-    let told = Told {
-        names,
-        config,
-        notes,
-        agreement,
-        what_ifs,
-    };
-    let outputs = outputs_of(alloc, &*session, &figures, &told, out.as_str(), &data, keys)?;
-    put_files(rt, alloc, outputs.as_slice())
+    let data = data.as_ref();
+    let out = out.as_str();
+    let wanted = Wanted { out, data, keys };
+    match report_of(rt, played, others.as_slice(), &wanted, progress) {
+        Err(stop) => Err(stop),
+        Ok(outputs) => put_files(rt, rt.alloc(), outputs.as_slice()),
+    }
 }
 
 // Sees that the page can be written. A part of it is there then, of no byte.

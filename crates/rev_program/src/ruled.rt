@@ -7,11 +7,13 @@ use crate::direct::begun;
 use crate::lives::{all_told, end_asking, keys_of, reason_of};
 use crate::stopping::stop_of_trace;
 use rev_choices::Loss;
+use rev_classes::Config;
 use rev_import_commands::files::copied;
 use rev_import_commands::import::{all_opened, name_in};
 use rev_import_commands::imported::{Feed, ImportedScript, NamedTraces};
 use rev_import_commands::leading::stop_of_replay;
-use rev_import_commands::traces::{intake_of, sampled};
+use rev_import_commands::sampled::sampled;
+use rev_import_commands::traces::intake_of;
 use rev_intake::feed::RowFeed;
 use rev_intake::report::put_part;
 use rev_intake::row_report::put_row_report;
@@ -89,27 +91,41 @@ fn play_script<T: Feed + Drop, L: Listener<Global>>(
     }
 }
 
-// Plays what the published traces of the files become, in their order. The first fault ends it.
-fn play_rows<F: Read + Drop, L: Listener<Global>>(
-    alloc: Global,
-    rules: &mut Rules<Global>,
-    intake: &mut RowIntake,
-    names: &[String],
-    files: Vec<F>,
-    listener: &mut L,
-) -> Result<(), Stop> {
-    let traces = NamedTraces {
-        alloc,
-        names,
-        traces: RowFeed::new(alloc, intake, files),
-    };
-    play_script(alloc, rules, traces, listener)
-}
-
 // Adds how many steps were played.
 fn add_steps(notes: &mut Vec<u8>, rules: &Rules<Global>) -> Result<(), Stop> {
     put_part(notes, b"played: ", rules.steps(), b" steps\n")?;
     Ok(())
+}
+
+// The rules, behind the steps of the starts.
+fn rules_behind<R: Files + AllocGlobal, C: Clock, W: Sink>(
+    rt: &R,
+    config: &Config,
+    dialect: Dialect,
+    starts: Vec<String>,
+    progress: &Progress<C, W>,
+) -> Result<Rules<Global>, Stop> {
+    match begun(rt, config, dialect, starts, progress) {
+        Ok(session) => Ok(Rules::on(rt.alloc(), session)),
+        Err(stop) => Err(stop),
+    }
+}
+
+// Plays the scripts of these names, and adds how many steps were played.
+fn play_named<R: Files + AllocGlobal, I: Read + Drop, C: Clock, W: Sink, L: Listener<Global>>(
+    rt: &R,
+    rules: &mut Rules<Global>,
+    dialect: Dialect,
+    names: &[String],
+    reader: I,
+    listener: &mut L,
+    notes: &mut Vec<u8>,
+    progress: &Progress<C, W>,
+) -> Result<(), Stop> {
+    let alloc = rt.alloc();
+    let files = all_opened(rt, alloc, names, reader, progress)?;
+    play_files(alloc, rules, dialect, names, files, listener)?;
+    add_steps(notes, rules)
 }
 
 // Plays the scripts that are asked for, and tells who listens of each step.
@@ -128,18 +144,69 @@ fn play_scripts<R: Files + AllocGlobal, I: Read + Drop, C: Clock, W: Sink, L: Li
         traces,
         ..
     } = asked;
-    let alloc = rt.alloc();
     let names = traces.as_slice();
     progress.expect(rt, starts.as_slice());
     progress.expect(rt, names);
-    let session = begun(rt, &config, dialect, starts, progress)?;
-    let mut rules = Rules::on(alloc, session);
-    let files = all_opened(rt, alloc, names, reader, progress)?;
-    play_files(alloc, &mut rules, dialect, names, files, listener)?;
-    add_steps(notes, &rules)
+    match rules_behind(rt, &config, dialect, starts, progress) {
+        Err(stop) => Err(stop),
+        Ok(mut rules) => {
+            play_named(
+                rt, &mut rules, dialect, names, reader, listener, notes, progress,
+            )
+        }
+    }
 }
 
-// The same of published traces.
+// Plays what the published traces of these names become, in their order, and adds what is told of them and how many
+// steps were played. The first fault ends it.
+fn play_rows<R: Files + AllocGlobal, I: Read + Drop, C: Clock, W: Sink, L: Listener<Global>>(
+    rt: &R,
+    rules: &mut Rules<Global>,
+    intake: &mut RowIntake,
+    names: &[String],
+    reader: I,
+    listener: &mut L,
+    notes: &mut Vec<u8>,
+    progress: &Progress<C, W>,
+) -> Result<(), Stop> {
+    let alloc = rt.alloc();
+    let files = all_opened(rt, alloc, names, reader, progress)?;
+    let traces = NamedTraces {
+        alloc,
+        names,
+        traces: RowFeed::new(alloc, intake, files),
+    };
+    play_script(alloc, rules, traces, listener)?;
+    put_row_report(notes, &intake.counts(), &intake.figures())?;
+    add_steps(notes, rules)
+}
+
+// The same behind the steps of the starts.
+fn play_rows_behind<R: Files + AllocGlobal, I: Read + Drop, C: Clock, W: Sink, L: Listener<Global>>(
+    rt: &R,
+    config: &Config,
+    dialect: Dialect,
+    starts: Vec<String>,
+    intake: &mut RowIntake,
+    names: &[String],
+    reader: I,
+    listener: &mut L,
+    notes: &mut Vec<u8>,
+    progress: &Progress<C, W>,
+) -> Result<(), Stop> {
+    progress.expect(rt, starts.as_slice());
+    progress.expect(rt, names);
+    match rules_behind(rt, config, dialect, starts, progress) {
+        Err(stop) => Err(stop),
+        Ok(mut rules) => {
+            play_rows(
+                rt, &mut rules, intake, names, reader, listener, notes, progress,
+            )
+        }
+    }
+}
+
+// Plays the published traces that are asked for, and tells who listens of each step.
 fn play_traces<R: Files + AllocGlobal, I: Read + Drop, C: Clock, W: Sink, L: Listener<Global>>(
     rt: &R,
     asked: AskedTraces,
@@ -156,18 +223,25 @@ fn play_traces<R: Files + AllocGlobal, I: Read + Drop, C: Clock, W: Sink, L: Lis
         traces,
         ..
     } = asked;
-    let alloc = rt.alloc();
     let names = traces.as_slice();
     let config = sampled(&config, rows.sample, notes)?;
-    let mut intake = intake_of(alloc, &config, rows.rhythm, rows.sample)?;
-    progress.expect(rt, starts.as_slice());
-    progress.expect(rt, names);
-    let session = begun(rt, &config, dialect, starts, progress)?;
-    let mut rules = Rules::on(alloc, session);
-    let files = all_opened(rt, alloc, names, reader, progress)?;
-    play_rows(alloc, &mut rules, &mut intake, names, files, listener)?;
-    put_row_report(notes, &intake.counts(), &intake.figures())?;
-    add_steps(notes, &rules)
+    match intake_of(rt.alloc(), &config, rows.rhythm, rows.sample) {
+        Err(stop) => Err(stop),
+        Ok(mut intake) => {
+            play_rows_behind(
+                rt,
+                &config,
+                dialect,
+                starts,
+                &mut intake,
+                names,
+                reader,
+                listener,
+                notes,
+                progress,
+            )
+        }
+    }
 }
 
 // Plays the traces that are asked for, and tells who listens of each step.
@@ -354,8 +428,9 @@ fn tell_gone_of<R: Files + AllocGlobal, I: Read + Drop, O: Write + Drop, C: Cloc
     sent(told, &mut outbox)
 }
 
-/// Plays the traces that are asked for, and tells the lives of keys. Answers the exit status: 0, or 1 where no step names
-/// a key, and then what is to be known of the traces goes to `errors`; or 2 to 5, and then the text of the reason does.
+/// Plays the traces that are asked for, and tells the lives of keys. Answers the exit status: 0, or 1 where no step
+/// names a key, and then what is to be known of the traces goes to `errors`; or 2 to 5, and then the text of the reason
+/// does.
 pub fn why_of_traces<
     R: Files + AllocGlobal,
     I: Read + Drop,
@@ -375,8 +450,8 @@ pub fn why_of_traces<
     end_asking(done, notes.as_slice(), errors)
 }
 
-/// Plays the traces that are asked for, and tells the keys that left. Answers the exit status, 0 or 2 to 5, and tells as
-/// `why_of_traces` does. What was told before a fault stands.
+/// Plays the traces that are asked for, and tells the keys that left. Answers the exit status, 0 or 2 to 5, and tells
+/// as `why_of_traces` does. What was told before a fault stands.
 pub fn gone_of_traces<
     R: Files + AllocGlobal,
     I: Read + Drop,

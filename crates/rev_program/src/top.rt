@@ -91,8 +91,8 @@ fn tell_top_of<R: Files + AllocGlobal, I: Read + Drop, O: Write + Drop, C: Clock
     sent(alloc, names, told, &mut outbox)
 }
 
-/// Reads the logs that are asked, and tells where the room goes. Answers the exit status: 0, and then what is to be known
-/// of the logs goes to `errors`; or 2 to 5, and then the text of the reason does.
+/// Reads the logs that are asked, and tells where the room goes. Answers the exit status: 0, and then what is to be
+/// known of the logs goes to `errors`; or 2 to 5, and then the text of the reason does.
 pub fn top<R: Files + AllocGlobal, I: Read + Drop, O: Write + Drop, E: Sink, C: Clock, W: Sink>(
     rt: &R,
     asked: TopAsked,

@@ -1,4 +1,5 @@
-//! What other settings would have done with a trace that was played.
+//! What other settings would have done with a trace that was played, in one part or in many.
+ghost use Rattle.std.specs.Prelude.{◌≡◌};
 
 use rev_classes::Config;
 use rev_comparisons::what_if::{Counts, Trial, Value, Varied, WhatIf};
@@ -6,9 +7,10 @@ use rev_options::WhatIf as Asked;
 use rev_undotree::Session;
 use rev_whatif::{Setting, Trial as Tried, Trials};
 use std::alloc::{AllocError, Global};
+use std::mem;
 use std::thread::Threads;
 
-// The most trials that run side by side: each holds a cache of its own.
+// The most trials that run side by side.
 const MOST_AT_ONCE: usize = 16;
 
 fn whole(number: u32) -> Value {
@@ -93,52 +95,134 @@ fn trial_of(tried: &Tried) -> Trial {
     }
 }
 
-// The trials of these settings.
-fn tried<R: Threads + Sync + AllocGlobal>(
-    rt: &R,
-    session: &Session<Global>,
+/// The trials of the values that are asked for of one setting, as many side by side as a group has.
+#[derive(Drop)]
+struct Attempt {
+    varied: Varied,
+    settings: Vec<Setting>,
+    groups: Vec<Trials>,
+}
+
+impl Attempt {
+    // Trials of which no step is played.
+    fn open(alloc: Global, config: &Config, asked: &Asked) -> Result<Attempt, AllocError> {
+        let mut settings = Vec::new(alloc);
+        add_settings(&mut settings, asked)?;
+        let groups = groups_of(alloc, config, settings.as_slice())?;
+        Ok(Attempt {
+            varied: setting_of(asked),
+            settings,
+            groups,
+        })
+    }
+
+    // No step is played any more.
+    fn reopen(&mut self, alloc: Global, config: &Config) -> Result<(), AllocError> {
+        let groups = groups_of(alloc, config, self.settings.as_slice())?;
+        drop(mem::replace(&mut self.groups, groups));
+        Ok(())
+    }
+
+    // Plays the steps from the session's root to its current node.
+    fn feed<R: Threads + Sync>(
+        &mut self,
+        rt: &R,
+        session: &Session<Global>,
+    ) -> Result<(), AllocError> {
+        for trials in self.groups.iter_mut() {
+            trials.feed(rt, session)?;
+        }
+        Ok(())
+    }
+
+    // What is told of them, where the trace's own store stands as this session's does.
+    fn told(
+        &self,
+        alloc: Global,
+        session: &Session<Global>,
+        config: &Config,
+    ) -> Result<WhatIf, AllocError> {
+        let mut trials = Vec::new(alloc);
+        for group in &self.groups {
+            for tried in &group.told(alloc)? {
+                trials.push(trial_of(tried))?;
+            }
+        }
+        Ok(WhatIf {
+            setting: self.varied,
+            own: own_value(session, config, self.varied),
+            trials,
+        })
+    }
+}
+
+// Groups of trials of these settings, in their order.
+fn groups_of(
+    alloc: Global,
     config: &Config,
     settings: &[Setting],
-) -> Result<Vec<Tried>, AllocError> {
-    let mut trials = Trials::open(rt.alloc(), config, settings)?;
-    trials.feed(rt, session)?;
-    trials.told(rt.alloc())
-}
-
-// What the trace does with the values that are asked for of one setting.
-fn what_if<R: Threads + Sync + AllocGlobal>(
-    rt: &R,
-    session: &Session<Global>,
-    config: &Config,
-    asked: &Asked,
-) -> Result<WhatIf, AllocError> {
-    let mut settings = Vec::new(rt.alloc());
-    add_settings(&mut settings, asked)?;
-    let mut trials = Vec::new(rt.alloc());
+) -> Result<Vec<Trials>, AllocError> {
+    let mut groups = Vec::new(alloc);
     for settings in settings.chunks(MOST_AT_ONCE) {
-        for tried in &tried(rt, session, config, settings)? {
-            trials.push(trial_of(tried))?;
-        }
+        groups.push(Trials::open(alloc, config, settings)?)?;
     }
-    let setting = setting_of(asked);
-    Ok(WhatIf {
-        setting,
-        own: own_value(session, config, setting),
-        trials,
-    })
+    Ok(groups)
 }
 
-/// What the trace from the session's root to its current node does with the values that are asked for, of one setting
-/// after another: those of one side by side, 16 at a time.
-pub(crate) fn what_ifs<R: Threads + Sync + AllocGlobal>(
-    rt: &R,
-    session: &Session<Global>,
-    config: &Config,
-    asked: &[Asked],
-) -> Result<Vec<WhatIf>, AllocError> {
-    let mut told = Vec::new(rt.alloc());
-    for asked in asked {
-        told.push(what_if(rt, session, config, asked)?)?;
+/// Trials under way of all values that are asked for, of one setting after another. The trace is fed to them in parts,
+/// so it may have any number of steps. Each trial holds a cache of its own.
+#[derive(Drop)]
+pub(crate) struct Attempts {
+    alloc: Global,
+    config: Config,
+    attempts: Vec<Attempt>,
+}
+
+impl Attempts {
+    /// Trials of which no step is played, of a trace whose store has this configuration.
+    pub(crate) fn open(
+        alloc: Global,
+        config: Config,
+        asked: &[Asked],
+    ) -> Result<Attempts, AllocError> {
+        let mut attempts = Vec::new(alloc);
+        for asked in asked {
+            attempts.push(Attempt::open(alloc, &config, asked)?)?;
+        }
+        Ok(Attempts {
+            alloc,
+            config,
+            attempts,
+        })
     }
-    Ok(told)
+
+    /// The steps that were played are of no trace any more.
+    pub(crate) fn reopen(&mut self) -> Result<(), AllocError> {
+        for attempt in self.attempts.iter_mut() {
+            attempt.reopen(self.alloc, &self.config)?;
+        }
+        Ok(())
+    }
+
+    /// Plays the steps from the session's root to its current node, behind those that were played before: of each
+    /// setting the trials side by side, 16 at a time.
+    pub(crate) fn feed<R: Threads + Sync>(
+        &mut self,
+        rt: &R,
+        session: &Session<Global>,
+    ) -> Result<(), AllocError> {
+        for attempt in self.attempts.iter_mut() {
+            attempt.feed(rt, session)?;
+        }
+        Ok(())
+    }
+
+    /// What is told of them, where the trace's own store stands as this session's does.
+    pub(crate) fn told(&self, session: &Session<Global>) -> Result<Vec<WhatIf>, AllocError> {
+        let mut told = Vec::new(self.alloc);
+        for attempt in &self.attempts {
+            told.push(attempt.told(self.alloc, session, &self.config)?)?;
+        }
+        Ok(told)
+    }
 }

@@ -4,18 +4,8 @@ use Rattle.rev_program.proofs.opening.open_traces.Goals as goal
 
 pub returns-in-Some-clause-ends : goal.returns-in-Some-clause-ends
 returns-in-Some-clause-ends g c =
-    plainly _ _ _ _ _ c.ended.ensures.quiet (λ n. inl (stopped_of _ _ _ _ (Err c.from.result) _ c.ended.ensures.status c.ended.ensures.told n))
+    inl (c.ended.ensures.range, plainly _ _ _ _ _ c.ended.ensures.quiet (λ n. inl (stopped_of _ _ _ _ (Err c.from.result) _ c.ended.ensures.status c.ended.ensures.told n)))
 
 pub returns-in-Err-clause-ends : goal.returns-in-Err-clause-ends
 returns-in-Err-clause-ends g c =
-    plainly _ _ _ _ _ c.ended-in-Err.ensures.quiet (λ n. inl (stopped_of _ _ _ _ (Err c.in-Err.stop) _ c.ended-in-Err.ensures.status c.ended-in-Err.ensures.told n))
-
-pub returns-in-Ok-clause-ends : goal.returns-in-Ok-clause-ends
-returns-in-Ok-clause-ends g c = record {
-  full = c.in-Ok.full;
-  between = g.E.Sink.contents c.note.new.errors;
-  failures = g.E.Sink.failures c.note.new.errors;
-  noted = c.note.ensures;
-  quiet = c.ended-in-Ok.ensures.quiet;
-  early = λ n. inl (stopped_of _ _ _ _ c.answer-answered.result _ c.ended-in-Ok.ensures.status c.ended-in-Ok.ensures.told n);
-}
+    inl (c.ended-in-Err.ensures.range, plainly _ _ _ _ _ c.ended-in-Err.ensures.quiet (λ n. inl (stopped_of _ _ _ _ (Err c.in-Err.stop) _ c.ended-in-Err.ensures.status c.ended-in-Err.ensures.told n)))

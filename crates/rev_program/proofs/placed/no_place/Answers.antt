@@ -1,5 +1,5 @@
-use Rattle.std.proofs.Common.{◌∙◌, ap, refl}
-use Rattle.rev_program.specs.Placed.{with_never}
+use Rattle.std.proofs.Common.{◌∙◌, ap, inl, refl}
+use Rattle.rev_program.specs.Placed.{by_logs, with_never}
 use Rattle.rev_program.proofs.placed.no_place.Goals as goal
 
 pub returns-in_ok-add_never-in-Gone : goal.returns-in_ok-add_never-in-Gone
@@ -8,6 +8,8 @@ returns-in_ok-add_never-in-Gone c =
     (record {
       key = _;
       is_sought = refl;
+      how = by_logs;
+      is_how = inl refl;
       notes = c.args.notes.now.items;
-      text_is = c.in_ok-add_never-in-Gone.ensures ∙ ap (λ key. with_never c.args.notes.now.items key) c.as_str.ensures.value;
+      text_is = c.in_ok-add_never-in-Gone.ensures ∙ ap (λ key. with_never by_logs c.args.notes.now.items key) c.as_str.ensures.value;
     })

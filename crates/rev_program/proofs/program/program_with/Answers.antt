@@ -1,6 +1,6 @@
 use Rattle.std.proofs.Common.{◌≡◌, inl, rules, map, true, false, Err, sym, ◌∙◌}
 use Rattle.rev_options.specs.Request.{asks_open, brings, seeks_key, sought_key}
-use Rattle.rev_program.proofs.Ends.{asked_stopped, not_sought, sought_none, sought_watch, stopped_of, plainly, plain_of, unnoted, noted_of, noted_plainly, behind_of, early_of}
+use Rattle.rev_program.proofs.Ends.{asked_stopped, not_gone, not_sought, placed_of, sought_csv, sought_none, sought_open, sought_watch, stopped_of, plainly, plain_of, unnoted, noted_of, noted_plainly, behind_of, early_of}
 use Rattle.rev_program.proofs.Tallies.{run_stopped, some_status}
 use Rattle.rev_program.proofs.Running.{keep, ends_refused}
 use Rattle.rev_program.proofs.program.program_with.Goals as goal
@@ -26,11 +26,11 @@ returns-in-Err-clause-run g c = λ asks. run_stopped _ _ _ _ c.from.result _ c.e
 
 pub returns-in-Err-clause-behind : goal.returns-in-Err-clause-behind
 returns-in-Err-clause-behind g c =
-    λ i r l b. plainly _ _ _ _ _ c.ended.ensures.quiet (λ n. inl (stopped_of _ _ _ _ (Err c.from.result) _ c.ended.ensures.status c.ended.ensures.told n))
+    λ i r l b s. plainly _ _ _ _ _ c.ended.ensures.quiet (λ n. inl (stopped_of _ _ _ _ (Err c.from.result) _ c.ended.ensures.status c.ended.ensures.told n))
 
 pub returns-in-Ok-Record-clause-behind : goal.returns-in-Ok-Record-clause-behind
 returns-in-Ok-Record-clause-behind g c =
-    λ i r l b. plainly _ _ _ _ _ c.record_files.ensures.quiet (λ n. early_of _ _ _ _ _ _ _ (c.record_files.ensures.early n))
+    λ i r l b s. plainly _ _ _ _ _ c.record_files.ensures.quiet (λ n. early_of _ _ _ _ _ _ _ (c.record_files.ensures.early n))
 
 pub returns-in-Err-clause-noted : goal.returns-in-Err-clause-noted
 returns-in-Err-clause-noted g c =
@@ -41,7 +41,8 @@ returns-in-Ok-Record-clause-noted g c =
     λ i r l s. unnoted _ _ _ _ _ c.record_files.ensures.quiet (λ n. early_of _ _ _ _ _ _ _ (c.record_files.ensures.early n))
 
 pub returns-in-Ok-Open-clause-noted : goal.returns-in-Ok-Open-clause-noted
-returns-in-Ok-Open-clause-noted g c = λ i r l s. noted_of _ _ _ _ _ c.open_traces.ensures.ends
+returns-in-Ok-Open-clause-noted g c =
+    λ i r l s. noted_of _ _ _ _ _ (not_gone _ (sought_key c.in-Ok-Open.asked.standing) _ _ _ _ _ s (sought_open (asks_open (map g.S.AsStr.text c.args.words.now)) (brings (map g.S.AsStr.text c.args.words.now)) (seeks_key (map g.S.AsStr.text c.args.words.now)) c.in-Ok-Open.asked _ c.in-Ok-Open.field-0-is c.in-Ok-Open.ensures.opens c.in-Ok-Open.ensures.brings) c.open_traces.ensures.ends).1
 
 pub returns-in-Ok-OpenWatch-clause-noted : goal.returns-in-Ok-OpenWatch-clause-noted
 returns-in-Ok-OpenWatch-clause-noted g c =
@@ -53,7 +54,7 @@ returns-in-Ok-OpenWatch-clause-status g c =
 
 pub returns-in-Ok-OpenWatch-clause-behind : goal.returns-in-Ok-OpenWatch-clause-behind
 returns-in-Ok-OpenWatch-clause-behind g c =
-    λ i r l b. absurd (let h = rw c.in-Ok-OpenWatch.field-0-is at c.in-Ok-OpenWatch.ensures.brings in let e : true ≡ false = sym h.0 ∙ b in cc)
+    λ i r l b s. absurd (let h = rw c.in-Ok-OpenWatch.field-0-is at c.in-Ok-OpenWatch.ensures.brings in let e : true ≡ false = sym h.0 ∙ b in cc)
 
 pub returns-in-Err-clause-placed : goal.returns-in-Err-clause-placed
 returns-in-Err-clause-placed g c =
@@ -64,20 +65,23 @@ returns-in-Ok-Record-clause-placed g c =
     λ i r l. sought_none _ _ _ _ _ _ c.record_files.ensures.status (unnoted _ _ _ _ _ c.record_files.ensures.quiet (λ n. early_of _ _ _ _ _ _ _ (c.record_files.ensures.early n)))
 
 pub returns-in-Ok-Open-clause-placed : goal.returns-in-Ok-Open-clause-placed
-returns-in-Ok-Open-clause-placed g c = λ i r l. sought_none _ _ _ _ _ _ c.open_traces.ensures.status (noted_of _ _ _ _ _ c.open_traces.ensures.ends)
+returns-in-Ok-Open-clause-placed g c =
+    λ i r l. (sought_key c.in-Ok-Open.asked.standing, (sought_open (asks_open (map g.S.AsStr.text c.args.words.now)) (brings (map g.S.AsStr.text c.args.words.now)) (seeks_key (map g.S.AsStr.text c.args.words.now)) c.in-Ok-Open.asked _ c.in-Ok-Open.field-0-is c.in-Ok-Open.ensures.opens c.in-Ok-Open.ensures.brings), placed_of _ _ _ _ _ _ c.open_traces.ensures.ends)
 
 pub returns-in-Ok-OpenWatch-clause-placed : goal.returns-in-Ok-OpenWatch-clause-placed
 returns-in-Ok-OpenWatch-clause-placed g c =
     λ i r l. (sought_key c.in-Ok-OpenWatch.asked.standing, sought_watch (asks_open (map g.S.AsStr.text c.args.words.now)) (brings (map g.S.AsStr.text c.args.words.now)) (seeks_key (map g.S.AsStr.text c.args.words.now)) c.in-Ok-OpenWatch.asked _ c.in-Ok-OpenWatch.field-0-is c.in-Ok-OpenWatch.ensures.opens c.in-Ok-OpenWatch.ensures.brings, c.open_watch.ensures)
 
 pub returns-in-Ok-OpenCsv-clause-placed : goal.returns-in-Ok-OpenCsv-clause-placed
-returns-in-Ok-OpenCsv-clause-placed g c = λ i r l. sought_none _ _ _ _ _ _ c.open_csv.ensures.status c.open_csv.ensures.ends
+returns-in-Ok-OpenCsv-clause-placed g c =
+    λ i r l. (sought_key c.in-Ok-OpenCsv.asked.standing, (sought_csv (asks_open (map g.S.AsStr.text c.args.words.now)) (brings (map g.S.AsStr.text c.args.words.now)) (seeks_key (map g.S.AsStr.text c.args.words.now)) c.in-Ok-OpenCsv.asked _ c.in-Ok-OpenCsv.field-0-is c.in-Ok-OpenCsv.ensures.opens c.in-Ok-OpenCsv.ensures.brings), c.open_csv.ensures.ends)
 
 pub returns-in-Ok-Report-clause-placed : goal.returns-in-Ok-Report-clause-placed
 returns-in-Ok-Report-clause-placed g c = λ i r l. sought_none _ _ _ _ _ _ c.report.ensures.ends.status_is (noted_plainly _ _ _ _ _ c.report.ensures.ends)
 
 pub returns-in-Ok-OpenCsv-clause-noted : goal.returns-in-Ok-OpenCsv-clause-noted
-returns-in-Ok-OpenCsv-clause-noted g c = λ i r l s. c.open_csv.ensures.ends
+returns-in-Ok-OpenCsv-clause-noted g c =
+    λ i r l s. (not_sought _ (sought_key c.in-Ok-OpenCsv.asked.standing) _ _ _ _ _ s (sought_csv (asks_open (map g.S.AsStr.text c.args.words.now)) (brings (map g.S.AsStr.text c.args.words.now)) (seeks_key (map g.S.AsStr.text c.args.words.now)) c.in-Ok-OpenCsv.asked _ c.in-Ok-OpenCsv.field-0-is c.in-Ok-OpenCsv.ensures.opens c.in-Ok-OpenCsv.ensures.brings) c.open_csv.ensures.ends).1
 
 pub returns-in-Err-clause-report : goal.returns-in-Err-clause-report
 returns-in-Err-clause-report g c = λ asks. plain_of _ _ _ _ (Err c.from.result) _ c.ended.ensures.range c.ended.ensures.status c.ended.ensures.quiet c.ended.ensures.told
@@ -95,7 +99,7 @@ pub returns-in-Ok-Report-clause-noted : goal.returns-in-Ok-Report-clause-noted
 returns-in-Ok-Report-clause-noted g c = λ i r l s. noted_plainly _ _ _ _ _ c.report.ensures.ends
 
 pub returns-in-Ok-Report-clause-behind : goal.returns-in-Ok-Report-clause-behind
-returns-in-Ok-Report-clause-behind g c = λ i r l b. behind_of _ _ _ _ _ c.report.ensures.ends
+returns-in-Ok-Report-clause-behind g c = λ i r l b s. behind_of _ _ _ _ _ c.report.ensures.ends
 
 pub returns-in-Ok-Report-clause-report : goal.returns-in-Ok-Report-clause-report
 returns-in-Ok-Report-clause-report g c = λ asks. c.report.ensures.ends
@@ -126,3 +130,19 @@ returns-in-Ok-GoneTraces-clause-lives g c = λ asks. c.gone_of_traces.ensures.en
 
 pub returns-in-Ok-GoneTraces-clause-status : goal.returns-in-Ok-GoneTraces-clause-status
 returns-in-Ok-GoneTraces-clause-status g c = λ w s. c.gone_of_traces.ensures.status
+
+pub returns-in-Ok-Open-clause-status : goal.returns-in-Ok-Open-clause-status
+returns-in-Ok-Open-clause-status g c =
+    λ w s. (not_gone _ (sought_key c.in-Ok-Open.asked.standing) _ _ _ _ _ s (sought_open (asks_open (map g.S.AsStr.text c.args.words.now)) (brings (map g.S.AsStr.text c.args.words.now)) (seeks_key (map g.S.AsStr.text c.args.words.now)) c.in-Ok-Open.asked _ c.in-Ok-Open.field-0-is c.in-Ok-Open.ensures.opens c.in-Ok-Open.ensures.brings) c.open_traces.ensures.ends).0
+
+pub returns-in-Ok-Open-clause-behind : goal.returns-in-Ok-Open-clause-behind
+returns-in-Ok-Open-clause-behind g c =
+    λ i r l b s. (not_gone _ (sought_key c.in-Ok-Open.asked.standing) _ _ _ _ _ s (sought_open (asks_open (map g.S.AsStr.text c.args.words.now)) (brings (map g.S.AsStr.text c.args.words.now)) (seeks_key (map g.S.AsStr.text c.args.words.now)) c.in-Ok-Open.asked _ c.in-Ok-Open.field-0-is c.in-Ok-Open.ensures.opens c.in-Ok-Open.ensures.brings) c.open_traces.ensures.ends).1
+
+pub returns-in-Ok-OpenCsv-clause-status : goal.returns-in-Ok-OpenCsv-clause-status
+returns-in-Ok-OpenCsv-clause-status g c =
+    λ w s. (not_sought _ (sought_key c.in-Ok-OpenCsv.asked.standing) _ _ _ _ _ s (sought_csv (asks_open (map g.S.AsStr.text c.args.words.now)) (brings (map g.S.AsStr.text c.args.words.now)) (seeks_key (map g.S.AsStr.text c.args.words.now)) c.in-Ok-OpenCsv.asked _ c.in-Ok-OpenCsv.field-0-is c.in-Ok-OpenCsv.ensures.opens c.in-Ok-OpenCsv.ensures.brings) c.open_csv.ensures.ends).0
+
+pub returns-in-Ok-OpenCsv-clause-behind : goal.returns-in-Ok-OpenCsv-clause-behind
+returns-in-Ok-OpenCsv-clause-behind g c =
+    λ i r l b s. absurd (let h = rw c.in-Ok-OpenCsv.field-0-is at c.in-Ok-OpenCsv.ensures.brings in let e : true ≡ false = sym h.0 ∙ b in cc)
