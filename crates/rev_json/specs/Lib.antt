@@ -1,2 +1,5 @@
-pub mod JsonLines
+pub mod Names
+pub mod Tokens
+pub mod Lines
+pub mod Replies
 pub mod Told

@@ -1,11 +1,10 @@
 //! Answers as JSON: one object for each line of a script.
 #![tactic(auto)]
 
-mod command;
-mod culprit;
-mod fields;
-mod forms;
-mod object;
-mod row;
+mod answer;
+mod help;
+mod line;
+mod names;
+mod replies;
 pub mod run;
-mod words;
+mod teller;

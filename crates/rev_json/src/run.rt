@@ -2,35 +2,33 @@
 ghost use Rattle.std.specs.Prelude.{◌≡◌, ℕ, List, IfOk, IfErr};
 ghost use Rattle.rev_script.specs.Lines.{IsFirst};
 ghost use Rattle.rev_json.specs.Told.{IsTold, IsStoppedTelling};
-ghost use Rattle.rev_shell.specs.Run.{without_bookmarks};
+ghost use Rattle.rev_json.specs.Lines.{as_json};
+ghost use Rattle.rev_shell.specs.Run.{without_bookmarks, IsLeftBy, IsStoppedBy};
 ghost use Rattle.rev_shell.specs.Answers.{beside};
 
-use crate::command::command_of;
-use crate::culprit::Scene;
-use crate::object::json_line;
+use crate::line::json_line;
 use rev_evidence::notes::LogNotes;
 use rev_script::dialect::Dialect;
 use rev_script::duplex::Duplex;
 use rev_script::lines::Lines;
-use rev_shell::run::{NONE, Prompts, RunFault, Summary, answer_line, fault_at, is_bad, with_mark};
+use rev_shell::run::{NONE, RunFault, Summary, fault_at, is_bad, with_mark};
 use rev_undotree::Session;
 use rev_views::bookmarks::Bookmarks;
 use std::alloc::Global;
 
-// Plays the lines, from the first on, and writes what is told of each once it is done. `text` holds one answer.
+// Plays the lines, from the first on, and writes what is told of each once it is done.
 fn tell_lines<S: Duplex>(
     alloc: Global,
     lines: &mut Lines<S, Global>,
     session: &mut Session<Global>,
     log: &LogNotes<Global>,
     bookmarks: &mut Bookmarks<'_, Global>,
-    text: &mut Vec<u8>,
 ) -> Result<Summary, RunFault>
     requires { IsFirst lines.old }
-    ensures ok { IfOk result (λ sum. IsTold lines.old.input.dialect lines.old.input.bytes.source lines.new.input.bytes.source
+    ensures ok { IfOk result (λ sum. IsLeftBy lines.old.input.dialect as_json lines.old.input.bytes.source lines.new.input.bytes.source
         lines.old.input.bytes.source.beside.sink lines.new.input.bytes.source.beside.sink
         (beside session.old bookmarks.old log.now) (beside session.new bookmarks.new log.now) sum) }
-    ensures err { IfErr result (λ e. IsStoppedTelling lines.old.input.dialect lines.old.input.bytes.source lines.new.input.bytes.source
+    ensures err { IfErr result (λ e. IsStoppedBy lines.old.input.dialect as_json lines.old.input.bytes.source lines.new.input.bytes.source
         lines.old.input.bytes.source.beside.sink lines.new.input.bytes.source.beside.sink
         (beside session.old bookmarks.old log.now) e) }
     ensures same { lines.new.input.bytes.source.identity ≡ lines.old.input.bytes.source.identity }
@@ -55,14 +53,8 @@ fn tell_lines<S: Duplex>(
             }
             Some(line) => line,
         };
-        let command = command_of(&line);
         let is_bad = is_bad(&line);
-        let is_refused = match answer_line(Prompts::Hidden, session, log, bookmarks, line, text) {
-            Err(_) => return Err(RunFault::Memory { line: count + 1 }),
-            Ok(refused) => refused,
-        };
-        let scene = Scene { session, log };
-        let told = match json_line(alloc, count + 1, &scene, command, text.as_slice()) {
+        let (told, is_refused) = match json_line(alloc, count + 1, session, log, bookmarks, line) {
             Err(_) => return Err(RunFault::Memory { line: count + 1 }),
             Ok(told) => told,
         };
@@ -82,8 +74,8 @@ fn tell_lines<S: Duplex>(
 /// `END` of a list. What a log tells of the session's nodes is told with them. It is written once all steps of the line
 /// are done. The session keeps all that was played.
 ///
-/// Memory is also taken for each line's JSON. Where there is none, the line's steps are done, and nothing is told of
-/// it.
+/// Memory is also taken for each line's JSON. Where there is none, some of the line's steps may be done, and nothing is
+/// told of it.
 pub fn run_as_json<X: Duplex>(
     alloc: Global,
     session: &mut Session<Global>,
@@ -101,8 +93,7 @@ pub fn run_as_json<X: Duplex>(
 {
     let mut bookmarks = Bookmarks::new(&alloc);
     let mut lines = Lines::of(alloc, streams, dialect);
-    let mut text = Vec::new(alloc);
-    let ended = tell_lines(alloc, &mut lines, session, log, &mut bookmarks, &mut text);
+    let ended = tell_lines(alloc, &mut lines, session, log, &mut bookmarks);
     let _streams = lines.into_source();
     match ended {
         Err(e) => Err(e),

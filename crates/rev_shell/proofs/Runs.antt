@@ -19,8 +19,7 @@ use Rattle.rev_texts.proofs.Wholes.{AreWhole, lines-more, whole_lines-more, whol
 use Rattle.rev_output.specs.Sink.{WroteFront, one_more, PlainSink}
 use Rattle.rev_shell.specs.Answers.{BookmarkedSession, after, answer}
 use Rattle.rev_output.proofs.Written.{Appends-then, Appends-none}
-use Rattle.rev_shell.specs.Run.{prompt_text, end_text, answers, session_after, out, text, text_before, is_bad, is_refusal, bad_marks, refused_marks, marked, first_mark, tally_of, with_mark, Because, IsDone, IsLeft, IsStopped, run_fault}
-use Rattle.rev_shell.specs.declared.run.Prompts.{Prompts}
+use Rattle.rev_shell.specs.Run.{Telling, answers, session_after, out, text, text_before, is_bad, is_refusal, bad_marks, refused_marks, marked, first_mark, tally_of, with_mark, Because, IsDoneBy, IsLeftBy, IsStoppedBy, run_fault}
 use Rattle.rev_shell.specs.declared.run.Tally.{Tally}
 use Rattle.rev_shell.specs.declared.run.Summary.{Summary}
 use Rattle.rev_shell.specs.declared.run.RunFault.{RunFault}
@@ -35,7 +34,7 @@ record Broken (old new : PlainReader) (taken : List ℕ) (e : LineFault) : Type 
   stopped : StoppedBy old new e
 
 -- so far: the lines of what was taken are done; they lie whole in it, or the input is at its end
-pub record IsSoFar (d : Dialect) (p : Prompts) (start now : PlainInput) (old new : PlainSink) (m0 m : BookmarkedSession) (count : ℕ) (bad refused : Tally) : Type 0 where
+pub record IsSoFar (d : Dialect) (p : Telling) (start now : PlainInput) (old new : PlainSink) (m0 m : BookmarkedSession) (count : ℕ) (bad refused : Tally) : Type 0 where
   pub done : List ScriptLine
   pub read : List ℕ
   pub passed : Passed start.bytes now.bytes read
@@ -44,13 +43,13 @@ pub record IsSoFar (d : Dialect) (p : Prompts) (start now : PlainInput) (old new
   pub lines_are : AreWhole d now.passes read done ⊎ ((lines d read ≡ done) × AtEnd now.bytes)
   pub count_is : length done ≡ count
   pub session_is : m ≡ session_after m0 done
-  pub wrote : Appends old.contents new.contents (answers p m0 done)
+  pub wrote : Appends old.contents new.contents (answers p 1 m0 done)
   pub writes : new.failures ≡ old.failures
   pub bad_is : bad ≡ tally_of (bad_marks done)
   pub refused_is : refused ≡ tally_of (refused_marks m0 done)
 
 -- the source was written to
-pub so_far_beside : {d : Dialect} {p : Prompts} {start now : PlainInput} {old new : PlainSink} {m0 m : BookmarkedSession} {count : ℕ} {bad refused : Tally} (sink : PlainSink) →
+pub so_far_beside : {d : Dialect} {p : Telling} {start now : PlainInput} {old new : PlainSink} {m0 m : BookmarkedSession} {count : ℕ} {bad refused : Tally} (sink : PlainSink) →
     IsSoFar d p start now old new m0 m count bad refused → IsSoFar d p start (record now { bytes = with_sink now.bytes sink }) old new m0 m count bad refused
 so_far_beside sink f = record {
   done = f.done;
@@ -74,27 +73,30 @@ so_far_beside sink f = record {
 broke_behind : {a b c : PlainReader} {xs ys : List ℕ} {e : LineFault} → Passed a b xs → b.source.failures ≡ a.source.failures → Broke b c ys e → Broken a c (xs ++ ys) e
 broke_behind {a} {b} {c} {xs} {ys} {e} p steady q = record { passed = Passed-then p q.passed; stopped = stopped_then a b c e steady q.stopped }
 
--- what is written with a line in the middle
-answers-then : (p : Prompts) (s : BookmarkedSession) (xs : List ScriptLine) (y : ScriptLine) (ys : List ScriptLine) →
-    answers p s (xs ++ y ∷ ys) ≡ answers p s xs ++ (answer (session_after s xs) y ++ answers p (after (session_after s xs) y) ys)
-answers-then p s [] y ys = refl
-answers-then p s (x ∷ xs) y ys =
-    let front = prompt_text p s.session.current in
-    let done = answers p (after s x) xs in
+-- what is written with a line in the middle, which has this number
+answers-then : (p : Telling) (n : ℕ) (s : BookmarkedSession) (xs : List ScriptLine) (y : ScriptLine) (ys : List ScriptLine) (k : ℕ) → k ≡ n + length xs →
+    answers p n s (xs ++ y ∷ ys) ≡ answers p n s xs ++ (p.line k (session_after s xs) y ++ answers p (suc k) (after (session_after s xs) y) ys)
+answers-then p n s [] y ys k e =
+    let f : n ≡ k = omega (arith, e) in
+    ap (λ j. p.front s.session ++ (p.line j s y ++ answers p (suc j) (after s y) ys)) f
+answers-then p n s (x ∷ xs) y ys k e =
+    let f : k ≡ suc n + length xs = omega (arith, e) in
+    let front = p.front s.session in
+    let done = answers p (suc n) (after s x) xs in
     let t = session_after (after s x) xs in
-    let rest = answer t y ++ answers p (after t y) ys in
-    ap (λ l. front ++ (answer s x ++ l)) (answers-then p (after s x) xs y ys)
-    ∙ ap (λ l. front ++ l) (sym (append_assoc (answer s x) done rest))
-    ∙ sym (append_assoc front (answer s x ++ done) rest)
+    let rest = p.line k t y ++ answers p (suc k) (after t y) ys in
+    ap (λ l. front ++ (p.line n s x ++ l)) (answers-then p (suc n) (after s x) xs y ys k f)
+    ∙ ap (λ l. front ++ l) (sym (append_assoc (p.line n s x) done rest))
+    ∙ sym (append_assoc front (p.line n s x ++ done) rest)
 
 session_after-append : (s : BookmarkedSession) (xs : List ScriptLine) (y : ScriptLine) → session_after s (xs ++ y ∷ []) ≡ after (session_after s xs) y
 session_after-append s [] y = refl
 session_after-append s (x ∷ xs) y = session_after-append (after s x) xs y
 
--- what is written begins with a prompt
-answers-begin : (p : Prompts) (s : BookmarkedSession) (ls : List ScriptLine) → (rest : List ℕ) × (answers p s ls ≡ prompt_text p s.session.current ++ rest)
-answers-begin p s [] = ([], sym (append-nil (prompt_text p s.session.current)))
-answers-begin p s (l ∷ ls) = (answer s l ++ answers p (after s l) ls, refl)
+-- what is written begins with what stands in front of a line
+answers-begin : (p : Telling) (n : ℕ) (s : BookmarkedSession) (ls : List ScriptLine) → (rest : List ℕ) × (answers p n s ls ≡ p.front s.session ++ rest)
+answers-begin p n s [] = ([], sym (append-nil (p.front s.session)))
+answers-begin p n s (l ∷ ls) = (p.line n s l ++ answers p (suc n) (after s l) ls, refl)
 
 -- ---- lines that are counted
 
@@ -159,14 +161,14 @@ refused-append m [] l = refl
 refused-append m (x ∷ xs) l = ap (λ t. is_refusal (answer m x) ∷ t) (refused-append (after m x) xs l)
 
 -- the first lines of what was read are those that are done
-text-more : (d : Dialect) (p : Prompts) (passes : Bool) (s0 : BookmarkedSession) (read more : List ℕ) (done : List ScriptLine) → AreWhole d passes read done →
-    text d p s0 (read ++ more) (length done) ≡ answers p s0 done
+text-more : (d : Dialect) (p : Telling) (passes : Bool) (s0 : BookmarkedSession) (read more : List ℕ) (done : List ScriptLine) → AreWhole d passes read done →
+    text d p s0 (read ++ more) (length done) ≡ answers p 1 s0 done
 unfolding text
 text-more d p passes s0 read more done w =
-    ap (λ l. answers p s0 (take (length done) l)) (lines-more d passes read more done w) ∙ ap (λ l. answers p s0 l) (take-append_seam done (lines d (onwards passes more)))
+    ap (λ l. answers p 1 s0 (take (length done) l)) (lines-more d passes read more done w) ∙ ap (λ l. answers p 1 s0 l) (take-append_seam done (lines d (onwards passes more)))
 
 -- a line that was given tells that the input was not at its end before
-pub still_whole : {d : Dialect} {p : Prompts} {start b : PlainInput} {old mid : PlainSink} {s0 s : BookmarkedSession} {count : ℕ} {bad refused : Tally} (f : IsSoFar d p start b old mid s0 s count bad refused) →
+pub still_whole : {d : Dialect} {p : Telling} {start b : PlainInput} {old mid : PlainSink} {s0 s : BookmarkedSession} {count : ℕ} {bad refused : Tally} (f : IsSoFar d p start b old mid s0 s count bad refused) →
     (AtEnd b.bytes → ⊥) → AreWhole d b.passes f.read f.done
 still_whole f never = elim f.lines_are [
   | inl w ↦ w
@@ -174,11 +176,11 @@ still_whole f never = elim f.lines_are [
 ]
 
 -- fewer are counted than the next line's number
-pub few_bad : {d : Dialect} {p : Prompts} {start b : PlainInput} {old mid : PlainSink} {s0 s : BookmarkedSession} {count : ℕ} {bad refused : Tally} (f : IsSoFar d p start b old mid s0 s count bad refused) →
+pub few_bad : {d : Dialect} {p : Telling} {start b : PlainInput} {old mid : PlainSink} {s0 s : BookmarkedSession} {count : ℕ} {bad refused : Tally} (f : IsSoFar d p start b old mid s0 s count bad refused) →
     bad.count < count + 1
 few_bad f = omega (arith, ap (λ t. t.count) f.bad_is, marked-most (bad_marks f.done), length-bad f.done, f.count_is)
 
-pub few_refused : {d : Dialect} {p : Prompts} {start b : PlainInput} {old mid : PlainSink} {s0 s : BookmarkedSession} {count : ℕ} {bad refused : Tally} (f : IsSoFar d p start b old mid s0 s count bad refused) →
+pub few_refused : {d : Dialect} {p : Telling} {start b : PlainInput} {old mid : PlainSink} {s0 s : BookmarkedSession} {count : ℕ} {bad refused : Tally} (f : IsSoFar d p start b old mid s0 s count bad refused) →
     refused.count < count + 1
 few_refused {s0 = s0} f = omega (arith, ap (λ t. t.count) f.refused_is, marked-most (refused_marks s0 f.done), length-refused s0 f.done, f.count_is)
 
@@ -190,10 +192,10 @@ fits front a b answered prompt rest end all e is =
     ∙ sym (ap (λ l. l ++ end) is ∙ append_assoc front (answered ++ (prompt ++ rest)) end
     ∙ ap (λ l. front ++ l) (append_assoc answered (prompt ++ rest) end ∙ ap (λ l. answered ++ l) (append_assoc prompt rest end)))
 
-module _ (d : Dialect) (p : Prompts) (start b c : PlainInput) (old mid new : PlainSink) (s0 s : BookmarkedSession) (count : ℕ) (bad refused : Tally) (fresh : start.bytes.unused ≡ []) (none_given : start.bytes.given ≡ 0)
+module _ (d : Dialect) (p : Telling) (start b c : PlainInput) (old mid new : PlainSink) (s0 s : BookmarkedSession) (count : ℕ) (bad refused : Tally) (fresh : start.bytes.unused ≡ []) (none_given : start.bytes.given ≡ 0)
     (f : IsSoFar d p start b old mid s0 s count bad refused) where
   pub progress : (line : ScriptLine) (t : BookmarkedSession) (more_bad more_refused : Tally) → AreWhole d b.passes f.read f.done → IsNext b c (Some line) → t ≡ after s line →
-      Appends mid.contents new.contents (answer s line ++ prompt_text p t.session.current) → new.failures ≡ mid.failures →
+      Appends mid.contents new.contents (p.line (count + 1) s line ++ p.front t.session) → new.failures ≡ mid.failures →
       more_bad ≡ with_mark bad (is_bad line) (count + 1) → more_refused ≡ with_mark refused (is_refusal (answer s line)) (count + 1) → IsSoFar d p start c old new s0 t (count + 1) more_bad more_refused
   progress line t more_bad more_refused w n is a same is_bad_now is_refused_now =
       record {
@@ -209,9 +211,9 @@ module _ (d : Dialect) (p : Prompts) (start b c : PlainInput) (old mid new : Pla
         count_is = omega (arith, length-append f.done (line ∷ []), f.count_is);
         session_is = is ∙ ap (λ x. after x line) f.session_is ∙ sym (session_after-append s0 f.done line);
         wrote = subst (λ l. Appends old.contents new.contents l)
-            (ap (λ x. answers p s0 f.done ++ (answer s line ++ prompt_text p x.session.current)) is
-            ∙ ap (λ x. answers p s0 f.done ++ (answer x line ++ prompt_text p (after x line).session.current)) f.session_is ∙ sym (answers-then p s0 f.done line []))
-            (Appends-then old.contents mid.contents new.contents (answers p s0 f.done) (answer s line ++ prompt_text p t.session.current) f.wrote a);
+            (ap (λ x. answers p 1 s0 f.done ++ (p.line (count + 1) s line ++ p.front x.session)) is
+            ∙ ap (λ x. answers p 1 s0 f.done ++ (p.line (count + 1) x line ++ p.front (after x line).session)) f.session_is ∙ sym (answers-then p 1 s0 f.done line [] (count + 1) (omega (arith, f.count_is))))
+            (Appends-then old.contents mid.contents new.contents (answers p 1 s0 f.done) (p.line (count + 1) s line ++ p.front t.session) f.wrote a);
         writes = same ∙ f.writes;
         bad_is = is_bad_now ∙ tally-next (bad_marks f.done) (is_bad line) bad (count + 1) f.bad_is (omega (arith, length-bad f.done, f.count_is)) ∙ ap tally_of (sym (bad-append f.done line));
         refused_is = is_refused_now ∙ tally-next (refused_marks s0 f.done) (is_refusal (answer s line)) refused (count + 1) f.refused_is (omega (arith, length-refused s0 f.done, f.count_is))
@@ -219,8 +221,8 @@ module _ (d : Dialect) (p : Prompts) (start b c : PlainInput) (old mid new : Pla
       }
 
   pub finished : (plays : ℕ) → plays ≡ length s.session.rows → (IsEnded b.bytes → Took b.bytes c.bytes []) → IsNext b c None →
-      Appends mid.contents new.contents (end_text p) → new.failures ≡ mid.failures →
-      IsLeft d p start.bytes.source c.bytes.source old new s0 s (record { lines = count; plays = plays; bad = bad; refused = refused })
+      Appends mid.contents new.contents (p.end) → new.failures ≡ mid.failures →
+      IsLeftBy d p start.bytes.source c.bytes.source old new s0 s (record { lines = count; plays = plays; bad = bad; refused = refused })
   unfolding out
   finished plays q stays n a same =
       let o = over_now c d f.read f.done f.dialect_is f.lines_are stays n in
@@ -230,8 +232,8 @@ module _ (d : Dialect) (p : Prompts) (start b c : PlainInput) (old mid new : Pla
           took = read_all start.bytes c.bytes (f.read ++ o.taken) fresh o.at_end.ended.1 (Passed-then f.passed o.took.passed);
           none_left = subst (λ a. IsAtEnd a) (plain_ahead c.bytes.unused c.bytes.source.remaining o.at_end.ended.1) o.at_end.none_left;
           ended = o.at_end.ended.0;
-          wrote = subst (λ l. Appends old.contents new.contents (answers p s0 l ++ end_text p)) (sym o.lines_are)
-              (Appends-then old.contents mid.contents new.contents (answers p s0 f.done) (end_text p) f.wrote a);
+          wrote = subst (λ l. Appends old.contents new.contents (answers p 1 s0 l ++ p.end)) (sym o.lines_are)
+              (Appends-then old.contents mid.contents new.contents (answers p 1 s0 f.done) (p.end) f.wrote a);
           reads = o.took.steady ∙ f.steady;
           writes = same ∙ f.writes;
           lines_are = sym f.count_is ∙ ap (λ l. length l) (sym o.lines_are);
@@ -243,8 +245,8 @@ module _ (d : Dialect) (p : Prompts) (start b c : PlainInput) (old mid new : Pla
       }
 
   -- the line of the last prompt was not ended
-  pub unfinished : (IsEnded b.bytes → Took b.bytes c.bytes []) → IsNext b c None → WroteFront mid.contents new.contents (end_text p) → new.failures ≡ one_more mid.failures →
-      IsStopped d p start.bytes.source c.bytes.source old new s0 run_faults.Write
+  pub unfinished : (IsEnded b.bytes → Took b.bytes c.bytes []) → IsNext b c None → WroteFront mid.contents new.contents (p.end) → new.failures ≡ one_more mid.failures →
+      IsStoppedBy d p start.bytes.source c.bytes.source old new s0 run_faults.Write
   unfolding out
   unfinished stays n a t =
       let o = over_now c d f.read f.done f.dialect_is f.lines_are stays n in
@@ -253,10 +255,10 @@ module _ (d : Dialect) (p : Prompts) (start b c : PlainInput) (old mid new : Pla
         took = read_all start.bytes c.bytes (f.read ++ o.taken) fresh o.at_end.ended.1 (Passed-then f.passed o.took.passed);
         because = t ∙ ap one_more f.writes;
         wrote = (
-          answers p s0 f.done ++ a.0,
+          answers p 1 s0 f.done ++ a.0,
           a.1,
-          Appends-then old.contents mid.contents new.contents (answers p s0 f.done) a.0 f.wrote a.2,
-          append_assoc (answers p s0 f.done) a.0 a.1 ∙ ap (λ l. answers p s0 f.done ++ l) a.3 ∙ ap (λ l. answers p s0 l ++ end_text p) (sym o.lines_are),
+          Appends-then old.contents mid.contents new.contents (answers p 1 s0 f.done) a.0 f.wrote a.2,
+          append_assoc (answers p 1 s0 f.done) a.0 a.1 ∙ ap (λ l. answers p 1 s0 f.done ++ l) a.3 ∙ ap (λ l. answers p 1 s0 l ++ p.end) (sym o.lines_are),
         );
       }
 
@@ -279,7 +281,7 @@ module _ (d : Dialect) (p : Prompts) (start b c : PlainInput) (old mid new : Pla
       omega (arith, whole_lines-more d b.passes f.read more f.done w, none, f.count_is)
 
   abbrev pub StoppedHere : LineFault → Type 0
-  StoppedHere e = IsStopped d p start.bytes.source c.bytes.source old mid s0 (run_fault e (count + 1))
+  StoppedHere e = IsStoppedBy d p start.bytes.source c.bytes.source old mid s0 (run_fault e (count + 1))
 
   pub fault_now : (fault : LineFault) → AreWhole d b.passes f.read f.done → IsFault b c fault → StoppedHere fault
   fault_now faults.Memory w n = record {
@@ -318,41 +320,41 @@ module _ (d : Dialect) (p : Prompts) (start b c : PlainInput) (old mid new : Pla
   }
 
   pub front_now : (line : ScriptLine) (t : BookmarkedSession) → AreWhole d b.passes f.read f.done → IsNext b c (Some line) → t ≡ after s line →
-      WroteFront mid.contents new.contents (answer s line ++ prompt_text p t.session.current) → new.failures ≡ one_more mid.failures → IsStopped d p start.bytes.source c.bytes.source old new s0 run_faults.Write
+      WroteFront mid.contents new.contents (p.line (count + 1) s line ++ p.front t.session) → new.failures ≡ one_more mid.failures → IsStoppedBy d p start.bytes.source c.bytes.source old new s0 run_faults.Write
   unfolding out
   front_now line t w n is a q =
       let r = then_line d f.read f.done line f.dialect_is w n in
-      let rest = answers-begin p (after s line) r.0 in
-      let all : answers p s0 (lines d ((f.read ++ n.0) ++ c.bytes.unused)) ≡ answers p s0 f.done ++ (answer s line ++ (prompt_text p (after s line).session.current ++ rest.0)) =
-      ap (λ l. answers p s0 l) r.1 ∙ answers-then p s0 f.done line r.0
-      ∙ ap (λ x. answers p s0 f.done ++ (answer x line ++ answers p (after x line) r.0)) (sym f.session_is)
-      ∙ ap (λ l. answers p s0 f.done ++ (answer s line ++ l)) rest.1 in
+      let rest = answers-begin p (suc (count + 1)) (after s line) r.0 in
+      let all : answers p 1 s0 (lines d ((f.read ++ n.0) ++ c.bytes.unused)) ≡ answers p 1 s0 f.done ++ (p.line (count + 1) s line ++ (p.front (after s line).session ++ rest.0)) =
+      ap (λ l. answers p 1 s0 l) r.1 ∙ answers-then p 1 s0 f.done line r.0 (count + 1) (omega (arith, f.count_is))
+      ∙ ap (λ x. answers p 1 s0 f.done ++ (p.line (count + 1) x line ++ answers p (suc (count + 1)) (after x line) r.0)) (sym f.session_is)
+      ∙ ap (λ l. answers p 1 s0 f.done ++ (p.line (count + 1) s line ++ l)) rest.1 in
       record {
         read = (f.read ++ n.0) ++ c.bytes.unused;
         took = read_of start.bytes c.bytes (f.read ++ n.0) fresh (Passed-then f.passed n.1.passed);
         because = q ∙ ap one_more f.writes;
         wrote = (
-          answers p s0 f.done ++ a.0,
-          a.1 ++ (rest.0 ++ end_text p),
-          Appends-then old.contents mid.contents new.contents (answers p s0 f.done) a.0 f.wrote a.2,
-          fits (answers p s0 f.done) a.0 a.1 (answer s line) (prompt_text p (after s line).session.current) rest.0 (end_text p) (answers p s0 (lines d ((f.read ++ n.0) ++ c.bytes.unused)))
-              (a.3 ∙ ap (λ x. answer s line ++ prompt_text p x.session.current) is) all,
+          answers p 1 s0 f.done ++ a.0,
+          a.1 ++ (rest.0 ++ p.end),
+          Appends-then old.contents mid.contents new.contents (answers p 1 s0 f.done) a.0 f.wrote a.2,
+          fits (answers p 1 s0 f.done) a.0 a.1 (p.line (count + 1) s line) (p.front (after s line).session) rest.0 (p.end) (answers p 1 s0 (lines d ((f.read ++ n.0) ++ c.bytes.unused)))
+              (a.3 ∙ ap (λ x. p.line (count + 1) s line ++ p.front x.session) is) all,
         );
       }
 
 -- a run that never began
-pub nothing_read : (d : Dialect) (p : Prompts) (reader : Told) (sink : PlainSink) (start : BookmarkedSession) → IsStopped d p reader reader sink sink start (run_faults.Memory 0)
+pub nothing_read : (d : Dialect) (p : Telling) (reader : Told) (sink : PlainSink) (start : BookmarkedSession) → IsStoppedBy d p reader reader sink sink start (run_faults.Memory 0)
 nothing_read d p reader sink start = record { read = []; took = keep_all reader.remaining; because = tt; wrote = Appends-none sink.contents }
 
 -- a run whose first prompt was not written
-pub nothing_asked : (d : Dialect) (p : Prompts) (reader : Told) (old new : PlainSink) (start : BookmarkedSession) → WroteFront old.contents new.contents (prompt_text p start.session.current) → new.failures ≡ one_more old.failures →
-    IsStopped d p reader reader old new start run_faults.Write
+pub nothing_asked : (d : Dialect) (p : Telling) (reader : Told) (old new : PlainSink) (start : BookmarkedSession) → WroteFront old.contents new.contents (p.front start.session) → new.failures ≡ one_more old.failures →
+    IsStoppedBy d p reader reader old new start run_faults.Write
 unfolding out lines cuts
 nothing_asked d p reader old new start a t = record {
   read = [];
   took = keep_all reader.remaining;
   because = t;
-  wrote = (a.0, a.1 ++ end_text p, a.2, sym (append_assoc a.0 a.1 (end_text p)) ∙ ap (λ l. l ++ end_text p) a.3);
+  wrote = (a.0, a.1 ++ p.end, a.2, sym (append_assoc a.0 a.1 (p.end)) ∙ ap (λ l. l ++ p.end) a.3);
 }
 
 -- ---- a run on a reader that is lent: it tells the same, but for which reader it is
@@ -363,7 +365,7 @@ because_told run_faults.Read read a b n m old new p = p
 because_told run_faults.Write read a b n m old new p = p
 because_told run_faults.TooLong read a b n m old new p = p
 
-abbrev done_told : {d : Dialect} {p : Prompts} {old new : PlainSink} {start : BookmarkedSession} {sum : Summary} (a b : Told) (n m : ℕ) → IsDone d p (told_by a n) (told_by b m) old new start sum → IsDone d p a b old new start sum
+abbrev done_told : {d : Dialect} {p : Telling} {old new : PlainSink} {start : BookmarkedSession} {sum : Summary} (a b : Told) (n m : ℕ) → IsDoneBy d p (told_by a n) (told_by b m) old new start sum → IsDoneBy d p a b old new start sum
 done_told a b n m x = record {
   read = x.read;
   took = x.took;
@@ -378,11 +380,11 @@ done_told a b n m x = record {
   refused_are = x.refused_are;
 }
 
-pub left_told : {d : Dialect} {p : Prompts} {old new : PlainSink} {start left : BookmarkedSession} {sum : Summary} (a b : Told) (n m : ℕ) → IsLeft d p (told_by a n) (told_by b m) old new start left sum →
-    IsLeft d p a b old new start left sum
+pub left_told : {d : Dialect} {p : Telling} {old new : PlainSink} {start left : BookmarkedSession} {sum : Summary} (a b : Told) (n m : ℕ) → IsLeftBy d p (told_by a n) (told_by b m) old new start left sum →
+    IsLeftBy d p a b old new start left sum
 left_told a b n m x = record { done = done_told a b n m x.done; left_is = x.left_is }
 
-pub stopped_told : {d : Dialect} {p : Prompts} {old new : PlainSink} {start : BookmarkedSession} {e : RunFault} (a b : Told) (n m : ℕ) → IsStopped d p (told_by a n) (told_by b m) old new start e → IsStopped d p a b old new start e
+pub stopped_told : {d : Dialect} {p : Telling} {old new : PlainSink} {start : BookmarkedSession} {e : RunFault} (a b : Told) (n m : ℕ) → IsStoppedBy d p (told_by a n) (told_by b m) old new start e → IsStoppedBy d p a b old new start e
 stopped_told {e = e} a b n m x = record { read = x.read; took = x.took; because = because_told e x.read a b n m _ _ x.because; wrote = x.wrote }
 
 -- ---- the source is written to behind the last read: it tells the same of what is read
@@ -393,7 +395,7 @@ because_beside run_faults.Read read a b sink old new p = p
 because_beside run_faults.Write read a b sink old new p = p
 because_beside run_faults.TooLong read a b sink old new p = p
 
-abbrev done_beside : {d : Dialect} {p : Prompts} {old new : PlainSink} {start : BookmarkedSession} {sum : Summary} (a b : Told) (sink : PlainSink) → IsDone d p a b old new start sum → IsDone d p a (source.with_sink b sink) old new start sum
+abbrev done_beside : {d : Dialect} {p : Telling} {old new : PlainSink} {start : BookmarkedSession} {sum : Summary} (a b : Told) (sink : PlainSink) → IsDoneBy d p a b old new start sum → IsDoneBy d p a (source.with_sink b sink) old new start sum
 done_beside a b sink x = record {
   read = x.read;
   took = x.took;
@@ -408,31 +410,31 @@ done_beside a b sink x = record {
   refused_are = x.refused_are;
 }
 
-pub left_beside : {d : Dialect} {p : Prompts} {old new : PlainSink} {start left : BookmarkedSession} {sum : Summary} (a b : Told) (sink : PlainSink) → IsLeft d p a b old new start left sum →
-    IsLeft d p a (source.with_sink b sink) old new start left sum
+pub left_beside : {d : Dialect} {p : Telling} {old new : PlainSink} {start left : BookmarkedSession} {sum : Summary} (a b : Told) (sink : PlainSink) → IsLeftBy d p a b old new start left sum →
+    IsLeftBy d p a (source.with_sink b sink) old new start left sum
 left_beside a b sink x = record { done = done_beside a b sink x.done; left_is = x.left_is }
 
-pub stopped_beside : {d : Dialect} {p : Prompts} {old new : PlainSink} {start : BookmarkedSession} {e : RunFault} (a b : Told) (sink : PlainSink) → IsStopped d p a b old new start e → IsStopped d p a (source.with_sink b sink) old new start e
+pub stopped_beside : {d : Dialect} {p : Telling} {old new : PlainSink} {start : BookmarkedSession} {e : RunFault} (a b : Told) (sink : PlainSink) → IsStoppedBy d p a b old new start e → IsStoppedBy d p a (source.with_sink b sink) old new start e
 stopped_beside {e = e} a b sink x = record { read = x.read; took = x.took; because = because_beside e x.read a b sink _ _ x.because; wrote = x.wrote }
 
 -- ---- what was written, where nothing was written meanwhile
 
-pub same_sink : {d : Dialect} {p : Prompts} {old : PlainSink} {start : BookmarkedSession} {e : RunFault} (a b : Told) (x y : Beside) → y ≡ x → IsStopped d p a b old x.sink start e → IsStopped d p a b old y.sink start e
-same_sink {d} {p} {old} {start} {e} a b x y same s = subst (λ k. IsStopped d p a b old k.sink start e) (sym same) s
+pub same_sink : {d : Dialect} {p : Telling} {old : PlainSink} {start : BookmarkedSession} {e : RunFault} (a b : Told) (x y : Beside) → y ≡ x → IsStoppedBy d p a b old x.sink start e → IsStoppedBy d p a b old y.sink start e
+same_sink {d} {p} {old} {start} {e} a b x y same s = subst (λ k. IsStoppedBy d p a b old k.sink start e) (sym same) s
 
 -- ---- lines whose source was written to
 
-pub so_far_written : {d : Dialect} {p : Prompts} {start : PlainInput} {old new : PlainSink} {m0 m : BookmarkedSession} {count : ℕ} {bad refused : Tally} (now then : PlainLines) (sink : PlainSink) → then ≡ written.with_sink now sink →
+pub so_far_written : {d : Dialect} {p : Telling} {start : PlainInput} {old new : PlainSink} {m0 m : BookmarkedSession} {count : ℕ} {bad refused : Tally} (now then : PlainLines) (sink : PlainSink) → then ≡ written.with_sink now sink →
     IsSoFar d p start now.input old new m0 m count bad refused → IsSoFar d p start then.input old new m0 m count bad refused
 so_far_written {d} {p} {start} {old} {new} {m0} {m} {count} {bad} {refused} now then sink e f =
     subst (λ l. IsSoFar d p start l.input old new m0 m count bad refused) (sym e) (so_far_beside sink f)
 
-pub left_written : {d : Dialect} {p : Prompts} {a : Told} {old new : PlainSink} {start left : BookmarkedSession} {sum : Summary} (now then : PlainLines) (sink : PlainSink) → then ≡ written.with_sink now sink →
-    IsLeft d p a now.input.bytes.source old new start left sum → IsLeft d p a then.input.bytes.source old new start left sum
+pub left_written : {d : Dialect} {p : Telling} {a : Told} {old new : PlainSink} {start left : BookmarkedSession} {sum : Summary} (now then : PlainLines) (sink : PlainSink) → then ≡ written.with_sink now sink →
+    IsLeftBy d p a now.input.bytes.source old new start left sum → IsLeftBy d p a then.input.bytes.source old new start left sum
 left_written {d} {p} {a} {old} {new} {start} {left} {sum} now then sink e x =
-    subst (λ l. IsLeft d p a l.input.bytes.source old new start left sum) (sym e) (left_beside a now.input.bytes.source sink x)
+    subst (λ l. IsLeftBy d p a l.input.bytes.source old new start left sum) (sym e) (left_beside a now.input.bytes.source sink x)
 
-pub stopped_written : {d : Dialect} {p : Prompts} {a : Told} {old new : PlainSink} {start : BookmarkedSession} {fault : RunFault} (now then : PlainLines) (sink : PlainSink) → then ≡ written.with_sink now sink →
-    IsStopped d p a now.input.bytes.source old new start fault → IsStopped d p a then.input.bytes.source old new start fault
+pub stopped_written : {d : Dialect} {p : Telling} {a : Told} {old new : PlainSink} {start : BookmarkedSession} {fault : RunFault} (now then : PlainLines) (sink : PlainSink) → then ≡ written.with_sink now sink →
+    IsStoppedBy d p a now.input.bytes.source old new start fault → IsStoppedBy d p a then.input.bytes.source old new start fault
 stopped_written {d} {p} {a} {old} {new} {start} {fault} now then sink e x =
-    subst (λ l. IsStopped d p a l.input.bytes.source old new start fault) (sym e) (stopped_beside a now.input.bytes.source sink x)
+    subst (λ l. IsStoppedBy d p a l.input.bytes.source old new start fault) (sym e) (stopped_beside a now.input.bytes.source sink x)

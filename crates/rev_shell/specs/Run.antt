@@ -47,11 +47,21 @@ end_text Hidden = []
 
 -- ---- answers
 
--- what is written of the lines, from a session on: where prompts are shown one before each line, and one behind the
--- last; and each line's answer
-abbrev pub answers : Prompts → BookmarkedSession → List ScriptLine → List ℕ
-answers p m [] = prompt_text p m.session.current
-answers p m (l ∷ ls) = prompt_text p m.session.current ++ (answer m l ++ answers p (after m l) ls)
+-- how a run tells its lines: what is written in front of each line and behind the last, of a line by its number and the
+-- session before it, and at the end
+pub record Telling : Type 0 where
+  pub front : SessionState → List ℕ
+  pub line : ℕ → BookmarkedSession → ScriptLine → List ℕ
+  pub end : List ℕ
+
+-- each line by the text of its answer, with prompts where these are shown
+abbrev pub as_text : Prompts → Telling
+as_text p = record { front = λ m. prompt_text p m.current; line = λ n m l. answer m l; end = end_text p }
+
+-- what is written of the lines, from this number and a session on
+abbrev pub answers : Telling → ℕ → BookmarkedSession → List ScriptLine → List ℕ
+answers t n m [] = t.front m.session
+answers t n m (l ∷ ls) = t.front m.session ++ (t.line n m l ++ answers t (suc n) (after m l) ls)
 
 -- the session after the lines
 abbrev pub session_after : BookmarkedSession → List ScriptLine → BookmarkedSession
@@ -59,17 +69,17 @@ session_after m [] = m
 session_after m (l ∷ ls) = session_after (after m l) ls
 
 -- what a run writes for these bytes, in a dialect and from a session on
-unfoldable pub out : Dialect → Prompts → BookmarkedSession → List ℕ → List ℕ
-out d p m bytes = answers p m (lines d bytes) ++ end_text p
+unfoldable pub out : Dialect → Telling → BookmarkedSession → List ℕ → List ℕ
+out d t m bytes = answers t 1 m (lines d bytes) ++ t.end
 
 -- what is written of the first j lines
-unfoldable pub text : Dialect → Prompts → BookmarkedSession → List ℕ → ℕ → List ℕ
-text d p m bytes j = answers p m (take j (lines d bytes))
+unfoldable pub text : Dialect → Telling → BookmarkedSession → List ℕ → ℕ → List ℕ
+text d t m bytes j = answers t 1 m (take j (lines d bytes))
 
 -- what is written before this line, counted from 1; line 0 is the session, before which nothing is
-abbrev pub text_before : Dialect → Prompts → BookmarkedSession → List ℕ → ℕ → List ℕ
-text_before d p m bytes zero = []
-text_before d p m bytes (suc j) = text d p m bytes j
+abbrev pub text_before : Dialect → Telling → BookmarkedSession → List ℕ → ℕ → List ℕ
+text_before d t m bytes zero = []
+text_before d t m bytes (suc j) = text d t m bytes j
 
 -- ---- lines that are counted
 
@@ -111,14 +121,14 @@ with_mark t marked number = cond marked (record { count = t.count + 1; first = c
 
 -- ---- ends
 
--- what was written at a fault, where these bytes were read: where memory was wanted, the answers of the lines before;
--- where a read failed or the script was too long, the answers of the lines that lie whole in the bytes (in those that
--- a script may have); where a write failed, a front of all answers
-abbrev pub Wrote : RunFault → Dialect → Prompts → BookmarkedSession → List ℕ → Option (List ℕ) → Option (List ℕ) → Type 0
-Wrote (Memory line) d p m read old new = Appends old new (text_before d p m read line)
-Wrote Read d p m read old new = Appends old new (text d p m read (whole_lines d read))
-Wrote TooLong d p m read old new = Appends old new (text d p m read (whole_lines d (take 4294967296 read)))
-Wrote Write d p m read old new = WroteFront old new (out d p m read)
+-- what was written at a fault, where these bytes were read: where memory was wanted, what is told of the lines before;
+-- where a read failed or the script was too long, of the lines that lie whole in the bytes (in those that a script may
+-- have); where a write failed, a front of what is told of all
+abbrev pub Wrote : RunFault → Dialect → Telling → BookmarkedSession → List ℕ → Option (List ℕ) → Option (List ℕ) → Type 0
+Wrote (Memory line) d t m read old new = Appends old new (text_before d t m read line)
+Wrote Read d t m read old new = Appends old new (text d t m read (whole_lines d read))
+Wrote TooLong d t m read old new = Appends old new (text d t m read (whole_lines d (take 4294967296 read)))
+Wrote Write d t m read old new = WroteFront old new (out d t m read)
 
 -- why a run stopped: one of its reads failed, the last; more bytes were read than may be; one of its writes failed, the
 -- last
@@ -128,14 +138,13 @@ Because Read read reader_old reader_new old new = (reader_new.last ≡ Failed) �
 Because TooLong read reader_old reader_new old new = 4294967296 < length read
 Because Write read reader_old reader_new old new = new.failures ≡ sink.one_more old.failures
 
--- at the end: all was read (the last read, with room, gave none), and the answers of all its lines were written;
--- nothing failed
-pub record IsDone (d : Dialect) (p : Prompts) (reader_old reader_new : Told) (old new : PlainSink) (start : BookmarkedSession) (sum : Summary) : Type 0 where
+-- at the end: all was read (the last read, with room, gave none), and all its lines were told; nothing failed
+pub record IsDoneBy (d : Dialect) (t : Telling) (reader_old reader_new : Told) (old new : PlainSink) (start : BookmarkedSession) (sum : Summary) : Type 0 where
   pub read : List ℕ
   pub took : Consumes reader_old.remaining reader_new.remaining read
   pub none_left : IsAtEnd reader_new.remaining
   pub ended : reader_new.last ≡ Ended
-  pub wrote : Appends old.contents new.contents (out d p start read)
+  pub wrote : Appends old.contents new.contents (out d t start read)
   pub reads : reader_new.failures ≡ reader_old.failures
   pub writes : new.failures ≡ old.failures
   pub lines_are : sum.lines ≡ length (lines d read)
@@ -144,16 +153,27 @@ pub record IsDone (d : Dialect) (p : Prompts) (reader_old reader_new : Told) (ol
   pub refused_are : sum.refused ≡ tally_of (refused_marks start (lines d read))
 
 -- the same, and what the lines were done on is as they leave it
-pub record IsLeft (d : Dialect) (p : Prompts) (reader_old reader_new : Told) (old new : PlainSink) (start left : BookmarkedSession) (sum : Summary) : Type 0 where
-  pub done : IsDone d p reader_old reader_new old new start sum
+pub record IsLeftBy (d : Dialect) (t : Telling) (reader_old reader_new : Told) (old new : PlainSink) (start left : BookmarkedSession) (sum : Summary) : Type 0 where
+  pub done : IsDoneBy d t reader_old reader_new old new start sum
   pub left_is : left ≡ session_after start (lines d done.read)
 
--- at a fault: these bytes were read, and these answers of theirs written
-pub record IsStopped (d : Dialect) (p : Prompts) (reader_old reader_new : Told) (old new : PlainSink) (start : BookmarkedSession) (e : RunFault) : Type 0 where
+-- at a fault: these bytes were read, and these lines of theirs told
+pub record IsStoppedBy (d : Dialect) (t : Telling) (reader_old reader_new : Told) (old new : PlainSink) (start : BookmarkedSession) (e : RunFault) : Type 0 where
   pub read : List ℕ
   pub took : Consumes reader_old.remaining reader_new.remaining read
   pub because : Because e read reader_old reader_new old new
-  pub wrote : Wrote e d p start read old.contents new.contents
+  pub wrote : Wrote e d t start read old.contents new.contents
+
+-- ---- by the text of the answers
+
+abbrev pub IsDone : Dialect → Prompts → Told → Told → PlainSink → PlainSink → BookmarkedSession → Summary → Type 0
+IsDone d p reader_old reader_new old new start sum = IsDoneBy d (as_text p) reader_old reader_new old new start sum
+
+abbrev pub IsLeft : Dialect → Prompts → Told → Told → PlainSink → PlainSink → BookmarkedSession → BookmarkedSession → Summary → Type 0
+IsLeft d p reader_old reader_new old new start left sum = IsLeftBy d (as_text p) reader_old reader_new old new start left sum
+
+abbrev pub IsStopped : Dialect → Prompts → Told → Told → PlainSink → PlainSink → BookmarkedSession → RunFault → Type 0
+IsStopped d p reader_old reader_new old new start e = IsStoppedBy d (as_text p) reader_old reader_new old new start e
 
 -- a reader's fault at a line, as one of the run
 abbrev pub run_fault : LineFault → ℕ → RunFault

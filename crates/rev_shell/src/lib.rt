@@ -1,5 +1,5 @@
 //! Scripts run against a session: what is written is a function of what is read.
 #![tactic(auto)]
 
-mod answer;
+pub mod answer;
 pub mod run;

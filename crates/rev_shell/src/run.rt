@@ -106,9 +106,10 @@ fn ends_refused(text: &[u8]) -> bool
         || text.ends_with(b"SERVER_ERROR too many nested forks\r\n")
 }
 
-// The same. (The last letter of either refusal is an `s`, and that of hardly any other answer.)
+/// Whether an answer ends with a refusal of the tree. (The last letter of either refusal is an `s`, and that of hardly
+/// any other answer.)
 #[inline(always)]
-fn is_refusal(text: &[u8]) -> bool
+pub fn is_refusal(text: &[u8]) -> bool
     ensures { result ≡ is_refusal text.now }
 {
     let size = text.len();

@@ -5,7 +5,7 @@ use Rattle.std.proofs.lemmas.Bool.Decides.{leb_tells}
 use Rattle.std.proofs.lemmas.List.{take_more}
 use Rattle.rev_model.specs.Actor.{owned_pages}
 use Rattle.rev_model.specs.State.{State}
-use Rattle.rev_views.specs.Classes.{shown, class_line, classes_to}
+use Rattle.rev_views.specs.Classes.{shown, class_row, classes_to}
 
 pub shown_less : (n : ℕ) → n < 18446744073709551615 → n ≡ shown n
 shown_less n l = sym (ap (λ b. cond b n 18446744073709551615) (lt-ltb n 18446744073709551615 l))
@@ -50,8 +50,8 @@ pub owned_next : (c : ℕ) (owner : List ℕ) (n d : ℕ) → n < length owner �
 owned_next c owner n d l e = ap (owned_pages c) (take_more owner n 0 l ∙ ap (λ x. take n owner ++ x ∷ []) (sym e)) ∙ owned_more c (take n owner) d
 
 -- one class more
-pub classes_next : (s : State) (n : ℕ) → classes_to s (n + 1) ≡ classes_to s n ++ class_line s (n + 1)
-classes_next s n = ap (classes_to s) up ∙ ap (λ j. classes_to s n ++ class_line s j) (sym up) where
+pub classes_next : (s : State) (n : ℕ) → classes_to s (n + 1) ≡ classes_to s n ++ class_row s (n + 1)
+classes_next s n = ap (classes_to s) up ∙ ap (λ j. classes_to s n ++ class_row s j) (sym up) where
   up : n + 1 ≡ suc n
   up = omega arith
 

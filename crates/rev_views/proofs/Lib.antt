@@ -3,3 +3,4 @@ pub mod Shows
 pub mod Bookmarked
 pub mod Trees
 pub mod Counting
+pub mod Told

@@ -1,10 +1,10 @@
 -- Names for nodes, in the order in which they were first given.
 -- Rule of this project: `:mark`, `:marks` and `:goto`.
-use Rattle.std.specs.Prelude.{ℕ, cond, List, [], ◌∷◌, ◌++◌, Option, None, Some, codes, decimal}
+use Rattle.std.specs.Prelude.{ℕ, cond, List, [], ◌∷◌, ◌++◌, Option, None, Some, codes}
 use Rattle.std.specs.Str.{bytes_eq}
 use Rattle.rev_tree.specs.Positions.{SessionState}
-use Rattle.rev_texts.specs.Texts.{output}
-use Rattle.rev_views.specs.Trees.{go_text, gone}
+use Rattle.rev_views.specs.Pieces.{Piece, row, over, number, bytes, end, word_row}
+use Rattle.rev_views.specs.Trees.{go_rows, gone}
 
 -- the node of a name
 abbrev pub bookmarked : List (List ℕ × ℕ) → List ℕ → Option ℕ
@@ -16,19 +16,23 @@ abbrev pub with_bookmark : List (List ℕ × ℕ) → List ℕ → ℕ → List 
 with_bookmark [] name n = (name, n) ∷ []
 with_bookmark (b ∷ bs) name n = cond (bytes_eq name b.0) ((b.0, n) ∷ bs) (b ∷ with_bookmark bs name n)
 
--- the line of a bookmark
-abbrev pub bookmarked_text : List ℕ → ℕ → List ℕ
-bookmarked_text name n = output (codes "MARK " ++ name ++ codes " " ++ decimal n)
+-- a bookmark
+abbrev pub bookmark_row : List ℕ → ℕ → List Piece
+bookmark_row name n = row (codes "MARK") ∷ bytes (codes "name") name ∷ number (codes "node") n ∷ over ∷ []
 
--- the lines of all, and END
-abbrev pub bookmarks_text : List (List ℕ × ℕ) → List ℕ
-bookmarks_text [] = output (codes "END")
-bookmarks_text (b ∷ bs) = bookmarked_text b.0 b.1 ++ bookmarks_text bs
+-- all of them
+abbrev pub bookmark_rows : List (List ℕ × ℕ) → List Piece
+bookmark_rows [] = []
+bookmark_rows (b ∷ bs) = bookmark_row b.0 b.1 ++ bookmark_rows bs
+
+-- the answer to `:marks`
+abbrev pub bookmarks_rows : List (List ℕ × ℕ) → List Piece
+bookmarks_rows bs = bookmark_rows bs ++ end ∷ []
 
 -- to the node of a name; a bookmark stays where its node was pruned, and is then not gone to
-abbrev pub goto_text : SessionState → Option ℕ → List ℕ
-goto_text m None = output (codes "NOMARK")
-goto_text m (Some n) = go_text m n
+abbrev pub goto_rows : SessionState → Option ℕ → List Piece
+goto_rows m None = word_row (codes "NOMARK")
+goto_rows m (Some n) = go_rows m n
 
 -- the session at the node, if there is one
 abbrev pub gone_by : SessionState → Option ℕ → SessionState

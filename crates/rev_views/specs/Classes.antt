@@ -1,6 +1,6 @@
 -- What is told of how full the slab classes are.
--- Rule of this project: the text of `:classes`.
-use Rattle.std.specs.Prelude.{ℕ, zero, suc, ◌+◌, ◌-◌, cond, nat_lt, List, [], ◌∷◌, ◌++◌, length, slice_index, codes, decimal}
+-- Rule of this project: the rows of `:classes`.
+use Rattle.std.specs.Prelude.{ℕ, zero, suc, ◌+◌, ◌-◌, cond, nat_lt, List, [], ◌∷◌, ◌++◌, length, slice_index, codes}
 use Rattle.rev_model.specs.State.{State, free_of, queue_of, last_class}
 use Rattle.rev_model.specs.Actor.{owned_pages}
 use Rattle.rev_model.specs.Words.{bytes}
@@ -8,7 +8,7 @@ use Rattle.rev_model.specs.declared.Entry.{Entry}
 use Rattle.rev_model.specs.declared.Entry.TheVariants.{Chunk, Mark}
 use Rattle.rev_model.specs.declared.Queue.{Queue}
 use Rattle.rev_model.specs.declared.Queue.TheVariants.{Hot, Warm, Cold, Temp}
-use Rattle.rev_texts.specs.Texts.{output, queue_text}
+use Rattle.rev_views.specs.Pieces.{Piece, row, over, mark, number, figures, end}
 
 -- a count as it is shown: no higher than the highest number of 64 bits
 abbrev pub shown : ℕ → ℕ
@@ -24,31 +24,30 @@ abbrev pub items_in : List Entry → ℕ
 items_in [] = 0
 items_in (e ∷ es) = item_count e + items_in es
 
--- a queue: its items, and their bytes
-abbrev pub queue_figures : State → ℕ → Queue → List ℕ
-queue_figures s c q = codes " " ++ queue_text q ++ (codes " " ++ decimal (shown (items_in (queue_of s c q)))) ++ (codes " " ++ decimal (bytes s c q))
+-- a queue of this name: its items, and their bytes
+abbrev pub queue_figures : State → ℕ → (name : List ℕ) → Queue → Piece
+queue_figures s c name q = figures name (shown (items_in (queue_of s c q))) (bytes s c q)
 
-abbrev pub queues_figures : State → ℕ → List ℕ
-queues_figures s c = queue_figures s c Hot ++ queue_figures s c Warm ++ queue_figures s c Cold ++ queue_figures s c Temp
+abbrev pub queues_figures : State → ℕ → List Piece
+queues_figures s c =
+    mark (codes " hot") ∷ queue_figures s c (codes "hot") Hot ∷ mark (codes " warm") ∷ queue_figures s c (codes "warm") Warm
+    ∷ mark (codes " cold") ∷ queue_figures s c (codes "cold") Cold ∷ mark (codes " temp") ∷ queue_figures s c (codes "temp") Temp ∷ over ∷ []
 
 -- a class: the size of its chunks, its pages and its free chunks
-abbrev pub class_figures : State → ℕ → ℕ → List ℕ
+abbrev pub class_figures : State → ℕ → ℕ → List Piece
 class_figures s c pages =
-    (codes "CLASS " ++ decimal c) ++ (codes " size " ++ decimal (slice_index s.fixed.sizes (c - 1))) ++ (codes " pages " ++ decimal pages)
-    ++ (codes " free " ++ decimal (shown (length (free_of s c))))
+    row (codes "CLASS") ∷ number (codes "class") c ∷ mark (codes " size") ∷ number (codes "size") (slice_index s.fixed.sizes (c - 1))
+    ∷ mark (codes " pages") ∷ number (codes "pages") pages ∷ mark (codes " free") ∷ number (codes "free") (shown (length (free_of s c))) ∷ []
 
-abbrev pub class_text : State → ℕ → ℕ → List ℕ
-class_text s c pages = output (class_figures s c pages ++ queues_figures s c)
+-- a class that owns pages
+abbrev pub class_row : State → ℕ → List Piece
+class_row s c = cond (nat_lt 0 (owned_pages c s.owner)) (class_figures s c (owned_pages c s.owner) ++ queues_figures s c) []
 
--- the line of a class that owns pages
-abbrev pub class_line : State → ℕ → List ℕ
-class_line s c = cond (nat_lt 0 (owned_pages c s.owner)) (class_text s c (owned_pages c s.owner)) []
-
--- the lines of the first n classes
-abbrev pub classes_to : State → ℕ → List ℕ
+-- the first n classes
+abbrev pub classes_to : State → ℕ → List Piece
 classes_to s zero = []
-classes_to s (suc n) = classes_to s n ++ class_line s (suc n)
+classes_to s (suc n) = classes_to s n ++ class_row s (suc n)
 
--- those of all classes, then END
-abbrev pub classes_text : State → List ℕ
-classes_text s = classes_to s (last_class s) ++ output (codes "END")
+-- those of all classes, then the end
+abbrev pub classes_rows : State → List Piece
+classes_rows s = classes_to s (last_class s) ++ end ∷ []

@@ -1,6 +1,9 @@
+pub mod Pieces
 pub mod Trees
 pub mod Bookmarks
+pub mod Pushers
 pub mod Reasons
 pub mod Bookmarked
 pub mod Views
 pub mod Classes
+pub mod Shown

@@ -1,21 +1,26 @@
 -- What is answered to the question why a key is gone, and to that for its story.
--- Rule of this project: the texts of `:why` and `:story`. Where a log tells of a node, it says why a key left there, and
+-- Rule of this project: the rows of `:why` and `:story`. Where a log tells of a node, it says why a key left there, and
 -- else the rules do.
-use Rattle.std.specs.Prelude.{ℕ, Bool, true, false, cond, List, [], ◌∷◌, ◌++◌, Option, None, Some, codes, decimal}
+use Rattle.std.specs.Prelude.{ℕ, Bool, true, false, cond, List, [], ◌∷◌, ◌++◌, Option, None, Some, codes}
 use Rattle.rev_evidence.specs.Notes.{PlainNotes, told_at, told_before, is_outside}
 use Rattle.rev_evidence.specs.Verdicts.{is_inferred}
 use Rattle.rev_evidence.specs.Words.{reason_word, evidence_word}
 use Rattle.rev_evidence.specs.declared.departed.Told.{Told}
+use Rattle.rev_evidence.specs.declared.verdict.Verdict.{Verdict}
 use Rattle.rev_model.specs.declared.Cause.{Cause}
 use Rattle.rev_model.specs.declared.Cause.TheVariants.{Evicted, ReclaimedByPull, ReclaimedByCrawler, ReclaimedByHit, ReclaimedByMover, EvictedByMover, Deleted, DroppedByFailedSet}
 use Rattle.rev_model.specs.declared.ClassQueue.{ClassQueue}
+use Rattle.rev_model.specs.declared.Queue.{Queue}
 use Rattle.rev_model.specs.declared.EventKind.{EventKind}
 use Rattle.rev_model.specs.declared.EventKind.TheVariants as kind
 use Rattle.rev_watch.specs.declared.event.Timestamp.{Timestamp}
 use Rattle.rev_explain.specs.declared.events.Event.{Event}
 use Rattle.rev_explain.specs.declared.events.Why.{Why}
 use Rattle.rev_explain.specs.declared.events.Why.TheVariants as why
-use Rattle.rev_texts.specs.Texts.{output, queue_text}
+use Rattle.rev_tree.specs.Positions.{SessionState}
+use Rattle.rev_texts.specs.Texts.{queue_text}
+use Rattle.rev_views.specs.Pieces.{PlainPusher, Piece, row, bare, over, mark, nothing, number, bytes, pushed, end, word_row}
+use Rattle.rev_views.specs.Pushers.{pusher}
 
 -- the word of a cause
 abbrev pub cause_word : Cause → List ℕ
@@ -28,70 +33,87 @@ cause_word EvictedByMover = codes "evicted_by_mover"
 cause_word Deleted = codes "deleted"
 cause_word DroppedByFailedSet = codes "dropped_by_failed_set"
 
--- a second by the Unix clock, or `-` where none is known
-abbrev pub second_word : Option Timestamp → List ℕ
-second_word None = codes "-"
-second_word (Some t) = decimal t.seconds
+-- a second by the Unix clock, where one is known
+abbrev pub second_field : (name : List ℕ) → Option Timestamp → Piece
+second_field name None = nothing name
+second_field name (Some t) = number name t.seconds
 
--- behind which second a key left, where that is inferred
-abbrev pub behind_words : Bool → Option Timestamp → List ℕ
-behind_words false t = []
-behind_words true t = codes " " ++ second_word t
+-- when a key left; where that is inferred, behind which second it left, and at which it was gone at the latest
+abbrev pub when_fields : Bool → Option Timestamp → Timestamp → List Piece
+when_fields true after before = second_field (codes "after") after ∷ number (codes "before") before.seconds ∷ []
+when_fields false after at = number (codes "ts") at.seconds ∷ []
 
--- what a log tells of a key that left: why, what tells it, and the second, by the Unix clock; where that is inferred,
--- behind which second it left, and at which it was gone at the latest
-abbrev pub told_words : Told → List ℕ
-told_words t = reason_word t.verdict.reason ++ codes " " ++ evidence_word t.verdict.evidence ++ behind_words (is_inferred t.verdict.evidence) t.after ++ codes " " ++ decimal t.time.seconds
+-- why it left, and what tells it
+abbrev pub verdict_fields : Verdict → List Piece
+verdict_fields v = bytes (codes "cause") (reason_word v.reason) ∷ bytes (codes "evidence") (evidence_word v.evidence) ∷ []
 
--- the same, or the word of the cause where it tells nothing
-abbrev pub told_or_cause : Option Told → Cause → List ℕ
-told_or_cause (Some t) c = told_words t
-told_or_cause None c = cause_word c
+-- who pushed it out, and the end of the row
+abbrev pub pushed_field : Option PlainPusher → List Piece
+pushed_field p = pushed p ∷ over ∷ []
+
+-- what a log tells of a key that left
+abbrev pub told_fields : Told → Option PlainPusher → List Piece
+told_fields t p = verdict_fields t.verdict ++ (when_fields (is_inferred t.verdict.evidence) t.after t.time ++ pushed_field p)
+
+-- the same of one that left at node n, or the word of the cause where it tells nothing
+abbrev pub told_or_cause : SessionState → PlainNotes → ℕ → Option Told → Cause → List Piece
+told_or_cause m log n (Some t) c = told_fields t (pusher m log n t.verdict.reason)
+told_or_cause m log n None c = bytes (codes "cause") (cause_word c) ∷ over ∷ []
 
 -- why a key left at node n, where the rules give this cause
-abbrev pub left_words : PlainNotes → ℕ → Cause → List ℕ → List ℕ
-left_words log n c k = told_or_cause (told_at log n c k) c
+abbrev pub left_fields : SessionState → PlainNotes → ℕ → Cause → List ℕ → List Piece
+left_fields m log n c k = told_or_cause m log n (told_at log n c k) c
 
--- that a key left in front of the root, and what a log tells of it
-abbrev pub departed_text : Told → List ℕ
-departed_text t = output (codes "LEFT 0 " ++ told_words t)
+abbrev pub left_row : SessionState → PlainNotes → ℕ → Cause → List ℕ → List Piece
+left_row m log n c k = row (codes "LEFT") ∷ number (codes "node") n ∷ left_fields m log n c k
 
--- that nothing is known of a key, and since when that is so, by the Unix clock, where the log goes back behind the root
-abbrev pub absent_text : Option Timestamp → List ℕ
-absent_text None = output (codes "NEVER")
-absent_text (Some t) = output (codes "NEVER since " ++ decimal t.seconds)
+-- a key left in front of the root, where no step is that pushed it out
+abbrev pub departed_rows : Told → List Piece
+departed_rows t = row (codes "LEFT") ∷ number (codes "node") 0 ∷ told_fields t None
+
+-- nothing is known of a key, and since when that is so, by the Unix clock, where the log goes back behind the root
+abbrev pub absent_rows : Option Timestamp → List Piece
+absent_rows None = word_row (codes "NEVER")
+absent_rows (Some t) = row (codes "NEVER") ∷ mark (codes " since") ∷ number (codes "since") t.seconds ∷ over ∷ []
 
 -- what is told of the last leaving of a key in front of the root, where that is known
-abbrev pub before_text : Option Told → Option Timestamp → List ℕ
-before_text None since = absent_text since
-before_text (Some t) since = departed_text t
+abbrev pub before_rows : Option Told → Option Timestamp → List Piece
+before_rows None since = absent_rows since
+before_rows (Some t) since = departed_rows t
 
 -- of a key that never was there since the root: that it is in no sample, or what is told of its last leaving before
-abbrev pub never_text : (outside : Bool) → Option Told → Option Timestamp → List ℕ
-never_text outside told since = cond outside (output (codes "OUTSIDE")) (before_text told since)
+abbrev pub never_rows : (outside : Bool) → Option Told → Option Timestamp → List Piece
+never_rows outside told since = cond outside (word_row (codes "OUTSIDE")) (before_rows told since)
 
 -- the answer to `:why` for a key
-abbrev pub why_text : PlainNotes → List ℕ → Why → List ℕ
-why_text log k why.Present = output (codes "PRESENT")
-why_text log k why.Never = never_text (is_outside log k) (told_before log k) log.since
-why_text log k (why.Left n c) = output (codes "LEFT " ++ decimal n.0 ++ codes " " ++ left_words log n.0 c k)
+abbrev pub why_rows : SessionState → PlainNotes → List ℕ → Why → List Piece
+why_rows m log k why.Present = word_row (codes "PRESENT")
+why_rows m log k why.Never = never_rows (is_outside log k) (told_before log k) log.since
+why_rows m log k (why.Left n c) = left_row m log n.0 c k
 
--- a class and a queue
-abbrev pub place_words : ClassQueue → List ℕ
-place_words p = codes " " ++ decimal p.class ++ codes " " ++ queue_text p.queue
+-- a key was stored so in a class and a queue, or moved from a queue to another
+abbrev pub place_fields : (event : List ℕ) → ClassQueue → List Piece
+place_fields event p = bytes (codes "event") event ∷ number (codes "class") p.class ∷ bytes (codes "queue") (queue_text p.queue) ∷ over ∷ []
+
+abbrev pub moved_fields : Queue → Queue → List Piece
+moved_fields from to = bytes (codes "event") (codes "moved") ∷ bytes (codes "from") (queue_text from) ∷ bytes (codes "to") (queue_text to) ∷ over ∷ []
 
 -- what the step of node n did to the key
-abbrev pub event_words : PlainNotes → List ℕ → ℕ → EventKind → List ℕ
-event_words log k n (kind.Stored p) = codes " stored" ++ place_words p
-event_words log k n (kind.Replaced p) = codes " replaced" ++ place_words p
-event_words log k n (kind.Moved from to) = codes " moved " ++ queue_text from ++ codes " " ++ queue_text to
-event_words log k n (kind.Left c) = codes " left " ++ left_words log n c k
+abbrev pub event_fields : SessionState → PlainNotes → List ℕ → ℕ → EventKind → List Piece
+event_fields m log k n (kind.Stored p) = place_fields (codes "stored") p
+event_fields m log k n (kind.Replaced p) = place_fields (codes "replaced") p
+event_fields m log k n (kind.Moved from to) = moved_fields from to
+event_fields m log k n (kind.Left c) = bytes (codes "event") (codes "left") ∷ left_fields m log n c k
 
--- the line of an event of the key
-abbrev pub event_text : PlainNotes → List ℕ → Event → List ℕ
-event_text log k e = output (decimal e.node.0 ++ event_words log k e.node.0 e.kind)
+-- an event of the key
+abbrev pub event_row : SessionState → PlainNotes → List ℕ → Event → List Piece
+event_row m log k e = bare (codes "EVENT") (codes "node") e.node.0 ∷ event_fields m log k e.node.0 e.kind
 
--- a line for each event of the key, then END
-abbrev pub events_text : PlainNotes → List ℕ → List Event → List ℕ
-events_text log k [] = output (codes "END")
-events_text log k (e ∷ es) = event_text log k e ++ events_text log k es
+-- all of them
+abbrev pub event_rows : SessionState → PlainNotes → List ℕ → List Event → List Piece
+event_rows m log k [] = []
+event_rows m log k (e ∷ es) = event_row m log k e ++ event_rows m log k es
+
+-- the answer to `:story` for a key
+abbrev pub events_rows : SessionState → PlainNotes → List ℕ → List Event → List Piece
+events_rows m log k es = event_rows m log k es ++ end ∷ []

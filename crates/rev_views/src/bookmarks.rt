@@ -1,10 +1,10 @@
 //! Names for nodes.
-ghost use Rattle.std.specs.Prelude.{◌≡◌, ◌++◌, [], OnOk, OnErr};
+ghost use Rattle.std.specs.Prelude.{◌≡◌, [], OnOk, OnErr};
 ghost use Rattle.std.specs.Option.{option_map};
-ghost use Rattle.rev_views.specs.Bookmarks.{bookmarked, with_bookmark, bookmarked_text, bookmarks_text};
+ghost use Rattle.rev_views.specs.Bookmarks.{bookmarked, with_bookmark, bookmark_row, bookmarks_rows};
 
+use crate::teller::{Piece, Teller};
 use indexmap::IndexMap;
-use rev_texts::text::{put_field, put_output};
 use rev_undotree::NodeId;
 use std::alloc::{AllocError, Allocator};
 use std::hash::{BuildHasherDefault, FoldHasher};
@@ -56,27 +56,25 @@ impl<'a, A: Allocator> Bookmarks<'a, A> {
         Ok(())
     }
 
-    /// Writes a line for each bookmark in their order, and `END`.
-    pub fn put_all<B: Allocator>(&self, out: &mut Vec<u8, B>) -> Result<(), AllocError>
-        ensures { OnOk result (out.new.items ≡ out.old.items ++ bookmarks_text self.now) }
+    /// Tells each bookmark in their order, and the end.
+    pub fn put_all<T: Teller>(&self, out: &mut T) -> Result<(), AllocError>
+        ensures { OnOk result (T.tells out.old (bookmarks_rows self.now) out.new) }
     {
         for (name, node) in self.nodes.iter() {
-            put_bookmark_line(out, name.as_slice(), *node)?;
+            put_bookmark(out, name.as_slice(), *node)?;
         }
-        put_output(out, b"END")
+        out.put(&[Piece::End])
     }
 }
 
-/// Writes a bookmark's line.
-pub fn put_bookmark_line<A: Allocator>(
-    out: &mut Vec<u8, A>,
-    name: &[u8],
-    node: NodeId,
-) -> Result<(), AllocError>
-    ensures { OnOk result (out.new.items ≡ out.old.items ++ bookmarked_text name.now node.0) }
+/// Tells a bookmark.
+pub fn put_bookmark<T: Teller>(out: &mut T, name: &[u8], node: NodeId) -> Result<(), AllocError>
+    ensures { OnOk result (T.tells out.old (bookmark_row name.now node.0) out.new) }
 {
-    out.extend_from_slice(b"MARK ")?;
-    out.extend_from_slice(name)?;
-    put_field(out, b" ", node.0 as u64)?;
-    out.extend_from_slice(b"\r\n")
+    out.put(&[
+        Piece::Row("MARK"),
+        Piece::Bytes("name", name),
+        Piece::Number("node", node.0 as u64),
+        Piece::Over,
+    ])
 }

@@ -1,13 +1,13 @@
 //! How full each slab class is.
-ghost use Rattle.std.specs.Prelude.{◌≡◌, ◌++◌, ◌+◌, ◌≤◌, OnOk, cond, length, nat_eq};
+ghost use Rattle.std.specs.Prelude.{◌≡◌, ◌+◌, ◌≤◌, OnOk, cond, length, nat_eq};
 ghost use Rattle.rev_model.specs.Sound.{Sound};
 ghost use Rattle.rev_model.specs.State.{free_of, queue_of, IsClass};
 ghost use Rattle.rev_model.specs.Actor.{owned_pages};
-ghost use Rattle.rev_views.specs.Classes.{shown, item_count, items_in, queue_figures, class_figures, queues_figures, class_line, classes_to, classes_text};
+ghost use Rattle.rev_views.specs.Classes.{shown, item_count, items_in, class_figures, queues_figures, class_row, classes_rows};
 
+use crate::teller::{Piece, Teller};
 use rev_inverse::Store;
 use rev_model::{Entry, Queue};
-use rev_texts::text::{put_field, put_output, queue_text};
 use std::alloc::{AllocError, Allocator};
 
 // How many pages of the class a page of this owner is: one, or none.
@@ -80,87 +80,86 @@ fn item_count(entry: Entry) -> u64
     }
 }
 
-// Writes how many items a queue has, and their bytes.
-fn put_queue_figures<A: Allocator + Clone>(
+// Tells of the four queues of a class how many items each has, and their bytes.
+fn put_queues<A: Allocator + Clone, T: Teller>(
     store: &Store<A>,
     class: usize,
-    queue: Queue,
-    out: &mut Vec<u8, A>,
+    out: &mut T,
 ) -> Result<(), AllocError>
     requires sound { Sound store.now }
     requires class { IsClass store.now.fixed class }
-    ensures { OnOk result (out.new.items ≡ out.old.items ++ queue_figures store.now class queue) }
+    ensures { OnOk result (T.tells out.old (queues_figures store.now class) out.new) }
 {
-    out.extend_from_slice(b" ")?;
-    out.extend_from_slice(queue_text(queue))?;
-    put_field(out, b" ", count_items(store, class, queue))?;
-    put_field(out, b" ", store.bytes(class, queue))
+    let hot = count_items(store, class, Queue::Hot);
+    let warm = count_items(store, class, Queue::Warm);
+    let cold = count_items(store, class, Queue::Cold);
+    let temp = count_items(store, class, Queue::Temp);
+    out.put(&[
+        Piece::Mark(" hot"),
+        Piece::Figures("hot", hot, store.bytes(class, Queue::Hot)),
+        Piece::Mark(" warm"),
+        Piece::Figures("warm", warm, store.bytes(class, Queue::Warm)),
+        Piece::Mark(" cold"),
+        Piece::Figures("cold", cold, store.bytes(class, Queue::Cold)),
+        Piece::Mark(" temp"),
+        Piece::Figures("temp", temp, store.bytes(class, Queue::Temp)),
+        Piece::Over,
+    ])
 }
 
-// Writes the same of the four queues of a class.
-fn put_queues<A: Allocator + Clone>(
-    store: &Store<A>,
-    class: usize,
-    out: &mut Vec<u8, A>,
-) -> Result<(), AllocError>
-    requires sound { Sound store.now }
-    requires class { IsClass store.now.fixed class }
-    ensures { OnOk result (out.new.items ≡ out.old.items ++ queues_figures store.now class) }
-{
-    put_queue_figures(store, class, Queue::Hot, out)?;
-    put_queue_figures(store, class, Queue::Warm, out)?;
-    put_queue_figures(store, class, Queue::Cold, out)?;
-    put_queue_figures(store, class, Queue::Temp, out)
-}
-
-// Writes a class's number, its chunks' size in bytes, its pages and its free chunks.
-fn put_class_figures<A: Allocator + Clone>(
+// Tells a class's number, its chunks' size in bytes, its pages and its free chunks.
+fn put_figures<A: Allocator + Clone, T: Teller>(
     store: &Store<A>,
     class: usize,
     pages: usize,
-    out: &mut Vec<u8, A>,
+    out: &mut T,
 ) -> Result<(), AllocError>
     requires sound { Sound store.now }
     requires class { IsClass store.now.fixed class }
-    ensures { OnOk result (out.new.items ≡ out.old.items ++ class_figures store.now class pages) }
+    ensures { OnOk result (T.tells out.old (class_figures store.now class pages) out.new) }
 {
-    put_field(out, b"CLASS ", class as u64)?;
-    put_field(out, b" size ", store.table().chunk_size(class) as u64)?;
-    put_field(out, b" pages ", pages as u64)?;
-    put_field(out, b" free ", count_free(store, class))
+    let free = count_free(store, class);
+    out.put(&[
+        Piece::Row("CLASS"),
+        Piece::Number("class", class as u64),
+        Piece::Mark(" size"),
+        Piece::Number("size", store.table().chunk_size(class) as u64),
+        Piece::Mark(" pages"),
+        Piece::Number("pages", pages as u64),
+        Piece::Mark(" free"),
+        Piece::Number("free", free),
+    ])
 }
 
-// Writes the line of a class that owns pages.
-fn put_class<A: Allocator + Clone>(
+// Tells a class that owns pages.
+fn put_class<A: Allocator + Clone, T: Teller>(
     store: &Store<A>,
     class: usize,
-    out: &mut Vec<u8, A>,
+    out: &mut T,
 ) -> Result<(), AllocError>
     requires sound { Sound store.now }
     requires class { IsClass store.now.fixed class }
-    ensures { OnOk result (out.new.items ≡ out.old.items ++ class_line store.now class) }
+    ensures { OnOk result (T.tells out.old (class_row store.now class) out.new) }
 {
     let pages = count_pages(store, class);
     if pages == 0 {
-        return Ok(());
+        return out.put(&[]);
     }
-    put_class_figures(store, class, pages, out)?;
-    put_queues(store, class, out)?;
-    out.extend_from_slice(b"\r\n")
+    put_figures(store, class, pages, out)?;
+    put_queues(store, class, out)
 }
 
-/// Writes a line for each class that owns pages, and `END`: the size of its chunks in bytes, its pages, its free
-/// chunks, and of each queue how many items it has and their bytes. It takes time in the number of pages, of free
-/// chunks and of items.
-pub fn put_classes<A: Allocator + Clone>(
+/// Tells each class that owns pages, and the end: the size of its chunks in bytes, its pages, its free chunks, and of
+/// each queue how many items it has and their bytes. It takes time in the number of pages, of free chunks and of items.
+pub fn put_classes<A: Allocator + Clone, T: Teller>(
     store: &Store<A>,
-    out: &mut Vec<u8, A>,
+    out: &mut T,
 ) -> Result<(), AllocError>
     requires { Sound store.now }
-    ensures { OnOk result (out.new.items ≡ out.old.items ++ classes_text store.now) }
+    ensures { OnOk result (T.tells out.old (classes_rows store.now) out.new) }
 {
     for passed in 0..store.table().last() {
         put_class(store, passed + 1, out)?;
     }
-    put_output(out, b"END")
+    out.put(&[Piece::End])
 }

@@ -3,7 +3,9 @@
 
 pub mod bookmarks;
 pub mod classes;
+pub mod pushers;
 pub mod reasons;
 pub mod show;
+pub mod teller;
 pub mod tree;
 pub mod views;

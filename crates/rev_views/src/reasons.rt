@@ -1,16 +1,20 @@
 //! Why a key was gone, and its story.
-ghost use Rattle.std.specs.Prelude.{◌≡◌, ◌++◌, OnOk};
+ghost use Rattle.std.specs.Prelude.{◌≡◌, OnOk};
 ghost use Rattle.rev_explain.specs.Story.{why_of, story as story_of};
 ghost use Rattle.rev_evidence.specs.Notes.{told_before, is_outside};
-ghost use Rattle.rev_views.specs.Reasons.{cause_word, second_word, behind_words, told_words, left_words, place_words, event_words, event_text, events_text, departed_text, absent_text, before_text, never_text, why_text};
+ghost use Rattle.rev_views.specs.Reasons.{cause_word, second_field, when_fields, verdict_fields, told_fields, left_fields, left_row, departed_rows, absent_rows, before_rows, never_rows, why_rows, place_fields, moved_fields, event_fields, event_row, events_rows};
+ghost use Rattle.rev_views.specs.Pieces.{plain_piece};
+ghost use Rattle.rev_views.specs.Pushers.{pusher};
 
+use crate::teller::{Piece, Teller, put_word};
 use rev_evidence::departed::Told;
 use rev_evidence::notes::LogNotes;
+use rev_evidence::verdict::Verdict;
 use rev_explain::events::{Event, EventKind, Why};
 use rev_explain::{story, why};
 use rev_items::Key;
-use rev_model::{Cause, ClassQueue};
-use rev_texts::text::{put_field, put_number, put_output, queue_text};
+use rev_model::{Cause, ClassQueue, Queue};
+use rev_texts::text::queue_text;
 use rev_undotree::{NodeId, Session};
 use rev_watch::event::Timestamp;
 use std::alloc::{AllocError, Allocator};
@@ -31,91 +35,113 @@ fn cause_word(cause: Cause) -> &'static [u8]
     }
 }
 
-// Writes a second, or `-` where none is known.
-fn put_second<A: Allocator>(out: &mut Vec<u8, A>, time: Option<Timestamp>) -> Result<(), AllocError>
-    ensures { OnOk result (out.new.items ≡ out.old.items ++ second_word time) }
+// The field of a second, where one is known.
+fn second_field(name: &'static str, time: Option<Timestamp>) -> Piece<'static>
+    ensures { plain_piece result ≡ second_field name.now time }
 {
     match time {
-        Some(time) => put_number(out, time.seconds as u64),
-        None => out.extend_from_slice(b"-"),
+        Some(time) => Piece::Number(name, time.seconds as u64),
+        None => Piece::Nothing(name),
     }
 }
 
-// Writes behind which second a key left, where that is inferred.
-fn put_behind<A: Allocator>(
-    out: &mut Vec<u8, A>,
+// Tells when a key left; where that is inferred, between which seconds.
+fn put_when<T: Teller>(
+    out: &mut T,
     is_inferred: bool,
-    time: Option<Timestamp>,
+    after: Option<Timestamp>,
+    time: Timestamp,
 ) -> Result<(), AllocError>
-    ensures { OnOk result (out.new.items ≡ out.old.items ++ behind_words is_inferred time) }
+    ensures { OnOk result (T.tells out.old (when_fields is_inferred after time) out.new) }
 {
-    if !is_inferred {
-        return Ok(());
+    if is_inferred {
+        out.put(&[
+            second_field("after", after),
+            Piece::Number("before", time.seconds as u64),
+        ])
+    } else {
+        out.put(&[Piece::Number("ts", time.seconds as u64)])
     }
-    out.extend_from_slice(b" ")?;
-    put_second(out, time)
 }
 
-// Writes what a log tells of a key that left: why, what tells it, and the second, or between which seconds.
-fn put_told<A: Allocator>(out: &mut Vec<u8, A>, told: Told) -> Result<(), AllocError>
-    ensures { OnOk result (out.new.items ≡ out.old.items ++ told_words told) }
+// Tells why a key left, and what tells it.
+fn put_verdict<T: Teller>(out: &mut T, verdict: Verdict) -> Result<(), AllocError>
+    ensures { OnOk result (T.tells out.old (verdict_fields verdict) out.new) }
 {
-    out.extend_from_slice(told.verdict.reason.word().as_bytes())?;
-    out.extend_from_slice(b" ")?;
-    out.extend_from_slice(told.verdict.evidence.word().as_bytes())?;
-    put_behind(out, told.verdict.evidence.is_inferred(), told.after)?;
-    put_field(out, b" ", told.time.seconds as u64)
+    out.put(&[
+        Piece::Word("cause", verdict.reason.word().as_bytes()),
+        Piece::Word("evidence", verdict.evidence.word().as_bytes()),
+    ])
 }
 
-/// Writes why a key left at a node, where the rules give this cause: what the log tells of it, or the word of the
-/// cause.
-pub(crate) fn put_left<A: Allocator + Clone>(
-    out: &mut Vec<u8, A>,
+// Tells that a key left for this reason: what the log tells of it, and who pushed it out.
+fn put_told<A: Allocator + Clone, T: Teller>(
+    session: &Session<A>,
+    log: &LogNotes<A>,
+    node: NodeId,
+    told: Told,
+    out: &mut T,
+) -> Result<(), AllocError>
+    ensures { OnOk result (T.tells out.old (told_fields told (pusher session.now log.now node.0 told.verdict.reason)) out.new) }
+{
+    let is_inferred = told.verdict.evidence.is_inferred();
+    put_verdict(out, told.verdict)?;
+    put_when(out, is_inferred, told.after, told.time)?;
+    out.put_pusher(session, log, node, told.verdict.reason)?;
+    out.put(&[Piece::Over])
+}
+
+/// Tells why a key left at a node, where the rules give this cause: what the log tells of it, or the word of the cause;
+/// and ends the row.
+pub(crate) fn put_left<A: Allocator + Clone, T: Teller>(
+    session: &Session<A>,
     log: &LogNotes<A>,
     node: NodeId,
     cause: Cause,
     key: &Key<A>,
+    out: &mut T,
 ) -> Result<(), AllocError>
-    ensures { OnOk result (out.new.items ≡ out.old.items ++ left_words log.now node.0 cause key.now) }
+    ensures { OnOk result (T.tells out.old (left_fields session.now log.now node.0 cause key.now) out.new) }
 {
     match log.told_at(node, cause, key) {
-        Some(told) => put_told(out, told),
-        None => out.extend_from_slice(cause_word(cause)),
+        Some(told) => put_told(session, log, node, told, out),
+        None => out.put(&[Piece::Word("cause", cause_word(cause)), Piece::Over]),
     }
 }
 
-// Writes that a key left in front of the root, with what is told of it.
-fn put_departed<A: Allocator>(out: &mut Vec<u8, A>, told: Told) -> Result<(), AllocError>
-    ensures { OnOk result (out.new.items ≡ out.old.items ++ departed_text told) }
+// Tells that a key left in front of the root, with what is told of it.
+fn put_departed<T: Teller>(out: &mut T, told: Told) -> Result<(), AllocError>
+    ensures { OnOk result (T.tells out.old (departed_rows told) out.new) }
 {
-    out.extend_from_slice(b"LEFT 0 ")?;
-    put_told(out, told)?;
-    out.extend_from_slice(b"\r\n")
+    let is_inferred = told.verdict.evidence.is_inferred();
+    out.put(&[Piece::Row("LEFT"), Piece::Number("node", 0)])?;
+    put_verdict(out, told.verdict)?;
+    put_when(out, is_inferred, told.after, told.time)?;
+    out.put(&[Piece::Pushed(None), Piece::Over])
 }
 
-// Writes that nothing is known of a key, and since when that is so, where the log goes back behind the root.
-fn put_absent<A: Allocator>(
-    out: &mut Vec<u8, A>,
-    since: Option<Timestamp>,
-) -> Result<(), AllocError>
-    ensures { OnOk result (out.new.items ≡ out.old.items ++ absent_text since) }
+// Tells that nothing is known of a key, and since when that is so, where the log goes back behind the root.
+fn put_absent<T: Teller>(out: &mut T, since: Option<Timestamp>) -> Result<(), AllocError>
+    ensures { OnOk result (T.tells out.old (absent_rows since) out.new) }
 {
     match since {
-        None => put_output(out, b"NEVER"),
-        Some(time) => {
-            put_field(out, b"NEVER since ", time.seconds as u64)?;
-            out.extend_from_slice(b"\r\n")
-        }
+        None => put_word(out, "NEVER"),
+        Some(time) => out.put(&[
+            Piece::Row("NEVER"),
+            Piece::Mark(" since"),
+            Piece::Number("since", time.seconds as u64),
+            Piece::Over,
+        ]),
     }
 }
 
-// Writes what is told of the last leaving of a key in front of the root, as far as that is remembered.
-fn put_before<A: Allocator + Clone>(
-    out: &mut Vec<u8, A>,
+// Tells what is told of the last leaving of a key in front of the root, as far as that is remembered.
+fn put_before<A: Allocator + Clone, T: Teller>(
     log: &LogNotes<A>,
     key: &Key<A>,
+    out: &mut T,
 ) -> Result<(), AllocError>
-    ensures { OnOk result (out.new.items ≡ out.old.items ++ before_text (told_before log.now key.now) log.now.since) }
+    ensures { OnOk result (T.tells out.old (before_rows (told_before log.now key.now) log.now.since) out.new) }
 {
     match log.told_before(key) {
         Some(told) => put_departed(out, told),
@@ -123,108 +149,127 @@ fn put_before<A: Allocator + Clone>(
     }
 }
 
-// Writes why a key is gone that never was there since the root: that it is in no sample, or what is told of it before.
-fn put_never<A: Allocator + Clone>(
-    out: &mut Vec<u8, A>,
+// Tells why a key is gone that never was there since the root: that it is in no sample, or what is told of it before.
+fn put_never<A: Allocator + Clone, T: Teller>(
     log: &LogNotes<A>,
     key: &Key<A>,
+    out: &mut T,
 ) -> Result<(), AllocError>
-    ensures { OnOk result (out.new.items ≡ out.old.items ++ never_text (is_outside log.now key.now) (told_before log.now key.now) log.now.since) }
+    ensures { OnOk result (T.tells out.old (never_rows (is_outside log.now key.now) (told_before log.now key.now) log.now.since) out.new) }
 {
     if log.is_outside(key) {
-        put_output(out, b"OUTSIDE")
+        put_word(out, "OUTSIDE")
     } else {
-        put_before(out, log, key)
+        put_before(log, key, out)
     }
 }
 
-/// Writes why the key is not held at the current node, with what the log tells of it.
-pub fn put_why<A: Allocator + Clone>(
+// Tells that a key left at a node, where the rules give this cause.
+fn put_gone_at<A: Allocator + Clone, T: Teller>(
+    session: &Session<A>,
+    log: &LogNotes<A>,
+    node: NodeId,
+    cause: Cause,
+    key: &Key<A>,
+    out: &mut T,
+) -> Result<(), AllocError>
+    ensures { OnOk result (T.tells out.old (left_row session.now log.now node.0 cause key.now) out.new) }
+{
+    out.put(&[Piece::Row("LEFT"), Piece::Number("node", node.0 as u64)])?;
+    put_left(session, log, node, cause, key, out)
+}
+
+/// Tells why the key is not held at the current node, with what the log tells of it.
+pub fn put_why<A: Allocator + Clone, T: Teller>(
     session: &Session<A>,
     log: &LogNotes<A>,
     key: &Key<A>,
-    out: &mut Vec<u8, A>,
+    out: &mut T,
 ) -> Result<(), AllocError>
-    ensures { OnOk result (out.new.items ≡ out.old.items ++ why_text log.now key.now (why_of session.now.root session.now.rows session.now.current key.now)) }
+    ensures { OnOk result (T.tells out.old (why_rows session.now log.now key.now (why_of session.now.root session.now.rows session.now.current key.now)) out.new) }
 {
     match why(session, key) {
-        Why::Present => put_output(out, b"PRESENT"),
-        Why::Never => put_never(out, log, key),
-        Why::Left { node, cause } => {
-            put_field(out, b"LEFT ", node.0 as u64)?;
-            out.extend_from_slice(b" ")?;
-            put_left(out, log, node, cause, key)?;
-            out.extend_from_slice(b"\r\n")
-        }
+        Why::Present => put_word(out, "PRESENT"),
+        Why::Never => put_never(log, key, out),
+        Why::Left { node, cause } => put_gone_at(session, log, node, cause, key, out),
     }
 }
 
-// Writes a class and a queue.
-fn put_place<A: Allocator>(out: &mut Vec<u8, A>, place: ClassQueue) -> Result<(), AllocError>
-    ensures { OnOk result (out.new.items ≡ out.old.items ++ place_words place) }
-{
-    put_field(out, b" ", place.class as u64)?;
-    out.extend_from_slice(b" ")?;
-    out.extend_from_slice(queue_text(place.queue))
-}
-
-// Writes what the step of a node did to the key.
-fn put_kind<A: Allocator + Clone>(
-    out: &mut Vec<u8, A>,
-    log: &LogNotes<A>,
-    key: &Key<A>,
-    event: Event,
+// Tells that a key was stored or replaced in a class and a queue, and ends the row.
+fn put_place<T: Teller>(
+    out: &mut T,
+    event: &'static [u8],
+    place: ClassQueue,
 ) -> Result<(), AllocError>
-    ensures { OnOk result (out.new.items ≡ out.old.items ++ event_words log.now key.now event.node.0 event.kind) }
+    ensures { OnOk result (T.tells out.old (place_fields event.now place) out.new) }
 {
-    match event.kind {
-        EventKind::Stored(place) => {
-            out.extend_from_slice(b" stored")?;
-            put_place(out, place)
-        }
-        EventKind::Replaced(place) => {
-            out.extend_from_slice(b" replaced")?;
-            put_place(out, place)
-        }
-        EventKind::Moved { from, to } => {
-            out.extend_from_slice(b" moved ")?;
-            out.extend_from_slice(queue_text(from))?;
-            out.extend_from_slice(b" ")?;
-            out.extend_from_slice(queue_text(to))
-        }
-        EventKind::Left(cause) => {
-            out.extend_from_slice(b" left ")?;
-            put_left(out, log, event.node, cause, key)
-        }
-    }
+    out.put(&[
+        Piece::Word("event", event),
+        Piece::Number("class", place.class as u64),
+        Piece::Word("queue", queue_text(place.queue)),
+        Piece::Over,
+    ])
 }
 
-// Writes the line of an event of the key.
-fn put_event<A: Allocator + Clone>(
-    out: &mut Vec<u8, A>,
-    log: &LogNotes<A>,
-    key: &Key<A>,
-    event: Event,
-) -> Result<(), AllocError>
-    ensures { OnOk result (out.new.items ≡ out.old.items ++ event_text log.now key.now event) }
+// Tells that a key was moved from a queue to another, and ends the row.
+fn put_moved<T: Teller>(out: &mut T, from: Queue, to: Queue) -> Result<(), AllocError>
+    ensures { OnOk result (T.tells out.old (moved_fields from to) out.new) }
 {
-    put_number(out, event.node.0 as u64)?;
-    put_kind(out, log, key, event)?;
-    out.extend_from_slice(b"\r\n")
+    out.put(&[
+        Piece::Word("event", b"moved"),
+        Piece::Word("from", queue_text(from)),
+        Piece::Word("to", queue_text(to)),
+        Piece::Over,
+    ])
 }
 
-/// Writes a line for each event of the key on the way from the root to the current node, with what the log tells of
-/// it, and `END`.
-pub fn put_story<A: Allocator + Clone>(
+// Tells what the step of an event's node did to the key, and ends the row.
+fn put_kind<A: Allocator + Clone, T: Teller>(
     session: &Session<A>,
     log: &LogNotes<A>,
     key: &Key<A>,
-    out: &mut Vec<u8, A>,
+    event: Event,
+    out: &mut T,
 ) -> Result<(), AllocError>
-    ensures { OnOk result (out.new.items ≡ out.old.items ++ events_text log.now key.now (story_of session.now.root session.now.rows session.now.current key.now)) }
+    ensures { OnOk result (T.tells out.old (event_fields session.now log.now key.now event.node.0 event.kind) out.new) }
+{
+    match event.kind {
+        EventKind::Stored(place) => put_place(out, b"stored", place),
+        EventKind::Replaced(place) => put_place(out, b"replaced", place),
+        EventKind::Moved { from, to } => put_moved(out, from, to),
+        EventKind::Left(cause) => {
+            out.put(&[Piece::Word("event", b"left")])?;
+            put_left(session, log, event.node, cause, key, out)
+        }
+    }
+}
+
+// Tells an event of the key.
+fn put_event<A: Allocator + Clone, T: Teller>(
+    session: &Session<A>,
+    log: &LogNotes<A>,
+    key: &Key<A>,
+    event: Event,
+    out: &mut T,
+) -> Result<(), AllocError>
+    ensures { OnOk result (T.tells out.old (event_row session.now log.now key.now event) out.new) }
+{
+    out.put(&[Piece::Bare("EVENT", "node", event.node.0 as u64)])?;
+    put_kind(session, log, key, event, out)
+}
+
+/// Tells each event of the key on the way from the root to the current node, with what the log tells of it, and the
+/// end.
+pub fn put_story<A: Allocator + Clone, T: Teller>(
+    session: &Session<A>,
+    log: &LogNotes<A>,
+    key: &Key<A>,
+    out: &mut T,
+) -> Result<(), AllocError>
+    ensures { OnOk result (T.tells out.old (events_rows session.now log.now key.now (story_of session.now.root session.now.rows session.now.current key.now)) out.new) }
 {
     for event in story(session, key)? {
-        put_event(out, log, key, event)?;
+        put_event(session, log, key, event, out)?;
     }
-    put_output(out, b"END")
+    out.put(&[Piece::End])
 }

@@ -1,11 +1,12 @@
 use Rattle.std.proofs.Common.{◌≡◌, ◌≤◌, ◌-◌, None}
 use Rattle.rev_shell.specs.Answers.{beside}
+use Rattle.rev_shell.specs.Run.{as_text}
 use Rattle.rev_shell.proofs.Runs.{IsSoFar}
 use Rattle.rev_shell.proofs.run.run_lines.Given as goal
 
 abbrev pub invariant-lines : goal.invariant-lines
 invariant-lines g l = (l.lines.fault ≡ None) × (l.count ≤ l.lines.input.bytes.given) × (l.lines.input.bytes.given ≤ 4294967296)
-    × IsSoFar l.fn.lines.input.dialect l.fn.prompts l.fn.lines.input l.lines.input
+    × IsSoFar l.fn.lines.input.dialect (as_text l.fn.prompts) l.fn.lines.input l.lines.input
     l.fn.lines.input.bytes.source.beside.sink l.lines.input.bytes.source.beside.sink
     (beside l.fn.session l.fn.bookmarks l.fn.log) (beside l.session l.bookmarks l.log) l.count l.bad l.refused
     × (l.lines.input.bytes.source.beside.writer ≡ l.fn.lines.input.bytes.source.beside.writer)

@@ -1,8 +1,10 @@
-use Rattle.std.proofs.Common.{◌≡◌, ◌++◌, Some, length, sym, ◌∙◌, ap, arith, append_assoc, append-nil}
+use Rattle.std.proofs.Common.{◌≡◌, ◌∷◌, [], Some, length, sym, ◌∙◌, ap, arith}
 use Rattle.rev_model.specs.Chunk.{same_chunk}
 use Rattle.rev_model.proofs.Undo.{tells_chunk}
 use Rattle.rev_model.specs.State.{free_of}
-use Rattle.rev_texts.specs.Texts.{chunks_text, free_text}
+use Rattle.rev_views.specs.Pieces.{chunk}
+use Rattle.rev_views.specs.Shown.{chunk_pieces}
+use Rattle.rev_views.proofs.Told.{becomes_next}
 use Rattle.rev_views.proofs.Walk.{rest_after, next_after-rest, head-rest, head-none, rest-next, rest-has}
 use Rattle.rev_views.proofs.Shows.{free_once}
 use Rattle.rev_views.proofs.show.put_chunks.Goals as goal
@@ -19,18 +21,15 @@ chunks-preserved g c =
     let list = free_of c.args.store.now c.args.class in
     let w = head-rest (rest_after same_chunk c.chunks.behind list) c.in-Some.chunk (sym (next_after-rest same_chunk c.chunks.behind list) ∙ sym c.free_at.ensures ∙ c.in-Some.is) in
     let e : rest_after same_chunk (Some c.in-Some.chunk) list ≡ w.0 = rest-next same_chunk tells_chunk.self c.chunks.behind list c.in-Some.chunk w.0 (free_once c.args.store.now c.requires.sound c.args.class c.in-Some.chunk) w.1 in
+    let b = rw w.1 at c.chunks.invariant.told in
     record {
       there = rest-has same_chunk tells_chunk.self c.chunks.behind list c.in-Some.chunk w.0 w.1;
-      text =
-          ap (λ t. c.put_free_chunk.new.answer.items ++ chunks_text t) e
-          ∙ ap (λ t. t ++ chunks_text w.0) c.in_ok-put_free_chunk.ensures
-          ∙ append_assoc c.chunks.answer.items (free_text c.in-Some.chunk) (chunks_text w.0)
-          ∙ ap (λ t. c.chunks.answer.items ++ chunks_text t) (sym w.1)
-          ∙ c.chunks.invariant.text;
+      told = rw e (becomes_next g.T.Teller.tells g.met.T.Teller.tells_then _ _ _ (chunk c.in-Some.chunk ∷ []) (chunk_pieces w.0) (chunk_pieces list) b c.in_ok-put.ensures);
     }
 
 pub returns : goal.returns
 returns g c =
     let list = free_of c.args.store.now c.args.class in
     let n = head-none (rest_after same_chunk c.chunks.behind list) (sym (next_after-rest same_chunk c.chunks.behind list) ∙ sym c.free_at.ensures ∙ c.in_default.is) in
-    sym (append-nil c.chunks.answer.items) ∙ ap (λ t. c.chunks.answer.items ++ chunks_text t) (sym n) ∙ c.chunks.invariant.text
+    let b = rw n at c.chunks.invariant.told in
+    b c.chunks.out (g.met.T.Teller.tells_none c.chunks.out)

@@ -1,8 +1,7 @@
-use Rattle.std.proofs.lemmas.Result.{IfOk-from_err}
+use Rattle.std.proofs.lemmas.Result.{on_ok_weaker}
+use Rattle.rev_views.proofs.Told.{then_two}
 use Rattle.rev_views.proofs.show.put_free.Goals as goal
 
-pub returns-in_err-extend_from_slice : goal.returns-in_err-extend_from_slice
-returns-in_err-extend_from_slice g c = IfOk-from_err c.from_residual.result _ c.from_residual.ensures.0
-
-pub returns-in_err-put_chunks : goal.returns-in_err-put_chunks
-returns-in_err-put_chunks g c = IfOk-from_err c.from_residual-in_err-put_chunks.result _ c.from_residual-in_err-put_chunks.ensures.0
+pub returns : goal.returns
+returns g c =
+    on_ok_weaker c.put_end.result (λ p. then_two g.T.Teller.tells g.met.T.Teller.tells_then _ _ _ _ _ _ _ c.in_ok-put.ensures c.in_ok-put_chunks.ensures p) c.put_end.ensures

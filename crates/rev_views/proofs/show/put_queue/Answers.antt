@@ -1,8 +1,7 @@
-use Rattle.std.proofs.lemmas.Result.{IfOk-from_err}
+use Rattle.std.proofs.lemmas.Result.{on_ok_weaker}
+use Rattle.rev_views.proofs.Told.{then_two}
 use Rattle.rev_views.proofs.show.put_queue.Goals as goal
 
-pub returns-in_err-extend_from_slice : goal.returns-in_err-extend_from_slice
-returns-in_err-extend_from_slice g c = IfOk-from_err c.from_residual.result _ c.from_residual.ensures.0
-
-pub returns-in_err-put_limited : goal.returns-in_err-put_limited
-returns-in_err-put_limited g c = IfOk-from_err c.from_residual-in_err-put_limited.result _ c.from_residual-in_err-put_limited.ensures.0
+pub returns : goal.returns
+returns g c =
+    on_ok_weaker c.put_end.result (λ p. then_two g.T.Teller.tells g.met.T.Teller.tells_then _ _ _ _ _ _ _ c.in_ok-put.ensures c.in_ok-put_limited.ensures p) c.put_end.ensures

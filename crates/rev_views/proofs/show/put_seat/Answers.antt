@@ -3,7 +3,6 @@ use Rattle.rev_items.specs.Plain.{PlainItem}
 use Rattle.rev_model.specs.State.{owner_of, item_at}
 use Rattle.rev_model.specs.Words.{queue_with}
 use Rattle.rev_edits.proofs.Seats.{item_stands, owner_class}
-use Rattle.std.proofs.lemmas.Result.{IfOk-from_err}
 use Rattle.rev_views.proofs.show.put_seat.Goals as goal
 
 some_item : (o : Option PlainItem) → is_some o ≡ true → (i : PlainItem) × (o ≡ Some i)
@@ -23,9 +22,3 @@ pub queue_with-requires-clause-there : goal.queue_with-requires-clause-there
 queue_with-requires-clause-there g c =
     let i = some_item (item_at c.args.store.now c.args.chunk) c.requires.there in
     rw c.owner-class.ensures (queue_with c.args.store.now (owner_of c.args.store.now c.args.chunk.page) c.args.chunk, (item_stands None c.args.store.now c.requires.sound c.args.chunk i.0 i.1).there)
-
-pub returns-in_err-put_field : goal.returns-in_err-put_field
-returns-in_err-put_field g c = IfOk-from_err c.from_residual.result _ c.from_residual.ensures.0
-
-pub returns-in_err-extend_from_slice : goal.returns-in_err-extend_from_slice
-returns-in_err-extend_from_slice g c = IfOk-from_err c.from_residual-in_err-extend_from_slice.result _ c.from_residual-in_err-extend_from_slice.ensures.0

@@ -1,7 +1,6 @@
-use Rattle.std.proofs.Common.{◌≡◌, ◌++◌, codes, take}
-use Rattle.rev_texts.specs.Texts.{output}
-use Rattle.rev_views.specs.Trees.{rows_text}
+use Rattle.std.proofs.Common.{◌++◌, take}
+use Rattle.rev_views.specs.Trees.{root_row, rows_behind}
 use Rattle.rev_views.proofs.tree.put_tree.Given as goal
 
 abbrev pub invariant-loop-number : goal.invariant-loop-number
-invariant-loop-number g l = l.out.items ≡ l.fn.out.items ++ (output (codes "0 - root -") ++ rows_text l.session 0 (take l.number l.session.rows))
+invariant-loop-number g l = g.T.Teller.tells l.fn.out (root_row ++ rows_behind l.session 0 (take l.number l.session.rows)) l.out

@@ -1,0 +1,90 @@
+-- The texts of plays are those of their rows.
+use Rattle.std.proofs.Common.{◌≡◌, ℕ, Bool, true, false, cond, codes, List, [], ◌∷◌, ◌++◌, length, decimal, Option, None, Some, refl, sym, ◌∙◌, ap, append_assoc}
+use Rattle.rev_items.specs.Plain.{PlainItem}
+use Rattle.rev_model.specs.State.{State}
+use Rattle.rev_model.specs.declared.Outcome.{Outcome}
+use Rattle.rev_model.specs.declared.Outcome.TheVariants as outcomes
+use Rattle.rev_tree.specs.Positions.{SessionState}
+use Rattle.rev_script.specs.Steps.{get}
+use Rattle.rev_texts.specs.Texts.{output, outcome_text, cas_text, value_text, found_value, item_of}
+use Rattle.rev_plays.specs.Replies.{state_of, reply, after_step, or_refused, reply_text, was_hit, value_of, values}
+use Rattle.rev_plays.specs.declared.play.Reply.{Reply}
+use Rattle.rev_plays.specs.declared.play.Reply.TheVariants.{Played, TooManyNodes, TooDeep}
+use Rattle.rev_views.specs.Pieces.{Piece, text_of, text_append}
+use Rattle.rev_shell.specs.Replies.{outcome_rows, or_refusal, reply_rows, cas_field, content_fields, value_row, found_rows, hit_rows, values_rows}
+
+outcome_is : (o : Outcome) → outcome_text o ≡ text_of (outcome_rows o)
+outcome_is outcomes.Stored = refl
+outcome_is outcomes.NotStored = refl
+outcome_is outcomes.Exists = refl
+outcome_is outcomes.NotFound = refl
+outcome_is outcomes.Deleted = refl
+outcome_is outcomes.Touched = refl
+outcome_is outcomes.Okay = refl
+outcome_is (outcomes.Hit len cas) = refl
+outcome_is outcomes.Miss = refl
+outcome_is outcomes.TooLarge = refl
+outcome_is outcomes.NoChunk = refl
+outcome_is outcomes.Busy = refl
+outcome_is outcomes.BadClass = refl
+outcome_is outcomes.NoSpare = refl
+outcome_is outcomes.Same = refl
+outcome_is outcomes.Moved = refl
+outcome_is outcomes.Reclaimed = refl
+outcome_is outcomes.Idle = refl
+outcome_is outcomes.Passed = refl
+outcome_is outcomes.Ended = refl
+outcome_is outcomes.Withdrawn = refl
+outcome_is outcomes.Rescued = refl
+outcome_is outcomes.Evicted = refl
+outcome_is outcomes.Finished = refl
+outcome_is (outcomes.Number n) = refl
+outcome_is outcomes.NotNumber = refl
+
+-- a play
+pub reply_is : (noreply : Bool) (r : Reply) → reply_text noreply r ≡ text_of (reply_rows noreply r)
+reply_is true (Played o) = refl
+reply_is false (Played o) = outcome_is o
+reply_is noreply TooManyNodes = refl
+reply_is noreply TooDeep = refl
+
+-- three parts with a space in front of the second and the third, and what stands behind them
+spaced : (a b c d e f : List ℕ) → ((a ++ 32 ∷ (b ++ 32 ∷ (c ++ d))) ++ e) ++ f ≡ a ++ 32 ∷ (b ++ 32 ∷ (c ++ (d ++ (e ++ f))))
+spaced a b c d e f =
+    let y = 32 ∷ (c ++ d) in
+    let x = 32 ∷ (b ++ y) in
+    append_assoc (a ++ x) e f
+    ∙ append_assoc a x (e ++ f)
+    ∙ ap (λ t. a ++ 32 ∷ t) (append_assoc b y (e ++ f) ∙ ap (λ t. b ++ 32 ∷ t) (append_assoc c d (e ++ f)))
+
+value_is : (with_cas : Bool) (i : PlainItem) → value_text with_cas i ≡ text_of (value_row with_cas i)
+value_is true i = ap (λ t. codes "VALUE " ++ t) (spaced i.key (decimal i.flags) (decimal (length i.value)) (codes " " ++ decimal i.cas) (codes "\r\n") (output i.value))
+value_is false i = ap (λ t. codes "VALUE " ++ t) (spaced i.key (decimal i.flags) (decimal (length i.value)) [] (codes "\r\n") (output i.value))
+
+found_is : (with_cas : Bool) (o : Option PlainItem) → found_value with_cas o ≡ text_of (found_rows with_cas o)
+found_is with_cas None = refl
+found_is with_cas (Some i) = value_is with_cas i
+
+if_hit : (b : Bool) (text : List ℕ) (rows : List Piece) → text ≡ text_of rows → cond b text [] ≡ text_of (cond b rows [])
+if_hit true text rows e = e
+if_hit false text rows e = refl
+
+hit_is : (with_cas : Bool) (r : Reply) (s : State) (k : List ℕ) → value_of with_cas r s k ≡ text_of (hit_rows with_cas r s k)
+hit_is with_cas r s k = if_hit (was_hit r) (found_value with_cas (item_of s k)) (found_rows with_cas (item_of s k)) (found_is with_cas (item_of s k))
+
+refused_is : (r : Reply) (text : List ℕ) (rows : List Piece) → text ≡ text_of rows → or_refused r text ≡ text_of (or_refusal r rows)
+refused_is (Played o) text rows e = e
+refused_is TooManyNodes text rows e = refl
+refused_is TooDeep text rows e = refl
+
+-- a get of these keys
+pub values_is : (with_cas : Bool) (m : SessionState) (ks : List (List ℕ)) → values with_cas m ks ≡ text_of (values_rows with_cas m ks)
+values_is with_cas m [] = refl
+values_is with_cas m (k ∷ ks) =
+    let r = reply m (get k) in
+    let hit = value_of with_cas r (state_of m) k in
+    let later = after_step m (get k) in
+    refused_is r (hit ++ values with_cas later ks) (hit_rows with_cas r (state_of m) k ++ values_rows with_cas later ks)
+    (ap (λ t. t ++ values with_cas later ks) (hit_is with_cas r (state_of m) k)
+    ∙ ap (λ t. text_of (hit_rows with_cas r (state_of m) k) ++ t) (values_is with_cas later ks)
+    ∙ sym (text_append (hit_rows with_cas r (state_of m) k) (values_rows with_cas later ks)))

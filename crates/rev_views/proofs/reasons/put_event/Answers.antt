@@ -1,0 +1,6 @@
+use Rattle.std.proofs.lemmas.Result.{on_ok_weaker}
+use Rattle.rev_views.proofs.reasons.put_event.Goals as goal
+
+pub returns : goal.returns
+returns g c =
+    on_ok_weaker c.put_kind.result (λ p. g.met.T.Teller.tells_then _ _ _ _ _ c.in_ok-put.ensures p) c.put_kind.ensures

@@ -1,0 +1,7 @@
+use Rattle.std.proofs.lemmas.Result.{on_ok_weaker}
+use Rattle.rev_views.proofs.Told.{then_two}
+use Rattle.rev_views.proofs.reasons.put_told.Goals as goal
+
+pub returns : goal.returns
+returns g c =
+    on_ok_weaker c.put.result (λ p. g.met.T.Teller.tells_then _ _ _ _ _ c.in_ok-put_verdict.ensures (then_two g.T.Teller.tells g.met.T.Teller.tells_then _ _ _ _ _ _ _ c.in_ok-put_when.ensures c.in_ok-put_pusher.ensures p)) c.put.ensures

@@ -1,0 +1,6 @@
+use Rattle.std.proofs.lemmas.Result.{on_ok_weaker}
+use Rattle.rev_views.proofs.views.put_step.Goals as goal
+
+pub returns-in_ok-put_played-in-Some : goal.returns-in_ok-put_played-in-Some
+returns-in_ok-put_played-in-Some g c =
+    on_ok_weaker c.put_subject.result (λ p. g.met.T.Teller.tells_then _ _ _ _ _ c.in_ok-put_played.ensures p) c.put_subject.ensures
