@@ -58,7 +58,7 @@ fn told(
 
 // Puts the words of a command.
 fn put_name(alloc: Global, out: &mut Writer, name: Option<&'static str>) -> Result<(), AllocError>
-    ensures tokens { OnOk result (out.new.tokens ≡ out.old.tokens ++ name_token (option_map (λ n. n.now) name) ∷ []) }
+    ensures tokens { OnOk result (out.new.tokens ≡ out.old.tokens ++ name_token (option_map (λ n. n.now) name.entry) ∷ []) }
     ensures before { OnOk result (out.new.before ≡ out.old.before) }
 {
     match name {
@@ -74,7 +74,7 @@ fn head(
     node: NodeId,
     name: Option<&'static str>,
 ) -> Result<Vec<u8>, AllocError>
-    ensures { IfOk result (λ head. head.items ≡ print (head_tokens line node.0 (option_map (λ n. n.now) name))) }
+    ensures { IfOk result (λ head. head.items ≡ print (head_tokens line node.0 (option_map (λ n. n.now) name.entry))) }
 {
     let mut out = Writer::new(Vec::new(alloc));
     put_parts(

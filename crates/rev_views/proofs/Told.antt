@@ -1,5 +1,5 @@
 -- Pieces that are told one after another, and what is left of them.
-use Rattle.std.proofs.Common.{◌≡◌, ◌<◌, ℕ, zero, suc, ◌+◌, List, [], ◌∷◌, ◌++◌, length, take, slice_index_or, sym, ◌∙◌, ap, arith, append_assoc, append-nil}
+use Rattle.std.proofs.Common.{◌≡◌, ◌<◌, ℕ, zero, suc, ◌+◌, List, [], ◌∷◌, ◌++◌, length, take, slice_index_or, sym, ◌∙◌, ap, arith, append_assoc, append-nil, subst}
 use Rattle.rev_views.specs.Pieces.{Piece, plain_piece, plain_pieces, piece_text, text_of}
 use Rattle.rev_views.specs.declared.teller.Piece as told
 
@@ -11,6 +11,11 @@ module _ {Z : Type 0} (tells : Z → List Piece → Z → Type 0) (then : (a b c
   -- some more were told
   pub becomes_next : (now new start : Z) (some left all : List Piece) → Becomes tells now (some ++ left) start all → tells now some new → Becomes tells new left start all
   becomes_next now new start some left all b told z q = b z (then now new z some left told q)
+
+  -- the same, where something stands behind all that is left
+  pub becomes_one : (now new start : Z) (some left last all : List Piece) → Becomes tells now ((some ++ left) ++ last) start all → tells now some new → Becomes tells new (left ++ last) start all
+  becomes_one now new start some left last all b told =
+      becomes_next now new start some (left ++ last) all (subst (λ t. Becomes tells now t start all) (append_assoc some left last) b) told
 
   -- three times, one after another
   pub then_two : (a b c d : Z) (xs ys zs : List Piece) → tells a xs b → tells b ys c → tells c zs d → tells a (xs ++ (ys ++ zs)) d

@@ -1,6 +1,6 @@
 -- Who pushed a key out, where a log tells of it.
 -- Rule of this project: the step to blame, where it was played for the event at which the key left.
-use Rattle.std.specs.Prelude.{ℕ, ℤ, Bool, true, false, cond, nat_eq, not, xor, ◌&&◌, Option, None, Some}
+use Rattle.std.specs.Prelude.{ℕ, ℤ, Bool, true, false, cond, nat_eq, not, ◌&&◌, Option, None, Some}
 use Rattle.std.specs.Ordering.{int_eq}
 use Rattle.rev_model.specs.declared.Cause.TheVariants as causes
 use Rattle.rev_tree.specs.Positions.{SessionState}
@@ -24,6 +24,9 @@ same_said said.Flushed said.Flushed = true
 same_said said.Other said.Other = true
 same_said _ _ = false
 
+abbrev pub same_flag : Bool → Bool → Bool
+same_flag a b = cond a b (not b)
+
 abbrev pub same_hash : Option ℕ → Option ℕ → Bool
 same_hash None None = true
 same_hash (Some n) (Some k) = nat_eq n k
@@ -37,7 +40,7 @@ same_connection _ _ = false
 -- the log says the same at two nodes
 abbrev pub same_moment : Moment → Moment → Bool
 same_moment a b =
-    same_time a.time b.time && same_said a.said b.said && not (xor a.flushed b.flushed) && same_connection a.connection b.connection && same_hash a.key b.key
+    same_time a.time b.time && same_said a.said b.said && same_flag a.flushed b.flushed && same_connection a.connection b.connection && same_hash a.key b.key
 
 -- or of neither of them anything
 abbrev pub same_event : Option Moment → Option Moment → Bool

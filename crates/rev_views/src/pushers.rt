@@ -1,6 +1,6 @@
 //! Who pushed a key out, where a log tells of it.
-ghost use Rattle.std.specs.Prelude.{◌≡◌, not, xor};
-ghost use Rattle.std.specs.Option.{option_map, option_copied};
+ghost use Rattle.std.specs.Prelude.{◌≡◌};
+ghost use Rattle.std.specs.Option.{option_map};
 ghost use Rattle.rev_evidence.specs.Blame.{plain_blamed};
 ghost use Rattle.rev_views.specs.Pieces.{plain_pusher};
 ghost use Rattle.rev_views.specs.Pushers as rule;
@@ -31,6 +31,12 @@ fn same_said(said: Said, other: Said) -> bool
     }
 }
 
+fn same_flag(flag: bool, other: bool) -> bool
+    ensures { result ≡ rule.same_flag flag other }
+{
+    if flag { other } else { !other }
+}
+
 fn same_hash(hash: Option<u32>, other: Option<u32>) -> bool
     ensures { result ≡ rule.same_hash hash other }
 {
@@ -57,7 +63,7 @@ fn same_moment(moment: Moment, other: Moment) -> bool
 {
     same_time(moment.time, other.time)
         && same_said(moment.said, other.said)
-        && moment.flushed == other.flushed
+        && same_flag(moment.flushed, other.flushed)
         && same_connection(moment.connection, other.connection)
         && same_hash(moment.key, other.key)
 }
@@ -89,7 +95,7 @@ fn pusher_of<'a, A: Allocator + Clone>(
     node: NodeId,
     blamed: Option<Blamed<'a, A>>,
 ) -> Option<Pusher<'a>>
-    ensures { option_map plain_pusher result ≡ rule.pusher_of log.now node.0 (option_map plain_blamed blamed) }
+    ensures { option_map plain_pusher result ≡ rule.pusher_of log.now node.0 (option_map plain_blamed blamed.entry) }
 {
     let blamed = blamed?;
     let moment = log.moment(blamed.node);

@@ -4,4 +4,5 @@ use Rattle.rev_views.proofs.reasons.put_told.Goals as goal
 
 pub returns : goal.returns
 returns g c =
-    on_ok_weaker c.put.result (λ p. g.met.T.Teller.tells_then _ _ _ _ _ c.in_ok-put_verdict.ensures (then_two g.T.Teller.tells g.met.T.Teller.tells_then _ _ _ _ _ _ _ c.in_ok-put_when.ensures c.in_ok-put_pusher.ensures p)) c.put.ensures
+    let w = rw c.is_inferred-is_inferred.ensures at c.in_ok-put_when.ensures in
+    on_ok_weaker c.put.result (λ p. g.met.T.Teller.tells_then _ _ _ _ _ c.in_ok-put_verdict.ensures (then_two g.T.Teller.tells g.met.T.Teller.tells_then _ _ _ _ _ _ _ w c.in_ok-put_pusher.ensures p)) c.put.ensures
