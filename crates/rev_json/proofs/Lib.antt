@@ -1,3 +1,4 @@
 pub mod Telling
 mod Texts
+mod Ended
 mod Gets

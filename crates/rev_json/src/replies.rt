@@ -5,9 +5,9 @@ ghost use Rattle.rev_model.specs.declared.Outcome.TheVariants.{Number};
 ghost use Rattle.rev_requests.specs.Plain.{plain_step};
 ghost use Rattle.rev_script.specs.Steps.{get};
 ghost use Rattle.rev_texts.specs.Texts.{item_of};
-ghost use Rattle.rev_plays.specs.Replies.{state_of, reply, after_step, after_gets, was_hit};
-ghost use Rattle.rev_shell.specs.Replies.{outcome_rows, reply_rows, cas_field, content_fields, value_of, found_rows, hit_rows, values_rows};
-ghost use Rattle.rev_json.specs.Replies.{plain_reply, copied_rows};
+ghost use Rattle.rev_plays.specs.Replies.{after_step, after_gets};
+ghost use Rattle.rev_shell.specs.Replies.{outcome_rows, reply_rows, cas_field, content_fields, value_of, found_rows, values_rows};
+ghost use Rattle.rev_json.specs.Replies.{replied, told_rows, was_hit, hit_of, copied_rows};
 
 use rev_inverse::Store;
 use rev_items::{Item, Key};
@@ -46,7 +46,7 @@ fn why(refused: (PlayFault, Step<Global>)) -> PlayFault
 
 // Plays a step.
 fn play(session: &mut Session<Global>, step: Step<Global>) -> Result<Reply, AllocError>
-    ensures reply { IfOk result (λ r. plain_reply r ≡ reply session.old (plain_step step)) }
+    ensures reply { IfOk result (λ r. r ≡ replied session.old (plain_step step)) }
     ensures session { OnOk result (session.new ≡ after_step session.old (plain_step step)) }
 {
     match session.play(step) {
@@ -107,7 +107,7 @@ fn put_outcome<T: Teller>(out: &mut T, outcome: Outcome) -> Result<(), AllocErro
 
 // Tells what a play is answered: `noreply` drops the outcome, and not a refusal.
 fn put_reply<T: Teller>(out: &mut T, noreply: bool, reply: Reply) -> Result<(), AllocError>
-    ensures { OnOk result (T.tells out.old (reply_rows noreply (plain_reply reply)) out.new) }
+    ensures { OnOk result (T.tells out.old (told_rows noreply reply) out.new) }
 {
     match reply {
         Reply::Played(outcome) => {
@@ -131,7 +131,7 @@ pub fn play_line<T: Teller>(
     noreply: bool,
     out: &mut T,
 ) -> Result<(), AllocError>
-    ensures rows { OnOk result (T.tells out.old (reply_rows noreply (reply session.old (plain_step step))) out.new) }
+    ensures rows { OnOk result (T.tells out.old (reply_rows noreply session.old (plain_step step)) out.new) }
     ensures session { OnOk result (session.new ≡ after_step session.old (plain_step step)) }
 {
     let reply = play(session, step)?;
@@ -213,7 +213,7 @@ fn put_copied<T: Teller>(
 }
 
 fn was_hit(reply: Reply) -> bool
-    ensures { result ≡ was_hit (plain_reply reply) }
+    ensures { result ≡ was_hit reply }
 {
     matches!(reply, Reply::Played(Outcome::Hit { .. }))
 }
@@ -225,7 +225,7 @@ fn put_hit<T: Teller>(
     reply: Reply,
     copied: &Option<Copied>,
 ) -> Result<(), AllocError>
-    ensures { OnOk result (T.tells out.old (cond (was_hit (plain_reply reply)) (copied_rows with_cas copied.now) []) out.new) }
+    ensures { OnOk result (T.tells out.old (cond (was_hit reply) (copied_rows with_cas copied.now) []) out.new) }
 {
     if was_hit(reply) {
         put_copied(out, with_cas, copied)
@@ -242,9 +242,9 @@ fn get_one<T: Teller>(
     with_cas: bool,
     out: &mut T,
 ) -> Result<Reply, AllocError>
-    ensures reply { IfOk result (λ r. plain_reply r ≡ reply session.old (get key)) }
+    ensures reply { IfOk result (λ r. r ≡ replied session.old (get key)) }
     ensures session { OnOk result (session.new ≡ after_step session.old (get key)) }
-    ensures rows { IfOk result (λ r. T.tells out.old (hit_rows with_cas (plain_reply r) (state_of session.old) key) out.new) }
+    ensures rows { IfOk result (λ r. T.tells out.old (hit_of with_cas r session.old key) out.new) }
 {
     let copied = found(alloc, session.store(), &key)?;
     let reply = play(session, get_step(key))?;

@@ -1,15 +1,15 @@
 -- The texts of plays are those of their rows.
-use Rattle.std.proofs.Common.{◌≡◌, ℕ, Bool, true, false, cond, codes, List, [], ◌∷◌, ◌++◌, length, decimal, Option, None, Some, refl, sym, ◌∙◌, ap, append_assoc}
+use Rattle.std.proofs.lemmas.Bool.{cases_Bool}
+use Rattle.std.proofs.Common.{◌≡◌, ℕ, Bool, true, false, cond, codes, List, [], ◌∷◌, ◌++◌, length, decimal, Option, None, Some, inl, inr, refl, sym, ◌∙◌, ap, append_assoc}
 use Rattle.rev_items.specs.Plain.{PlainItem}
-use Rattle.rev_model.specs.State.{State}
+use Rattle.rev_model.specs.Actor.{Step}
+use Rattle.rev_tree.specs.Steps.{outcome_of}
 use Rattle.rev_model.specs.declared.Outcome.{Outcome}
 use Rattle.rev_model.specs.declared.Outcome.TheVariants as outcomes
 use Rattle.rev_tree.specs.Positions.{SessionState}
 use Rattle.rev_script.specs.Steps.{get}
 use Rattle.rev_texts.specs.Texts.{output, outcome_text, cas_text, value_text, found_value, item_of}
-use Rattle.rev_plays.specs.Replies.{state_of, reply, after_step, or_refused, reply_text, was_hit, value_of, values}
-use Rattle.rev_plays.specs.declared.play.Reply.{Reply}
-use Rattle.rev_plays.specs.declared.play.Reply.TheVariants.{Played, TooManyNodes, TooDeep}
+use Rattle.rev_plays.specs.Replies.{state_of, is_full, is_too_deep, is_hit, reply, after_step, or_refused, reply_text, value_of, values}
 use Rattle.rev_views.specs.Pieces.{Piece, text_of, text_append}
 use Rattle.rev_shell.specs.Replies.{outcome_rows, or_refusal, reply_rows, cas_field, content_fields, value_row, found_rows, hit_rows, values_rows}
 
@@ -41,12 +41,20 @@ outcome_is outcomes.Finished = refl
 outcome_is (outcomes.Number n) = refl
 outcome_is outcomes.NotNumber = refl
 
+dropped : (noreply : Bool) (o : Outcome) → cond noreply [] (outcome_text o) ≡ text_of (cond noreply [] (outcome_rows o))
+dropped true o = refl
+dropped false o = outcome_is o
+
 -- a play
-pub reply_is : (noreply : Bool) (r : Reply) → reply_text noreply r ≡ text_of (reply_rows noreply r)
-reply_is true (Played o) = refl
-reply_is false (Played o) = outcome_is o
-reply_is noreply TooManyNodes = refl
-reply_is noreply TooDeep = refl
+pub reply_is : (noreply : Bool) (m : SessionState) (e : Step) → reply_text noreply (reply m e) ≡ text_of (reply_rows noreply m e)
+unfolding reply
+reply_is noreply m e = elim (cases_Bool (is_full m)) [
+  | inl f ↦ rw f refl
+  | inr f ↦ elim (cases_Bool (is_too_deep m)) [
+    | inl d ↦ rw (f, d) refl
+    | inr d ↦ rw (f, d) (dropped noreply (outcome_of (state_of m) e))
+  ]
+]
 
 -- three parts with a space in front of the second and the third, and what stands behind them
 spaced : (a b c d e f : List ℕ) → ((a ++ 32 ∷ (b ++ 32 ∷ (c ++ d))) ++ e) ++ f ≡ a ++ 32 ∷ (b ++ 32 ∷ (c ++ (d ++ (e ++ f))))
@@ -69,22 +77,27 @@ if_hit : (b : Bool) (text : List ℕ) (rows : List Piece) → text ≡ text_of r
 if_hit true text rows e = e
 if_hit false text rows e = refl
 
-hit_is : (with_cas : Bool) (r : Reply) (s : State) (k : List ℕ) → value_of with_cas r s k ≡ text_of (hit_rows with_cas r s k)
-hit_is with_cas r s k = if_hit (was_hit r) (found_value with_cas (item_of s k)) (found_rows with_cas (item_of s k)) (found_is with_cas (item_of s k))
-
-refused_is : (r : Reply) (text : List ℕ) (rows : List Piece) → text ≡ text_of rows → or_refused r text ≡ text_of (or_refusal r rows)
-refused_is (Played o) text rows e = e
-refused_is TooManyNodes text rows e = refl
-refused_is TooDeep text rows e = refl
+-- a get of one key and of those behind it
+one_is : (with_cas : Bool) (m : SessionState) (k : List ℕ) (later : List ℕ) (rows : List Piece) → later ≡ text_of rows →
+    or_refused (reply m (get k)) (value_of with_cas (reply m (get k)) (state_of m) k ++ later) ≡ text_of (or_refusal m (hit_rows with_cas m k ++ rows))
+unfolding reply
+one_is with_cas m k later rows e = elim (cases_Bool (is_full m)) [
+  | inl f ↦ rw f refl
+  | inr f ↦ elim (cases_Bool (is_too_deep m)) [
+    | inl d ↦ rw (f, d) refl
+    | inr d ↦
+        let hit = is_hit (outcome_of (state_of m) (get k)) in
+        let found = item_of (state_of m) k in
+        rw (f, d)
+        (ap (λ t. t ++ later) (if_hit hit (found_value with_cas found) (found_rows with_cas found) (found_is with_cas found))
+        ∙ ap (λ t. text_of (hit_rows with_cas m k) ++ t) e
+        ∙ sym (text_append (hit_rows with_cas m k) rows))
+  ]
+]
 
 -- a get of these keys
 pub values_is : (with_cas : Bool) (m : SessionState) (ks : List (List ℕ)) → values with_cas m ks ≡ text_of (values_rows with_cas m ks)
 values_is with_cas m [] = refl
 values_is with_cas m (k ∷ ks) =
-    let r = reply m (get k) in
-    let hit = value_of with_cas r (state_of m) k in
-    let later = after_step m (get k) in
-    refused_is r (hit ++ values with_cas later ks) (hit_rows with_cas r (state_of m) k ++ values_rows with_cas later ks)
-    (ap (λ t. t ++ values with_cas later ks) (hit_is with_cas r (state_of m) k)
-    ∙ ap (λ t. text_of (hit_rows with_cas r (state_of m) k) ++ t) (values_is with_cas later ks)
-    ∙ sym (text_append (hit_rows with_cas r (state_of m) k) (values_rows with_cas later ks)))
+    let next = after_step m (get k) in
+    one_is with_cas m k (values with_cas next ks) (values_rows with_cas next ks) (values_is with_cas next ks)

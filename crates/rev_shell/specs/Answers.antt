@@ -30,7 +30,7 @@ use Rattle.rev_views.specs.Reasons.{events_rows, why_rows}
 use Rattle.rev_views.specs.Views.{departures_rows, step_rows, time_rows, after_time}
 use Rattle.rev_views.specs.Classes.{classes_rows}
 use Rattle.rev_texts.specs.Help.{help_text, help_on_text}
-use Rattle.rev_plays.specs.Replies.{state_of, reply, after_step, after_gets}
+use Rattle.rev_plays.specs.Replies.{state_of, after_step, after_gets}
 use Rattle.rev_shell.specs.Replies.{reply_rows, values_rows, bad_rows}
 
 -- ---- a session, the bookmarks beside it, which belong to the run and are not undone, and what a log says of its nodes,
@@ -125,12 +125,12 @@ after_bookmark d bookmarks.Help name = d
 
 -- what a line is answered
 abbrev pub rows : BookmarkedSession → ScriptLine → List Piece
-rows d (StorageLine c k flags exptime payload noreply) = reply_rows noreply (reply d.session (storage_step c k flags exptime payload))
+rows d (StorageLine c k flags exptime payload noreply) = reply_rows noreply d.session (storage_step c k flags exptime payload)
 rows d (RetrievalLine ks with_cas) = values_rows with_cas d.session ks
-rows d (UpdateLine c k noreply) = reply_rows noreply (reply d.session (keyed_step c k))
-rows d (FlushLine delay noreply) = reply_rows noreply (reply d.session (flush_step delay))
-rows d (ActorLine a) = reply_rows false (reply d.session (plain_actor a))
-rows d (TuneLine t) = reply_rows false (reply d.session (tune_step t))
+rows d (UpdateLine c k noreply) = reply_rows noreply d.session (keyed_step c k)
+rows d (FlushLine delay noreply) = reply_rows noreply d.session (flush_step delay)
+rows d (ActorLine a) = reply_rows false d.session (plain_actor a)
+rows d (TuneLine t) = reply_rows false d.session (tune_step t)
 rows d (DebugLine c) = debug_rows d c
 rows d (QueryLine q k) = query_rows d.log d.session q k
 rows d (BookmarkLine c name) = bookmark_rows d c name

@@ -2,7 +2,8 @@
 -- Rule of memcached: which answer a command gets, and that `noreply` drops it.
 use Rattle.std.specs.Prelude.{ℕ, Bool, true, false, cond, List, [], ◌∷◌, ◌++◌, length, Option, None, Some, codes}
 use Rattle.rev_items.specs.Plain.{PlainItem}
-use Rattle.rev_model.specs.State.{State}
+use Rattle.rev_model.specs.Actor.{Step}
+use Rattle.rev_tree.specs.Steps.{outcome_of}
 use Rattle.rev_model.specs.declared.Outcome.{Outcome}
 use Rattle.rev_model.specs.declared.Outcome.TheVariants as outcomes
 use Rattle.rev_tree.specs.Positions.{SessionState}
@@ -10,9 +11,7 @@ use Rattle.rev_script.specs.Steps.{get}
 use Rattle.rev_script.specs.declared.command.BadAnswer.{BadAnswer}
 use Rattle.rev_script.specs.declared.command.BadAnswer.TheVariants as bad
 use Rattle.rev_texts.specs.Texts.{item_of}
-use Rattle.rev_plays.specs.Replies.{state_of, reply, after_step, was_hit}
-use Rattle.rev_plays.specs.declared.play.Reply.{Reply}
-use Rattle.rev_plays.specs.declared.play.Reply.TheVariants.{Played, TooManyNodes, TooDeep}
+use Rattle.rev_plays.specs.Replies.{state_of, is_full, is_too_deep, is_hit, after_step}
 use Rattle.rev_views.specs.Pieces.{Piece, row, bare, over, number, bytes, content, end, word_row, error_row}
 
 -- the row of an outcome; a hit's rows are its value's, and a miss has none
@@ -58,20 +57,14 @@ bad_rows bad.BadCommand = word_row (codes "BAD COMMAND")
 -- ---- plays
 
 -- a refusal of the tree ends the line; else there is what follows
-abbrev pub or_refusal : Reply → List Piece → List Piece
-or_refusal (Played o) rows = rows
-or_refusal TooManyNodes rows = error_row (codes "SERVER_ERROR") (codes "too many nodes")
-or_refusal TooDeep rows = error_row (codes "SERVER_ERROR") (codes "too many nested forks")
+abbrev pub or_refusal : SessionState → List Piece → List Piece
+or_refusal m rows =
+    cond (is_full m) (error_row (codes "SERVER_ERROR") (codes "too many nodes"))
+    (cond (is_too_deep m) (error_row (codes "SERVER_ERROR") (codes "too many nested forks")) rows)
 
--- the outcome of a play
-abbrev pub played_rows : Reply → List Piece
-played_rows (Played o) = outcome_rows o
-played_rows TooManyNodes = []
-played_rows TooDeep = []
-
--- `noreply` drops it, and not a refusal
-abbrev pub reply_rows : Bool → Reply → List Piece
-reply_rows noreply r = or_refusal r (cond noreply [] (played_rows r))
+-- what a step is answered: `noreply` drops its outcome, and not a refusal
+abbrev pub reply_rows : Bool → SessionState → Step → List Piece
+reply_rows noreply m e = or_refusal m (cond noreply [] (outcome_rows (outcome_of (state_of m) e)))
 
 -- the cas number of a value, for `gets`
 abbrev pub cas_field : Bool → ℕ → List Piece
@@ -95,12 +88,11 @@ abbrev pub found_rows : Bool → Option PlainItem → List Piece
 found_rows with_cas None = []
 found_rows with_cas (Some i) = value_row with_cas i
 
--- the value of a key that was looked up, at a hit
-abbrev pub hit_rows : Bool → Reply → State → List ℕ → List Piece
-hit_rows with_cas r s k = cond (was_hit r) (found_rows with_cas (item_of s k)) []
+-- the value of a key that is looked up, at a hit
+abbrev pub hit_rows : Bool → SessionState → List ℕ → List Piece
+hit_rows with_cas m k = cond (is_hit (outcome_of (state_of m) (get k))) (found_rows with_cas (item_of (state_of m) k)) []
 
 -- the values of the keys that are hit, and the end of the list
 abbrev pub values_rows : Bool → SessionState → List (List ℕ) → List Piece
 values_rows with_cas m [] = end ∷ []
-values_rows with_cas m (k ∷ ks) =
-    or_refusal (reply m (get k)) (hit_rows with_cas (reply m (get k)) (state_of m) k ++ values_rows with_cas (after_step m (get k)) ks)
+values_rows with_cas m (k ∷ ks) = or_refusal m (hit_rows with_cas m k ++ values_rows with_cas (after_step m (get k)) ks)

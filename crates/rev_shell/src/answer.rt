@@ -6,7 +6,7 @@ ghost use Rattle.rev_watch.specs.Keys.{key_of};
 ghost use Rattle.rev_texts.specs.Help.{help_text, help_on_text};
 ghost use Rattle.rev_views.specs.Bookmarks.{bookmarked, with_bookmark, bookmark_row, goto_rows, gone_by};
 ghost use Rattle.rev_requests.specs.Plain.{plain_step};
-ghost use Rattle.rev_plays.specs.Replies.{reply, after_step, after_gets};
+ghost use Rattle.rev_plays.specs.Replies.{after_step, after_gets};
 ghost use Rattle.rev_views.specs.Pieces.{lines, error_row, text_of};
 ghost use Rattle.rev_shell.specs.Replies.{reply_rows, values_rows, bad_rows};
 ghost use Rattle.rev_shell.specs.Answers.{beside, rows, answer, after, debug_rows, after_debug, spelled, asked_rows, query_rows, bookmark_rows, after_bookmark};
@@ -43,7 +43,7 @@ fn put_play<A: Allocator + Clone>(
     noreply: bool,
     out: &mut Vec<u8, A>,
 ) -> Result<(), AllocError>
-    ensures text { OnOk result (out.new.items ≡ out.old.items ++ text_of (reply_rows noreply (reply session.old (plain_step step)))) }
+    ensures text { OnOk result (out.new.items ≡ out.old.items ++ text_of (reply_rows noreply session.old (plain_step step))) }
     ensures session { OnOk result (session.new ≡ after_step session.old (plain_step step)) }
 {
     play_line(session, step, noreply, out)
@@ -100,6 +100,13 @@ fn put_client<A: Allocator + Clone>(
     }
 }
 
+// Tells the lines of a text.
+fn put_lines<T: Teller>(out: &mut T, text: &[u8]) -> Result<(), AllocError>
+    ensures { OnOk result (T.tells out.old (lines text.now ∷ []) out.new) }
+{
+    out.put(&[Piece::Lines(text)])
+}
+
 // Tells what may be typed.
 fn put_all_help<A: Allocator + Clone, T: Teller>(
     session: &Session<A>,
@@ -109,7 +116,7 @@ fn put_all_help<A: Allocator + Clone, T: Teller>(
 {
     let mut text = Vec::new(session.store().alloc()?);
     put_help(&mut text)?;
-    out.put(&[Piece::Lines(text.as_slice())])
+    put_lines(out, text.as_slice())
 }
 
 // Tells more of one command.
@@ -122,7 +129,7 @@ fn put_help_of<A: Allocator + Clone, T: Teller>(
 {
     let mut text = Vec::new(session.store().alloc()?);
     put_help_on(&mut text, word)?;
-    out.put(&[Piece::Lines(text.as_slice())])
+    put_lines(out, text.as_slice())
 }
 
 // A debug command.

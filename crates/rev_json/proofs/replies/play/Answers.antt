@@ -2,14 +2,15 @@ use Rattle.std.proofs.Common.{sym, ◌∙◌, ap}
 use Rattle.rev_requests.specs.Plain.{plain_step}
 use Rattle.rev_tree.specs.Positions.{SessionState}
 use Rattle.rev_plays.specs.Replies.{played, if_played}
-use Rattle.rev_plays.specs.declared.play.Reply.TheVariants.{Played}
+use Rattle.rev_json.specs.declared.replies.Reply.TheVariants.{Played}
+use Rattle.rev_json.proofs.Ended as ended
 use Rattle.rev_plays.proofs.Plays.{reply-many, reply-deep, reply-played}
 use Rattle.rev_json.proofs.replies.play.Goals as goal
 
 pub returns-in-Ok-clause-reply : goal.returns-in-Ok-clause-reply
 returns-in-Ok-clause-reply g c =
     let e = c.in-Ok.ensures in
-    ap Played e.outcome ∙ reply-played c.args.session.now (plain_step c.args.step) e.many.1 e.deep.1
+    ap Played e.outcome ∙ ended.played c.args.session.now (plain_step c.args.step) e.many.1 e.deep.1
 
 pub returns-in-Ok-clause-session : goal.returns-in-Ok-clause-session
 returns-in-Ok-clause-session g c =
@@ -21,7 +22,7 @@ returns-in-Ok-clause-session g c =
 
 pub returns-in-TooManyNodes-clause-reply : goal.returns-in-TooManyNodes-clause-reply
 returns-in-TooManyNodes-clause-reply g c =
-    reply-many c.args.session.now (plain_step c.args.step) (c.in-Err.ensures.many.0 (sym c.why.ensures ∙ c.in-TooManyNodes.is))
+    ended.many c.args.session.now (plain_step c.args.step) (c.in-Err.ensures.many.0 (sym c.why.ensures ∙ c.in-TooManyNodes.is))
 
 pub returns-in-TooManyNodes-clause-session : goal.returns-in-TooManyNodes-clause-session
 returns-in-TooManyNodes-clause-session g c =
@@ -32,7 +33,7 @@ returns-in-TooManyNodes-clause-session g c =
 pub returns-in-TooDeep-clause-reply : goal.returns-in-TooDeep-clause-reply
 returns-in-TooDeep-clause-reply g c =
     let d = c.in-Err.ensures.deep.0 (sym c.why.ensures ∙ c.in-TooDeep.is) in
-    reply-deep c.args.session.now (plain_step c.args.step) d.0 d.1
+    ended.deep c.args.session.now (plain_step c.args.step) d.0 d.1
 
 pub returns-in-TooDeep-clause-session : goal.returns-in-TooDeep-clause-session
 returns-in-TooDeep-clause-session g c =
