@@ -70,7 +70,6 @@ fn put_number<T: Teller>(out: &mut T, n: u64) -> Result<(), AllocError>
 fn put_outcome<T: Teller>(out: &mut T, outcome: Outcome) -> Result<(), AllocError>
     ensures { OnOk result (T.tells out.old (outcome_rows outcome) out.new) }
 {
-    let (client, server) = ("CLIENT_ERROR", "SERVER_ERROR");
     match outcome {
         Outcome::Stored => put_word(out, "STORED"),
         Outcome::NotStored => put_word(out, "NOT_STORED"),
@@ -81,8 +80,8 @@ fn put_outcome<T: Teller>(out: &mut T, outcome: Outcome) -> Result<(), AllocErro
         Outcome::Okay => put_word(out, "OK"),
         Outcome::Hit { .. } => out.put(&[]),
         Outcome::Miss => out.put(&[]),
-        Outcome::TooLarge => put_error(out, server, b"object too large for cache"),
-        Outcome::NoChunk => put_error(out, server, b"out of memory storing object"),
+        Outcome::TooLarge => put_error(out, "SERVER_ERROR", b"object too large for cache"),
+        Outcome::NoChunk => put_error(out, "SERVER_ERROR", b"out of memory storing object"),
         Outcome::Busy => put_word(out, "BUSY"),
         Outcome::BadClass => put_word(out, "BADCLASS"),
         Outcome::NoSpare => put_word(out, "NOSPARE"),
@@ -99,7 +98,7 @@ fn put_outcome<T: Teller>(out: &mut T, outcome: Outcome) -> Result<(), AllocErro
         Outcome::Number(n) => put_number(out, n),
         Outcome::NotNumber => put_error(
             out,
-            client,
+            "CLIENT_ERROR",
             b"cannot increment or decrement non-numeric value",
         ),
     }

@@ -57,17 +57,28 @@ reply_is noreply m e = elim (cases_Bool (is_full m)) [
 ]
 
 -- three parts with a space in front of the second and the third, and what stands behind them
-spaced : (a b c d e f : List ℕ) → ((a ++ 32 ∷ (b ++ 32 ∷ (c ++ d))) ++ e) ++ f ≡ a ++ 32 ∷ (b ++ 32 ∷ (c ++ (d ++ (e ++ f))))
-spaced a b c d e f =
-    let y = 32 ∷ (c ++ d) in
-    let x = 32 ∷ (b ++ y) in
-    append_assoc (a ++ x) e f
-    ∙ append_assoc a x (e ++ f)
-    ∙ ap (λ t. a ++ 32 ∷ t) (append_assoc b y (e ++ f) ∙ ap (λ t. b ++ 32 ∷ t) (append_assoc c d (e ++ f)))
+spaced : (s a b c d e f : List ℕ) → (((((((a ++ s) ++ b) ++ s) ++ c) ++ d) ++ e) ++ f) ≡ a ++ (s ++ (b ++ (s ++ (c ++ (d ++ (e ++ f))))))
+spaced s a b c d e f =
+    let x1 = a ++ s in
+    let x2 = x1 ++ b in
+    let x3 = x2 ++ s in
+    let x4 = x3 ++ c in
+    let g1 = e ++ f in
+    let g2 = d ++ g1 in
+    let g3 = c ++ g2 in
+    let g4 = s ++ g3 in
+    let g5 = b ++ g4 in
+    append_assoc (x4 ++ d) e f ∙ append_assoc x4 d g1 ∙ append_assoc x3 c g2 ∙ append_assoc x2 s g3 ∙ append_assoc x1 b g4 ∙ append_assoc a s g5
+
+behind_size : (with_cas : Bool) (cas : ℕ) (value : List ℕ) → cas_text with_cas cas ++ (codes "\r\n" ++ output value) ≡ text_of (cas_field with_cas cas ++ content_fields value)
+behind_size true cas value = refl
+behind_size false cas value = refl
 
 value_is : (with_cas : Bool) (i : PlainItem) → value_text with_cas i ≡ text_of (value_row with_cas i)
-value_is true i = ap (λ t. codes "VALUE " ++ t) (spaced i.key (decimal i.flags) (decimal (length i.value)) (codes " " ++ decimal i.cas) (codes "\r\n") (output i.value))
-value_is false i = ap (λ t. codes "VALUE " ++ t) (spaced i.key (decimal i.flags) (decimal (length i.value)) [] (codes "\r\n") (output i.value))
+value_is with_cas i =
+    ap (λ t. codes "VALUE " ++ t)
+    (spaced (codes " ") i.key (decimal i.flags) (decimal (length i.value)) (cas_text with_cas i.cas) (codes "\r\n") (output i.value)
+    ∙ ap (λ t. i.key ++ 32 ∷ (decimal i.flags ++ 32 ∷ (decimal (length i.value) ++ t))) (behind_size with_cas i.cas i.value))
 
 found_is : (with_cas : Bool) (o : Option PlainItem) → found_value with_cas o ≡ text_of (found_rows with_cas o)
 found_is with_cas None = refl

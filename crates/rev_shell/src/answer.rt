@@ -333,22 +333,21 @@ pub fn put_error<T: Teller>(
 pub fn put_bad<T: Teller>(bad: BadAnswer, out: &mut T) -> Result<(), AllocError>
     ensures { OnOk result (T.tells out.old (bad_rows bad) out.new) }
 {
-    let client = "CLIENT_ERROR";
     match bad {
         BadAnswer::Error => put_word(out, "ERROR"),
-        BadAnswer::BadFormat => put_error(out, client, b"bad command line format"),
+        BadAnswer::BadFormat => put_error(out, "CLIENT_ERROR", b"bad command line format"),
         BadAnswer::DeleteUsage => put_error(
             out,
-            client,
+            "CLIENT_ERROR",
             b"bad command line format.  Usage: delete <key> [noreply]",
         ),
-        BadAnswer::BadExptime => put_error(out, client, b"invalid exptime argument"),
-        BadAnswer::BadDelta => put_error(out, client, b"invalid numeric delta argument"),
+        BadAnswer::BadExptime => put_error(out, "CLIENT_ERROR", b"invalid exptime argument"),
+        BadAnswer::BadDelta => put_error(out, "CLIENT_ERROR", b"invalid numeric delta argument"),
         BadAnswer::SharesOver80 => {
             put_error(out, "ERROR", b"hot and warm pcts must not exceed 80")
         }
-        BadAnswer::LineTooLong => put_error(out, client, b"line too long"),
-        BadAnswer::BadChunk => put_error(out, client, b"bad data chunk"),
+        BadAnswer::LineTooLong => put_error(out, "CLIENT_ERROR", b"line too long"),
+        BadAnswer::BadChunk => put_error(out, "CLIENT_ERROR", b"bad data chunk"),
         BadAnswer::BadCommand => put_word(out, "BAD COMMAND"),
     }
 }
