@@ -21,9 +21,9 @@ use rev_undotree::{NodeId, Session};
 use rev_views::bookmarks::Bookmarks;
 use std::alloc::{AllocError, Global};
 
-// What is told of a line: the text of its answer, and the list of its objects.
+// The text of an answer, and that of the list of its objects.
 #[derive(Drop)]
-struct Told {
+struct Texts {
     text: Vec<u8>,
     list: Vec<u8>,
 }
@@ -35,7 +35,7 @@ fn told(
     log: &LogNotes<Global>,
     bookmarks: &mut Bookmarks<'_, Global>,
     line: Line<Global>,
-) -> Result<Told, AllocError>
+) -> Result<Texts, AllocError>
     ensures text { IfOk result (λ told. told.text.items ≡ answer (beside session.old bookmarks.old log.now) (view line)) }
     ensures list { IfOk result (λ told. told.list.items ≡ print (answer_tokens (rows (beside session.old bookmarks.old log.now) (view line)))) }
     ensures state { OnOk result (beside session.new bookmarks.new log.now ≡ after (beside session.old bookmarks.old log.now) (view line)) }
@@ -50,7 +50,7 @@ fn told(
     put_answer(alloc, session, log, bookmarks, line, &mut answer)?;
     let Answer { text, mut out, .. } = answer;
     out.end_array()?;
-    Ok(Told {
+    Ok(Texts {
         text,
         list: out.into_inner(),
     })

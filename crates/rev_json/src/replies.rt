@@ -137,7 +137,7 @@ pub fn play_line<T: Teller>(
     put_reply(out, noreply, reply)
 }
 
-fn copied(alloc: Global, item: &Item<Global>) -> Result<Copied, AllocError>
+fn copy_of(alloc: Global, item: &Item<Global>) -> Result<Copied, AllocError>
     ensures { IfOk result (λ c. (c.key.items ≡ item.now.key) × (c.flags ≡ item.now.flags) × (c.cas ≡ item.now.cas) × (c.value.items ≡ item.now.value)) }
 {
     let mut key = Vec::new(alloc);
@@ -163,7 +163,7 @@ fn found(
 {
     match store.item(key) {
         None => Ok(None),
-        Some((_, item)) => Ok(Some(copied(alloc, item)?)),
+        Some((_, item)) => Ok(Some(copy_of(alloc, item)?)),
     }
 }
 
