@@ -51,8 +51,8 @@ pub same_left : {d : Dialect} {a b : Told} {old : PlainSink} {start left : Bookm
 same_left {d} {a} {b} {old} {start} {left} {sum} x y same t = subst (λ k. IsLeftBy d as_json a b old k.sink start left sum) (sym same) t
 
 -- nothing stands in front of a line
-pub all_of : {a b : Option (List ℕ)} {text : List ℕ} → Appends a b text → Appends a b (text ++ [])
-all_of {a} {b} {text} w = subst (λ t. Appends a b t) (sym (append-nil text)) w
+pub all_of : (a b : Option (List ℕ)) (text : List ℕ) → Appends a b text → Appends a b (text ++ [])
+all_of a b text w = subst (λ t. Appends a b t) (sym (append-nil text)) w
 
-pub front_of : {a b : Option (List ℕ)} {text : List ℕ} → WroteFront a b text → WroteFront a b (text ++ [])
-front_of {a} {b} {text} w = subst (λ t. WroteFront a b t) (sym (append-nil text)) w
+pub front_of : (a b : Option (List ℕ)) (text : List ℕ) → WroteFront a b text → WroteFront a b (text ++ [])
+front_of a b text w = subst (λ t. WroteFront a b t) (sym (append-nil text)) w

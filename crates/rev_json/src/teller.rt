@@ -1,5 +1,6 @@
 //! Answers told as JSON, and as text beside it.
-ghost use Rattle.std.specs.Prelude.{◌≡◌, ◌++◌, OnOk, refl, ◌∙◌};
+ghost use Rattle.std.specs.Prelude.{◌≡◌, ◌++◌, OnOk};
+ghost use Rattle.std.proofs.Common.{refl, ◌∙◌};
 ghost use Rattle.std.specs.Option.{option_map};
 ghost use Rattle.rev_views.specs.Pieces.{plain_piece, plain_pieces, plain_pusher, text_of, text_none, text_then};
 ghost use Rattle.rev_json.specs.Tokens.{place_tokens, chunk_tokens, entry_tokens, move_tokens, pusher_tokens, piece_tokens, tokens_of, tokens_none, tokens_then};

@@ -62,7 +62,7 @@ returns-in-Err-put-clause-err g c =
     let w = still_whole i.3 (λ e. let x = (c.in-Ok.ensures.stays i.0 e.ended).0 in cc) in
     let a = c.as_slice-in-lines.ensures.value ∙ c.in-Ok-json_line.ensures.line in
     let f = rw (a, n.1.beside) at c.in-Err-put.ensures.err in
-    stopped_written _ _ _ c.put.ensures.kept (front_now _ _ _ _ c.next.new.self.input _ _ _ _ _ _ _ _ (first-unused _ c.requires) (first-given _ c.requires) i.3 _ _ w n c.in-Ok-json_line.ensures.state (front_of f.0) f.1)
+    stopped_written _ _ _ c.put.ensures.kept (front_now _ _ _ _ c.next.new.self.input _ _ _ _ _ _ _ _ (first-unused _ c.requires) (first-given _ c.requires) i.3 _ _ w n c.in-Ok-json_line.ensures.state (front_of _ _ _ f.0) f.1)
 
 pub with_mark-bad-requires : goal.with_mark-bad-requires
 with_mark-bad-requires g c = few_bad c.lines.invariant.3
@@ -84,7 +84,7 @@ lines-preserved g c =
       ap (λ l. l.fault) kept ∙ c.in-Ok.ensures.good,
       omega (arith, takes_byte _ _ _ n.0 _ _ n.3, n.1.passed.count, i.1, given),
       omega (arith, c.in-Ok.ensures.most, given),
-      so_far_written _ _ _ kept (progress _ _ _ _ c.next.new.self.input _ _ _ _ _ _ _ _ (first-unused _ c.requires) (first-given _ c.requires) i.3 _ _ _ _ w n c.in-Ok-json_line.ensures.state (all_of f.0) f.1 bad refused),
+      so_far_written _ _ _ kept (progress _ _ _ _ c.next.new.self.input _ _ _ _ _ _ _ _ (first-unused _ c.requires) (first-given _ c.requires) i.3 _ _ _ _ w n c.in-Ok-json_line.ensures.state (all_of _ _ _ f.0) f.1 bad refused),
       ap (λ l. l.input.bytes.source.beside.writer) kept ∙ ap (λ x. x.writer) n.1.beside ∙ i.4,
     )
 

@@ -5,7 +5,7 @@ use Rattle.rev_json.proofs.teller.put_pieces.Given as goal
 
 -- the pieces before this one are put
 abbrev pub invariant-loop-piece : goal.invariant-loop-piece
-invariant-loop-piece g l = record {
+invariant-loop-piece l = record {
   tokens : l.out.tokens ≡ l.fn.out.tokens ++ tokens_of (plain_pieces (take l.piece-index l.pieces));
   before : l.out.before ≡ l.fn.out.before;
 }
