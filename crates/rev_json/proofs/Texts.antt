@@ -7,7 +7,8 @@ use Rattle.json.proofs.Printed.Tokens.{print_from-append, ends_push}
 use Rattle.rev_script.specs.Number.{until, past}
 use Rattle.rev_views.specs.Pieces.{Piece, plain_piece, plain_pieces}
 use Rattle.rev_views.specs.declared.teller.Piece as told
-use Rattle.rev_json.specs.Tokens.{onto, lines_of, piece_tokens, tokens_of}
+use Rattle.rev_json.specs.Tokens.{onto, lines_of, plain_line, lines_tokens, piece_tokens, tokens_of}
+use Rattle.std.specs.Io.BufRead.{strip_last}
 use Rattle.rev_json.specs.Lines.{head_tokens, answer_tokens, object_tokens}
 use Rattle.std.specs.Prelude.{Option}
 
@@ -32,6 +33,24 @@ past_shorter x (y ∷ ys) = elim (eqb_tells x 10) [
   | inl p ↦ rw p.0 (omega arith)
   | inr p ↦ rw p.0 (omega (arith, past_shorter y ys))
 ]
+
+-- the same of a text that is not empty
+pub past_less : (t : List ℕ) → 0 < length t → length (past 10 t) < length t
+past_less [] h = absurd (omega (arith, h))
+past_less (x ∷ xs) h = past_shorter x xs
+
+-- the objects of lines, one more
+pub lines_next : (now new total : List Token) (t line behind plain : List ℕ) → 0 < length t → line ≡ until 10 t → behind ≡ past 10 t → plain ≡ strip_last 13 line → new ≡ now ++ plain_line plain →
+    now ++ lines_tokens (lines_of t) ≡ total → new ++ lines_tokens (lines_of behind) ≡ total
+lines_next now new total [] line behind plain h l b p w i = absurd (omega (arith, h))
+lines_next now new total (x ∷ xs) line behind plain h l b p w i =
+    let t = x ∷ xs in
+    ap (λ k. k ++ lines_tokens (lines_of behind)) w
+    ∙ append_assoc now (plain_line plain) (lines_tokens (lines_of behind))
+    ∙ ap (λ k. now ++ (plain_line k ++ lines_tokens (lines_of behind))) (p ∙ ap (strip_last 13) l)
+    ∙ ap (λ k. now ++ (plain_line (strip_last 13 (until 10 t)) ++ lines_tokens (lines_of k))) b
+    ∙ ap (λ k. now ++ lines_tokens k) (sym (lines_first x xs))
+    ∙ i
 
 tokens_suc : (ps : List told.Piece) (n : ℕ) (d : told.Piece) → n < length ps → tokens_of (plain_pieces (take (suc n) ps)) ≡ tokens_of (plain_pieces (take n ps)) ++ piece_tokens (plain_piece (slice_index_or ps n d))
 tokens_suc [] n d lt = absurd (omega (arith, lt))

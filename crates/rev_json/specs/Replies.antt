@@ -1,12 +1,12 @@
 -- How a play ends.
 -- Rule of this project: with the outcome of its step, or refused by a limit of the tree.
-use Rattle.std.specs.Prelude.{ℕ, Bool, false, cond, List, [], ◌∷◌, Option, None, Some, codes}
+use Rattle.std.specs.Prelude.{ℕ, Bool, false, cond, List, [], ◌∷◌, length, Option, None, Some, codes}
 use Rattle.rev_model.specs.Actor.{Step}
 use Rattle.rev_tree.specs.Steps.{outcome_of}
 use Rattle.rev_tree.specs.Positions.{SessionState}
 use Rattle.rev_texts.specs.Texts.{item_of}
 use Rattle.rev_plays.specs.Replies.{state_of, is_full, is_too_deep, is_hit}
-use Rattle.rev_views.specs.Pieces.{Piece, error_row}
+use Rattle.rev_views.specs.Pieces.{Piece, row, number, bytes, error_row}
 use Rattle.rev_shell.specs.Replies.{outcome_rows, value_of, found_rows}
 use Rattle.rev_json.specs.declared.replies.Copied.{Copied}
 use Rattle.rev_json.specs.declared.replies.Reply.{Reply}
@@ -41,6 +41,10 @@ was_hit TooDeep = false
 -- the value of a key, at a hit
 abbrev pub hit_of : Bool → Reply → SessionState → List ℕ → List Piece
 hit_of with_cas r m k = cond (was_hit r) (found_rows with_cas (item_of (state_of m) k)) []
+
+-- the first fields of a value
+abbrev pub value_front : (key : List ℕ) → (flags : ℕ) → (value : List ℕ) → List Piece
+value_front k flags value = row (codes "VALUE") ∷ bytes (codes "key") k ∷ number (codes "flags") flags ∷ number (codes "bytes") (length value) ∷ []
 
 -- the value of what was copied of an item
 abbrev pub copied_rows : Bool → Option Copied → List Piece

@@ -7,7 +7,7 @@ ghost use Rattle.rev_script.specs.Steps.{get};
 ghost use Rattle.rev_texts.specs.Texts.{item_of};
 ghost use Rattle.rev_plays.specs.Replies.{after_step, after_gets};
 ghost use Rattle.rev_shell.specs.Replies.{outcome_rows, reply_rows, cas_field, content_fields, value_of, found_rows, values_rows};
-ghost use Rattle.rev_json.specs.Replies.{replied, told_rows, was_hit, hit_of, copied_rows};
+ghost use Rattle.rev_json.specs.Replies.{replied, told_rows, was_hit, hit_of, value_front, copied_rows};
 
 use rev_inverse::Store;
 use rev_items::{Item, Key};
@@ -183,18 +183,32 @@ fn put_content<T: Teller>(out: &mut T, value: &[u8]) -> Result<(), AllocError>
     out.put(&[Piece::Content(value), Piece::Over])
 }
 
+// Tells the first fields of a value.
+fn put_front<T: Teller>(
+    out: &mut T,
+    key: &[u8],
+    flags: u32,
+    value: &[u8],
+) -> Result<(), AllocError>
+    ensures { OnOk result (T.tells out.old (value_front key.now flags value.now) out.new) }
+{
+    out.put(&[
+        Piece::Row("VALUE"),
+        Piece::Bytes("key", key),
+        Piece::Number("flags", flags as u64),
+        Piece::Number("bytes", value.len() as u64),
+    ])
+}
+
 // Tells a value.
 fn put_value<T: Teller>(out: &mut T, with_cas: bool, copied: &Copied) -> Result<(), AllocError>
     ensures { OnOk result (T.tells out.old (value_of with_cas copied.now.key.items copied.now.flags copied.now.value.items copied.now.cas) out.new) }
 {
-    out.put(&[
-        Piece::Row("VALUE"),
-        Piece::Bytes("key", copied.key.as_slice()),
-        Piece::Number("flags", copied.flags as u64),
-        Piece::Number("bytes", copied.value.len() as u64),
-    ])?;
+    let key = copied.key.as_slice();
+    let value = copied.value.as_slice();
+    put_front(out, key, copied.flags, value)?;
     put_cas(out, with_cas, copied.cas)?;
-    put_content(out, copied.value.as_slice())
+    put_content(out, value)
 }
 
 // Tells a value, where there is one.

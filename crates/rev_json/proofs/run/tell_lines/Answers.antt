@@ -60,7 +60,7 @@ returns-in-Err-put-clause-err g c =
     let i = c.lines.invariant in
     let n = rw c.in-Some.is at c.in-Ok.ensures.ok in
     let w = still_whole i.3 (λ e. let x = (c.in-Ok.ensures.stays i.0 e.ended).0 in cc) in
-    let a = c.as_slice-in-lines.ensures.value ∙ c.in-Ok-json_line.ensures.line in
+    let a = c.as_slice.ensures.value ∙ c.in-Ok-json_line.ensures.line in
     let f = rw (a, n.1.beside) at c.in-Err-put.ensures.err in
     stopped_written _ _ _ c.put.ensures.kept (front_now _ _ _ _ c.next.new.self.input _ _ _ _ _ _ _ _ (first-unused _ c.requires) (first-given _ c.requires) i.3 _ _ w n c.in-Ok-json_line.ensures.state (front_of _ _ _ f.0) f.1)
 
@@ -75,7 +75,7 @@ lines-preserved g c =
     let i = c.lines.invariant in
     let n = rw c.in-Some.is at c.in-Ok.ensures.ok in
     let w = still_whole i.3 (λ e. let x = (c.in-Ok.ensures.stays i.0 e.ended).0 in cc) in
-    let a = c.as_slice-in-lines.ensures.value ∙ c.in-Ok-json_line.ensures.line in
+    let a = c.as_slice.ensures.value ∙ c.in-Ok-json_line.ensures.line in
     let f = rw (a, n.1.beside) at c.in-Ok-put.ensures.ok in
     let bad = rw c.is_bad-is_bad.ensures at c.with_mark-bad.ensures in
     let refused = rw c.in-Ok-json_line.ensures.refused at c.with_mark-refused.ensures in
