@@ -16,9 +16,9 @@ returns-clause-line c =
     let name = line_name l in
     let ps = rows d l in
     let told = option_map (λ n. n.now) c.line_name-name.result in
-    let at = c.current.ensures ∙ ap (λ (x : BookmarkedSession). x.session.current) c.in_ok-told.ensures.state in
+    let here = c.current.ensures ∙ ap (λ (x : BookmarkedSession). x.session.current) c.in_ok-told.ensures.state in
     let head : c.in_ok-head.head.items ≡ print (head_tokens c.args.number node name) =
-    c.in_ok-head.ensures ∙ ap (λ k. print (head_tokens c.args.number k told)) at ∙ ap (λ k. print (head_tokens c.args.number node k)) c.line_name-name.ensures in
+    c.in_ok-head.ensures ∙ ap (λ k. print (head_tokens c.args.number k told)) here ∙ ap (λ k. print (head_tokens c.args.number node k)) c.line_name-name.ensures in
     let list = c.as_slice-2.ensures.value ∙ c.in_ok-told.ensures.list in
     c.in_ok-with_list.ensures
     ∙ ap (λ t. t ++ (c.as_slice-2.result.now ++ 125 ∷ 10 ∷ [])) head
