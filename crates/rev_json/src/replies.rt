@@ -184,12 +184,7 @@ fn put_content<T: Teller>(out: &mut T, value: &[u8]) -> Result<(), AllocError>
 }
 
 // Tells the first fields of a value.
-fn put_front<T: Teller>(
-    out: &mut T,
-    key: &[u8],
-    flags: u32,
-    value: &[u8],
-) -> Result<(), AllocError>
+fn put_front<T: Teller>(out: &mut T, key: &[u8], flags: u32, value: &[u8]) -> Result<(), AllocError>
     ensures { OnOk result (T.tells out.old (value_front key.now flags value.now) out.new) }
 {
     out.put(&[
