@@ -151,14 +151,14 @@ fn traced_behind<R: Threads + Sync + AllocGlobal, F: Read + Drop>(
 ) -> Result<Traced, Stop>
     requires { IsWithinLimits asked.now.config }
 {
-    let Opening { config, manner, .. } = asked;
     let alloc = rt.alloc();
-    match started(&alloc, config, manner.dialect, starts) {
+    let dialect = asked.manner.dialect;
+    match started(&alloc, &asked.config, dialect, starts) {
         Err(stop) => Err(stop),
-        Ok(session) => match Traced::begin(session, *config, alloc, others) {
+        Ok(session) => match Traced::begin(session, asked.config, alloc, others) {
             Err(stop) => Err(stop),
             Ok(mut trace) => {
-                let played = play_files(rt, &mut trace, manner.dialect, traces);
+                let played = play_files(rt, &mut trace, dialect, traces);
                 trace.ended(played)
             }
         },

@@ -261,7 +261,10 @@ fn grow_script<T: Feed + Drop>(
 {
     let mut script = ImportedScript::new(alloc, feed);
     match grow_made(growing, &mut script) {
-        Ok(end) => full_of(alloc, script.name(), end),
+        Ok(end) => match full_of(alloc, script.name(), end) {
+            Ok(full) => Ok(full),
+            Err(stop) => Err(stop),
+        },
         Err(fault) => Err(stop_of_script(alloc, script, fault)),
     }
 }
