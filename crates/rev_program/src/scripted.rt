@@ -246,7 +246,8 @@ fn grow_made<T: Feed + Drop>(
 {
     let mut source = FromRead::new(script);
     match growing.take_script(Dialect::CrLf, &mut source) {
-        Ok(end) => Ok(end),
+        Ok(TraceEnd::Whole) => Ok(TraceEnd::Whole),
+        Ok(TraceEnd::Full { line }) => Ok(TraceEnd::Full { line }),
         Err(fault) => Err(fault),
     }
 }
