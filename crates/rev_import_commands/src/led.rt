@@ -112,8 +112,9 @@ fn send_led<F: Read + Drop, K: ScriptOutlet>(
     match Transcript::open(alloc, setup, wanted, sink) {
         Err(fault) => Err(stop_of_replay(alloc, fault, name_in(names, 0))),
         Ok(opened) => {
-            let mut transcript = opened;
-            match send_played(replay, logs, asked.life, &mut transcript) {
+            // The program ends behind it, and all memory goes back at once.
+            let mut transcript = ManuallyDrop::new(opened);
+            match send_played(replay, logs, asked.life, &mut *transcript) {
                 Ok(()) => Ok(transcript.steps()),
                 Err((place, fault)) => Err(stop_of(
                     alloc,

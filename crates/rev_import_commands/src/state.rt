@@ -215,21 +215,36 @@ fn to_files<R: Files>(rt: &R, alloc: Global, files: &Names, made: &Made) -> Resu
     }
 }
 
-// Makes the start that is asked for, and answers what is told of it.
-fn import<R: Files + AllocGlobal>(rt: &R, asked: &StateImport) -> Result<Vec<u8>, Stop> {
-    let setup = setup_of(rt, asked.settings.as_str(), asked.factor)?;
-    let counts = counts_of(rt, asked)?;
-    let items = items_of(rt, asked.metadump.as_str(), &counts)?;
-    let files = match Names::of_start(rt.alloc(), asked.out.as_str()) {
-        Ok(files) => files,
-        Err(_) => return Err(Stop::Memory),
-    };
-    match make(rt.alloc(), asked.out.as_str(), &setup, &counts, items) {
+// Writes a start where it is asked for, and answers what is told of it.
+fn send<R: Files + AllocGlobal>(rt: &R, prefix: &str, made: Made) -> Result<Vec<u8>, Stop> {
+    match Names::of_start(rt.alloc(), prefix) {
         Err(_) => Err(Stop::Memory),
-        Ok(made) => match to_files(rt, rt.alloc(), &files, &made) {
+        Ok(files) => match to_files(rt, rt.alloc(), &files, &made) {
             Ok(()) => Ok(made.notes),
             Err(stop) => Err(stop),
         },
+    }
+}
+
+// Makes the start that is asked for, of a server that was set up so, and answers what is told of it.
+fn import_of<R: Files + AllocGlobal>(
+    rt: &R,
+    asked: &StateImport,
+    setup: &Setup,
+) -> Result<Vec<u8>, Stop> {
+    let counts = counts_of(rt, asked)?;
+    let items = items_of(rt, asked.metadump.as_str(), &counts)?;
+    match make(rt.alloc(), asked.out.as_str(), setup, &counts, items) {
+        Err(_) => Err(Stop::Memory),
+        Ok(made) => send(rt, asked.out.as_str(), made),
+    }
+}
+
+// Makes the start that is asked for, and answers what is told of it.
+fn import<R: Files + AllocGlobal>(rt: &R, asked: &StateImport) -> Result<Vec<u8>, Stop> {
+    match setup_of(rt, asked.settings.as_str(), asked.factor) {
+        Err(stop) => Err(stop),
+        Ok(setup) => import_of(rt, asked, &setup),
     }
 }
 

@@ -23,6 +23,7 @@ use rev_output::Sink;
 use rev_transcript::transcript::ScriptOutlet;
 use std::alloc::{AllocError, Global};
 use std::io::{Read, Write};
+use std::mem::ManuallyDrop;
 use std::rt::{Clock, Files};
 
 /// Why an import ends, at a trace of this name.
@@ -82,6 +83,15 @@ pub fn intake_of(
     }
 }
 
+// The words for a run of a cache with this configuration.
+fn words_of(alloc: Global, config: &Config) -> Result<Vec<u8>, AllocError> {
+    let mut words = Vec::new(alloc);
+    match put_all_options(&mut words, config) {
+        Ok(()) => Ok(words),
+        Err(refused) => Err(refused),
+    }
+}
+
 // An intake of the rows that are asked for, and the words for a run of its script.
 fn opened(
     alloc: Global,
@@ -89,10 +99,11 @@ fn opened(
     notes: &mut Vec<u8>,
 ) -> Result<(RowIntake, Vec<u8>), Stop> {
     let config = sampled(&asked.config, asked.sample, notes)?;
-    let mut words = Vec::new(alloc);
-    put_all_options(&mut words, &config)?;
-    let intake = intake_of(alloc, &config, asked.rhythm, asked.sample)?;
-    Ok((intake, words))
+    let words = words_of(alloc, &config)?;
+    match intake_of(alloc, &config, asked.rhythm, asked.sample) {
+        Ok(intake) => Ok((intake, words)),
+        Err(stop) => Err(stop),
+    }
 }
 
 // Adds what is told of an import that went well: how its script is run, and what was counted.
@@ -129,6 +140,29 @@ fn send_rows<R: Files + AllocGlobal, F: Read + Drop, O: Write>(
     send(rt, asked.out.as_str(), words, making, writer)
 }
 
+// Makes the script that is asked for where this takes its traces in, and adds what is told of it to the notes.
+fn import_by<R: Files + AllocGlobal, I: Read + Drop, O: Write, C: Clock, W: Sink>(
+    rt: &R,
+    asked: &CsvImport,
+    words: &[u8],
+    intake: &mut RowIntake,
+    reader: I,
+    writer: &mut O,
+    notes: &mut Vec<u8>,
+    progress: &Progress<C, W>,
+) -> Result<(), Stop>
+    ensures { OnOk result (TellsRows asked.now notes.new.items) }
+{
+    let names = asked.traces.as_slice();
+    progress.expect(rt, names);
+    let files = all_opened(rt, rt.alloc(), names, reader, progress)?;
+    send_rows(rt, asked, words, intake, files, writer)?;
+    match add_report(notes, asked, words, intake) {
+        Ok(()) => Ok(()),
+        Err(_) => Err(Stop::Memory),
+    }
+}
+
 // Makes the script that is asked for, and adds what is told of it to the notes.
 fn import<R: Files + AllocGlobal, I: Read + Drop, O: Write, C: Clock, W: Sink>(
     rt: &R,
@@ -140,15 +174,23 @@ fn import<R: Files + AllocGlobal, I: Read + Drop, O: Write, C: Clock, W: Sink>(
 ) -> Result<(), Stop>
     ensures { OnOk result (TellsRows asked.now notes.new.items) }
 {
-    let (mut intake, words) = opened(rt.alloc(), asked, notes)?;
-    let names = asked.traces.as_slice();
-    progress.expect(rt, names);
-    let files = all_opened(rt, rt.alloc(), names, reader, progress)?;
-    let words = words.as_slice();
-    send_rows(rt, asked, words, &mut intake, files, writer)?;
-    match add_report(notes, asked, words, &intake) {
-        Ok(()) => Ok(()),
-        Err(_) => Err(Stop::Memory),
+    match opened(rt.alloc(), asked, notes) {
+        Err(stop) => Err(stop),
+        Ok((intake, words)) => {
+            // The program ends behind it, and all memory goes back at once.
+            let mut intake = ManuallyDrop::new(intake);
+            let words = words.as_slice();
+            import_by(
+                rt,
+                asked,
+                words,
+                &mut *intake,
+                reader,
+                writer,
+                notes,
+                progress,
+            )
+        }
     }
 }
 

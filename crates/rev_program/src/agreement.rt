@@ -2,6 +2,7 @@
 
 use crate::direct::{ALL, begun};
 use rev_choices::Rhythm;
+use rev_classes::Config;
 use rev_comparisons::agreement::Agreement;
 use rev_import_commands::check::{Check, CheckedLogs, Tally};
 use rev_import_commands::files::Making;
@@ -58,6 +59,44 @@ pub(crate) fn copies(alloc: Global, names: &[String]) -> Result<Vec<String>, All
     Ok(copies)
 }
 
+// How far what is checked agrees with the logs of these names, where this takes them in.
+fn agreement_in<R: Files + AllocGlobal, C: Clock, W: Sink>(
+    rt: &R,
+    names: &[String],
+    intake: &mut Intake<Global>,
+    check: &mut Check,
+    progress: &Progress<C, W>,
+) -> Result<Agreement, Stop> {
+    let logs = all_opened(rt, rt.alloc(), names, io::empty(), progress)?;
+    match compare(intake, names, logs, check) {
+        Ok(()) => Ok(told(check.tally())),
+        Err(stop) => Err(stop),
+    }
+}
+
+// The same behind the starts, of a cache with this configuration.
+fn agreement_by<R: Files + AllocGlobal, C: Clock, W: Sink>(
+    rt: &R,
+    asked: &WatchOpening,
+    config: &Config,
+    intake: &mut Intake<Global>,
+    progress: &Progress<C, W>,
+) -> Result<Agreement, Stop> {
+    let (starts, names) = (asked.starts.as_slice(), asked.logs.as_slice());
+    progress.expect(rt, starts);
+    progress.expect(rt, names);
+    let starts = copies(rt.alloc(), starts)?;
+    match begun(rt, config, asked.manner.dialect, starts, progress) {
+        Err(stop) => Err(stop),
+        Ok(session) => {
+            let mut check = Check::on(rt.alloc(), session, u64::from(MAX_NODES));
+            let agreement = agreement_in(rt, names, intake, &mut check, progress);
+            drop(check);
+            agreement
+        }
+    }
+}
+
 /// How far a replay of the logs by the rules, behind the starts, agrees with them, of as many steps as a tree has room
 /// for. The logs are read for it, and what they become is played as `import watch --check` plays it.
 pub(crate) fn agreement_of<R: Files + AllocGlobal, C: Clock, W: Sink>(
@@ -66,17 +105,14 @@ pub(crate) fn agreement_of<R: Files + AllocGlobal, C: Clock, W: Sink>(
     rhythm: Rhythm,
     progress: &Progress<C, W>,
 ) -> Result<Agreement, Stop> {
-    let alloc = rt.alloc();
     let setup = setup_of(rt, asked.settings.as_str(), asked.factor)?;
     let config = setup.config;
-    let mut intake = Intake::open(alloc, setup, rhythm, ALL, None)?;
-    let (starts, names) = (asked.starts.as_slice(), asked.logs.as_slice());
-    progress.expect(rt, starts);
-    progress.expect(rt, names);
-    let starts = copies(alloc, starts)?;
-    let session = begun(rt, &config, asked.manner.dialect, starts, progress)?;
-    let mut check = Check::on(alloc, session, u64::from(MAX_NODES));
-    let logs = all_opened(rt, alloc, names, io::empty(), progress)?;
-    compare(&mut intake, names, logs, &mut check)?;
-    Ok(told(check.tally()))
+    match Intake::open(rt.alloc(), setup, rhythm, ALL, None) {
+        Err(_) => Err(Stop::Memory),
+        Ok(mut intake) => {
+            let agreement = agreement_by(rt, asked, &config, &mut intake, progress);
+            drop(intake);
+            agreement
+        }
+    }
 }

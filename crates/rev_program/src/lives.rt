@@ -225,6 +225,77 @@ fn sent<O: Write>(
     }
 }
 
+// Reads the logs that are asked, of this server, of all keys or of a sample, and tells the lives of keys.
+fn tell_lives_by<R: Files + AllocGlobal, I: Read + Drop, O: Write + Drop, C: Clock, W: Sink>(
+    rt: &R,
+    logs: &AskedLogs,
+    server: &LeadingServer,
+    sampling: Option<&Sampling<Global>>,
+    asked: &LivesAsked<Global>,
+    reader: I,
+    writer: O,
+    notes: &mut Vec<u8>,
+    progress: &Progress<C, W>,
+) -> Result<Found, Stop>
+    requires { IsWithinLimits server.now.setup.config }
+{
+    let (alloc, names) = (rt.alloc(), logs.logs.as_slice());
+    progress.expect(rt, names);
+    match all_opened(rt, alloc, names, reader, progress) {
+        Err(stop) => Err(stop),
+        Ok(files) => match Room::new(alloc) {
+            Err(_) => Err(Stop::Memory),
+            Ok(room) => {
+                let mut writer = BesideProgress::new(writer, progress);
+                let mut outbox = Outbox::new(room, &mut writer);
+                let told = tell_lives(
+                    alloc,
+                    &server.setup,
+                    server.coverage,
+                    sampling,
+                    files,
+                    asked,
+                    &mut outbox,
+                    notes,
+                );
+                sent(alloc, names, told, &mut outbox)
+            }
+        },
+    }
+}
+
+// The same of the server and the sample that are asked for.
+fn tell_lives_in<R: Files + AllocGlobal, I: Read + Drop, O: Write + Drop, C: Clock, W: Sink>(
+    rt: &R,
+    logs: &AskedLogs,
+    asked: &LivesAsked<Global>,
+    reader: I,
+    writer: O,
+    notes: &mut Vec<u8>,
+    progress: &Progress<C, W>,
+) -> Result<Found, Stop> {
+    match server_of(rt, logs, notes) {
+        Err(stop) => Err(stop),
+        Ok(server) => {
+            let keys = asked.keys.as_slice();
+            match asked_sampling(rt.alloc(), logs, server.pages, keys, notes) {
+                Err(stop) => Err(stop),
+                Ok(sampling) => tell_lives_by(
+                    rt,
+                    logs,
+                    &server,
+                    sampling.as_ref(),
+                    asked,
+                    reader,
+                    writer,
+                    notes,
+                    progress,
+                ),
+            }
+        }
+    }
+}
+
 // Tells the lives of keys.
 fn tell_lives_of<R: Files + AllocGlobal, I: Read + Drop, O: Write + Drop, C: Clock, W: Sink>(
     rt: &R,
@@ -234,47 +305,19 @@ fn tell_lives_of<R: Files + AllocGlobal, I: Read + Drop, O: Write + Drop, C: Clo
     notes: &mut Vec<u8>,
     progress: &Progress<C, W>,
 ) -> Result<Found, Stop> {
-    let WhyAsked {
-        logs,
-        keys,
-        key_file,
-        last,
-        prefix_end,
-    } = asked;
-    let alloc = rt.alloc();
-    let keys = keys_of(rt, keys.as_slice(), &key_file)?;
-    let LeadingServer {
-        setup,
-        coverage,
-        pages,
-    } = server_of(rt, &logs, notes)?;
-    let sampling = asked_sampling(alloc, &logs, pages, keys.as_slice(), notes)?;
-    let names = logs.logs.as_slice();
-    progress.expect(rt, names);
-    let files = all_opened(rt, alloc, names, reader, progress)?;
-    let asked = LivesAsked {
-        keys,
-        last,
-        life: logs.life.map(u64::from),
-        json: logs.json,
-        prefix_end,
-    };
-    let Ok(room) = Room::new(alloc) else {
-        return Err(Stop::Memory);
-    };
-    let mut writer = BesideProgress::new(writer, progress);
-    let mut outbox = Outbox::new(room, &mut writer);
-    let told = tell_lives(
-        alloc,
-        &setup,
-        coverage,
-        sampling.as_ref(),
-        files,
-        &asked,
-        &mut outbox,
-        notes,
-    );
-    sent(alloc, names, told, &mut outbox)
+    match keys_of(rt, asked.keys.as_slice(), &asked.key_file) {
+        Err(stop) => Err(stop),
+        Ok(keys) => {
+            let lives = LivesAsked {
+                keys,
+                last: asked.last,
+                life: asked.logs.life.map(u64::from),
+                json: asked.logs.json,
+                prefix_end: asked.prefix_end,
+            };
+            tell_lives_in(rt, &asked.logs, &lives, reader, writer, notes, progress)
+        }
+    }
 }
 
 /// The reason of this word.
@@ -307,6 +350,46 @@ fn filter_of(asked: &GoneAsked) -> Filter<'_> {
     }
 }
 
+// Reads the logs that are asked, of this server, of all keys or of a sample, and tells the keys that left.
+fn tell_gone_by<R: Files + AllocGlobal, I: Read + Drop, O: Write + Drop, C: Clock, W: Sink>(
+    rt: &R,
+    asked: &GoneAsked,
+    server: &LeadingServer,
+    sampling: Option<&Sampling<Global>>,
+    reader: I,
+    writer: O,
+    notes: &mut Vec<u8>,
+    progress: &Progress<C, W>,
+) -> Result<Found, Stop>
+    requires { IsWithinLimits server.now.setup.config }
+{
+    let (alloc, names) = (rt.alloc(), asked.logs.logs.as_slice());
+    progress.expect(rt, names);
+    match all_opened(rt, alloc, names, reader, progress) {
+        Err(stop) => Err(stop),
+        Ok(files) => match Room::new(alloc) {
+            Err(_) => Err(Stop::Memory),
+            Ok(room) => {
+                let mut writer = BesideProgress::new(writer, progress);
+                let mut outbox = Outbox::new(room, &mut writer);
+                let filter = filter_of(asked);
+                let told = tell_gone(
+                    alloc,
+                    &server.setup,
+                    server.coverage,
+                    sampling,
+                    files,
+                    &filter,
+                    asked.logs.json,
+                    &mut outbox,
+                    notes,
+                );
+                sent(alloc, names, told, &mut outbox)
+            }
+        },
+    }
+}
+
 // Tells the keys that left.
 fn tell_gone_of<R: Files + AllocGlobal, I: Read + Drop, O: Write + Drop, C: Clock, W: Sink>(
     rt: &R,
@@ -316,35 +399,22 @@ fn tell_gone_of<R: Files + AllocGlobal, I: Read + Drop, O: Write + Drop, C: Cloc
     notes: &mut Vec<u8>,
     progress: &Progress<C, W>,
 ) -> Result<Found, Stop> {
-    let logs = &asked.logs;
-    let alloc = rt.alloc();
-    let LeadingServer {
-        setup,
-        coverage,
-        pages,
-    } = server_of(rt, logs, notes)?;
-    let sampling = asked_sampling(alloc, logs, pages, &[], notes)?;
-    let names = logs.logs.as_slice();
-    progress.expect(rt, names);
-    let files = all_opened(rt, alloc, names, reader, progress)?;
-    let Ok(room) = Room::new(alloc) else {
-        return Err(Stop::Memory);
-    };
-    let mut writer = BesideProgress::new(writer, progress);
-    let mut outbox = Outbox::new(room, &mut writer);
-    let filter = filter_of(asked);
-    let told = tell_gone(
-        alloc,
-        &setup,
-        coverage,
-        sampling.as_ref(),
-        files,
-        &filter,
-        logs.json,
-        &mut outbox,
-        notes,
-    );
-    sent(alloc, names, told, &mut outbox)
+    match server_of(rt, &asked.logs, notes) {
+        Err(stop) => Err(stop),
+        Ok(server) => match asked_sampling(rt.alloc(), &asked.logs, server.pages, &[], notes) {
+            Err(stop) => Err(stop),
+            Ok(sampling) => tell_gone_by(
+                rt,
+                asked,
+                &server,
+                sampling.as_ref(),
+                reader,
+                writer,
+                notes,
+                progress,
+            ),
+        },
+    }
 }
 
 /// The status of logs that were asked so, where it is said whether all was seen that they were asked for. Where all

@@ -1,5 +1,5 @@
 //! Traces of any length, of which a report tells: they are played in parts, and what is counted of each is added up.
-ghost use Rattle.std.specs.Prelude.{◌≡◌};
+ghost use Rattle.rev_classes.specs.Limits.{IsWithinLimits};
 
 use crate::agreement::copies;
 use crate::counting::Counting;
@@ -141,35 +141,72 @@ fn play_files<R: Threads + Sync + AllocGlobal, F: Read + Drop>(
     Ok(())
 }
 
+// Plays the scripts of the files in parts, behind those of the starts.
+fn traced_behind<R: Threads + Sync + AllocGlobal, F: Read + Drop>(
+    rt: &R,
+    asked: &Opening,
+    starts: Vec<(String, F)>,
+    traces: Vec<(String, F)>,
+    others: &[WhatIf],
+) -> Result<Traced, Stop>
+    requires { IsWithinLimits asked.now.config }
+{
+    let alloc = rt.alloc();
+    let dialect = asked.manner.dialect;
+    match started(&alloc, &asked.config, dialect, starts) {
+        Err(stop) => Err(stop),
+        Ok(session) => match Traced::begin(session, asked.config, alloc, others) {
+            Err(stop) => Err(stop),
+            Ok(mut trace) => {
+                let played = play_files(rt, &mut trace, dialect, traces);
+                trace.ended(played)
+            }
+        },
+    }
+}
+
 /// Plays the scripts that are asked for in parts, behind their starts. All files are opened before one is read.
 pub(crate) fn traced_scripts<R: Files + Threads + Sync + AllocGlobal, C: Clock, W: Sink>(
     rt: &R,
-    asked: Opening,
+    asked: &Opening,
     others: &[WhatIf],
     progress: &Progress<C, W>,
 ) -> Result<Traced, Stop> {
-    let Opening {
-        config,
-        manner,
-        starts,
-        traces,
-        ..
-    } = asked;
-    if let Some(fault) = fault_of(&config) {
+    if let Some(fault) = fault_of(&asked.config) {
         return Err(Stop::from(fault));
     }
     let alloc = rt.alloc();
-    progress.expect(rt, starts.as_slice());
-    progress.expect(rt, traces.as_slice());
+    progress.expect(rt, asked.starts.as_slice());
+    progress.expect(rt, asked.traces.as_slice());
+    let starts = copies(alloc, asked.starts.as_slice())?;
     let starts = told_files(rt, alloc, starts, progress)?;
-    let traces = told_files(rt, alloc, traces, progress)?;
-    let session = started(&alloc, &config, manner.dialect, starts)?;
-    match Traced::begin(session, config, alloc, others) {
+    let traces = copies(alloc, asked.traces.as_slice())?;
+    match told_files(rt, alloc, traces, progress) {
         Err(stop) => Err(stop),
-        Ok(mut trace) => {
-            let played = play_files(rt, &mut trace, manner.dialect, traces);
-            trace.ended(played)
-        }
+        Ok(traces) => traced_behind(rt, asked, starts, traces, others),
+    }
+}
+
+// Plays the script in parts, behind what was played.
+fn play_script<R: Threads + Sync + AllocGlobal, T: Feed + Drop>(
+    rt: &R,
+    trace: &mut Traced,
+    script: &mut ImportedScript<T>,
+) -> Result<(), Halt> {
+    let mut parts = ScriptParts::over(rt.alloc(), Dialect::CrLf, FromRead::new(script));
+    let played = play_parts(rt, trace, &mut parts);
+    let _source = parts.into_source();
+    played
+}
+
+// Why nothing more is played of a script that is made as it is read.
+fn stop_of_script<T: Feed + Drop>(alloc: Global, script: ImportedScript<T>, halt: Halt) -> Stop {
+    match copied(alloc, script.name()) {
+        Err(stop) => stop,
+        Ok(name) => match script.into_stop() {
+            Some(stop) => stop,
+            None => stop_of(halt, name),
+        },
     }
 }
 
@@ -179,20 +216,10 @@ pub(crate) fn play_feed<R: Threads + Sync + AllocGlobal, T: Feed + Drop>(
     trace: &mut Traced,
     feed: T,
 ) -> Result<(), Stop> {
-    let alloc = rt.alloc();
-    let mut script = ImportedScript::new(alloc, feed);
-    let mut parts = ScriptParts::over(alloc, Dialect::CrLf, FromRead::new(&mut script));
-    let played = play_parts(rt, trace, &mut parts);
-    let _source = parts.into_source();
-    match played {
+    let mut script = ImportedScript::new(rt.alloc(), feed);
+    match play_script(rt, trace, &mut script) {
         Ok(()) => Ok(()),
-        Err(halt) => {
-            let name = copied(alloc, script.name())?;
-            match script.into_stop() {
-                Some(stop) => Err(stop),
-                None => Err(stop_of(halt, name)),
-            }
-        }
+        Err(halt) => Err(stop_of_script(rt.alloc(), script, halt)),
     }
 }
 
@@ -315,6 +342,46 @@ fn replayed<R: Threads + Sync + AllocGlobal, F: Read + Drop>(
     }
 }
 
+// The session behind the starts of logs.
+fn begun_logs<R: Files + AllocGlobal, C: Clock, W: Sink>(
+    rt: &R,
+    logs: &LedLogs<'_>,
+    progress: &Progress<C, W>,
+) -> Result<Session<Global>, Stop> {
+    let starts = copies(rt.alloc(), logs.starts)?;
+    begun(
+        rt,
+        &logs.server.setup.config,
+        logs.dialect,
+        starts,
+        progress,
+    )
+}
+
+// Replays logs in parts, where the session stands.
+fn traced_on<R: Threads + Sync + AllocGlobal, F: Read + Drop>(
+    rt: &R,
+    logs: &LedLogs<'_>,
+    session: Session<Global>,
+    files: Vec<F>,
+    others: &[WhatIf],
+    notes: &mut Vec<u8>,
+    uncovered: &mut Vec<u8>,
+) -> Result<Traced, Stop> {
+    let (alloc, names, config) = (rt.alloc(), logs.names, logs.server.setup.config);
+    match LogParts::open(alloc, logs.server, logs.sampling, session, files) {
+        Err(fault) => Err(stop_of_replay(alloc, fault, name_in(names, 0))),
+        Ok(parts) => match Counting::open(alloc, config, others) {
+            Ok(counting) => replayed(rt, names, config, parts, counting, notes, uncovered),
+            Err(_) => {
+                // The program ends here, and all memory goes back at once.
+                let _parts = ManuallyDrop::new(parts);
+                Err(Stop::Memory)
+            }
+        },
+    }
+}
+
 /// Replays the logs, behind the starts, in parts. What is counted is of the last life of the server. What of the logs
 /// is not looked at goes behind `uncovered`.
 pub(crate) fn traced_logs<R: Files + Threads + Sync + AllocGlobal, C: Clock, W: Sink>(
@@ -325,23 +392,13 @@ pub(crate) fn traced_logs<R: Files + Threads + Sync + AllocGlobal, C: Clock, W: 
     uncovered: &mut Vec<u8>,
     progress: &Progress<C, W>,
 ) -> Result<Traced, Stop> {
-    let alloc = rt.alloc();
-    let config = logs.server.setup.config;
-    let names = logs.names;
     progress.expect(rt, logs.starts);
-    progress.expect(rt, names);
-    let files = all_opened(rt, alloc, names, io::empty(), progress)?;
-    let starts = copies(alloc, logs.starts)?;
-    let session = begun(rt, &config, logs.dialect, starts, progress)?;
-    match LogParts::open(alloc, logs.server, logs.sampling, session, files) {
-        Err(fault) => Err(stop_of_replay(alloc, fault, name_in(names, 0))),
-        Ok(parts) => match Counting::open(alloc, config, others) {
-            Ok(counting) => replayed(rt, names, config, parts, counting, notes, uncovered),
-            Err(_) => {
-                // The program ends here, and all memory goes back at once.
-                let _parts = ManuallyDrop::new(parts);
-                Err(Stop::Memory)
-            }
+    progress.expect(rt, logs.names);
+    match all_opened(rt, rt.alloc(), logs.names, io::empty(), progress) {
+        Err(stop) => Err(stop),
+        Ok(files) => match begun_logs(rt, logs, progress) {
+            Err(stop) => Err(stop),
+            Ok(session) => traced_on(rt, logs, session, files, others, notes, uncovered),
         },
     }
 }

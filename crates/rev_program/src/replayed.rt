@@ -1,11 +1,13 @@
 //! Logs and published traces, of which a report tells: what they become is played in parts.
+ghost use Rattle.rev_classes.specs.Limits.{IsWithinLimits};
 
 use crate::agreement::copies;
 use crate::direct::{ALL, begun, led, sampling_for};
 use crate::parted::{Traced, play_feed, traced_logs};
-use crate::placed::{Opened, from_begin};
+use crate::placed::{LedLogs, Opened, from_begin};
 use rev_choices::Rhythm;
 use rev_classes::Config;
+use rev_import::setup::Setup;
 use rev_import_commands::import::{all_opened, setup_of};
 use rev_import_commands::imported::{NamedLogs, NamedTraces};
 use rev_import_commands::leading::whole_setup;
@@ -20,11 +22,45 @@ use rev_messages::Stop;
 use rev_messages::progress::Progress;
 use rev_options::{CsvOpening, Leader, WatchOpening, WhatIf};
 use rev_output::Sink;
+use rev_replay::coverage::Coverage;
 use rev_script::dialect::Dialect;
 use std::alloc::Global;
 use std::io;
 use std::rt::{Clock, Files};
 use std::thread::Threads;
+
+// Published traces, or logs that the rules alone lead, of a cache with this configuration, and the files whose steps are
+// played before them.
+#[derive(Clone, Copy)]
+struct Imported<'a> {
+    config: Config,
+    // in which dialect the files of the starts are read
+    dialect: Dialect,
+    starts: &'a [String],
+    names: &'a [String],
+}
+
+// A trace of what is imported, of which the starts alone are played.
+fn begun_trace<R: Files + AllocGlobal, C: Clock, W: Sink>(
+    rt: &R,
+    imported: &Imported<'_>,
+    others: &[WhatIf],
+    progress: &Progress<C, W>,
+) -> Result<Traced, Stop> {
+    let Imported {
+        config,
+        dialect,
+        starts,
+        names,
+    } = *imported;
+    progress.expect(rt, starts);
+    progress.expect(rt, names);
+    let starts = copies(rt.alloc(), starts)?;
+    match begun(rt, &config, dialect, starts, progress) {
+        Err(stop) => Err(stop),
+        Ok(session) => Traced::begin(session, config, rt.alloc(), others),
+    }
+}
 
 // ---- published traces
 
@@ -50,50 +86,64 @@ fn play_rows<R: Files + Threads + Sync + AllocGlobal, C: Clock, W: Sink>(
     Ok(())
 }
 
-/// Plays what the published traces become that are asked for, in parts, behind their starts.
-pub(crate) fn traced_rows<R: Files + Threads + Sync + AllocGlobal, C: Clock, W: Sink>(
+// Plays what published traces become, in parts, behind their starts, where this takes them in.
+fn traced_rows_by<R: Files + Threads + Sync + AllocGlobal, C: Clock, W: Sink>(
     rt: &R,
-    asked: CsvOpening,
+    tables: &Imported<'_>,
+    intake: &mut RowIntake,
     others: &[WhatIf],
     notes: &mut Vec<u8>,
     progress: &Progress<C, W>,
 ) -> Result<Traced, Stop> {
-    let CsvOpening {
-        config,
-        manner,
-        starts,
-        traces,
-        rhythm,
-        sample,
-        ..
-    } = asked;
-    let alloc = rt.alloc();
-    let config = sampled(&config, sample, notes)?;
-    let mut intake = intake_of(alloc, &config, rhythm, sample)?;
-    let names = traces.as_slice();
-    progress.expect(rt, starts.as_slice());
-    progress.expect(rt, names);
-    let session = begun(rt, &config, manner.dialect, starts, progress)?;
-    match Traced::begin(session, config, alloc, others) {
+    match begun_trace(rt, tables, others, progress) {
         Err(stop) => Err(stop),
         Ok(mut trace) => {
-            let played = play_rows(rt, names, &mut trace, &mut intake, notes, progress);
+            let played = play_rows(rt, tables.names, &mut trace, intake, notes, progress);
             trace.ended(played)
         }
     }
 }
 
-// ---- logs
-
-// Logs that the rules alone lead, of a cache with this configuration, and the files whose steps are played before them.
-#[derive(Clone, Copy)]
-struct RuledLogs<'a> {
+// Plays what the published traces become that are asked for, of a cache with this configuration.
+fn traced_tables<R: Files + Threads + Sync + AllocGlobal, C: Clock, W: Sink>(
+    rt: &R,
+    asked: &CsvOpening,
     config: Config,
-    // in which dialect the files of the starts are read
-    dialect: Dialect,
-    starts: &'a [String],
-    names: &'a [String],
+    others: &[WhatIf],
+    notes: &mut Vec<u8>,
+    progress: &Progress<C, W>,
+) -> Result<Traced, Stop> {
+    let tables = Imported {
+        config,
+        dialect: asked.manner.dialect,
+        starts: asked.starts.as_slice(),
+        names: asked.traces.as_slice(),
+    };
+    match intake_of(rt.alloc(), &config, asked.rhythm, asked.sample) {
+        Err(stop) => Err(stop),
+        Ok(mut intake) => {
+            let traced = traced_rows_by(rt, &tables, &mut intake, others, notes, progress);
+            drop(intake);
+            traced
+        }
+    }
 }
+
+/// Plays what the published traces become that are asked for, in parts, behind their starts.
+pub(crate) fn traced_rows<R: Files + Threads + Sync + AllocGlobal, C: Clock, W: Sink>(
+    rt: &R,
+    asked: &CsvOpening,
+    others: &[WhatIf],
+    notes: &mut Vec<u8>,
+    progress: &Progress<C, W>,
+) -> Result<Traced, Stop> {
+    match sampled(&asked.config, asked.sample, notes) {
+        Err(stop) => Err(stop),
+        Ok(config) => traced_tables(rt, asked, config, others, notes, progress),
+    }
+}
+
+// ---- logs
 
 // Plays what the logs of these names become by the rules, and adds what is told of it.
 fn play_ruled<R: Files + Threads + Sync + AllocGlobal, C: Clock, W: Sink>(
@@ -113,47 +163,35 @@ fn play_ruled<R: Files + Threads + Sync + AllocGlobal, C: Clock, W: Sink>(
 }
 
 // Plays what logs become by the rules, in parts, behind their starts, where this takes them in.
-fn traced_by<R: Files + Threads + Sync + AllocGlobal, C: Clock, W: Sink>(
+fn traced_ruled_by<R: Files + Threads + Sync + AllocGlobal, C: Clock, W: Sink>(
     rt: &R,
-    logs: &RuledLogs<'_>,
+    logs: &Imported<'_>,
     intake: &mut Intake<Global>,
     others: &[WhatIf],
     notes: &mut Vec<u8>,
     progress: &Progress<C, W>,
 ) -> Result<Traced, Stop> {
-    let RuledLogs {
-        config,
-        dialect,
-        starts,
-        names,
-    } = *logs;
-    let alloc = rt.alloc();
-    progress.expect(rt, starts);
-    progress.expect(rt, names);
-    let starts = copies(alloc, starts)?;
-    let session = begun(rt, &config, dialect, starts, progress)?;
-    match Traced::begin(session, config, alloc, others) {
+    match begun_trace(rt, logs, others, progress) {
         Err(stop) => Err(stop),
         Ok(mut trace) => {
-            let played = play_ruled(rt, names, &mut trace, intake, notes, progress);
+            let played = play_ruled(rt, logs.names, &mut trace, intake, notes, progress);
             trace.ended(played)
         }
     }
 }
 
-// Plays what the logs become that are asked for, in parts, behind their starts, where the rules alone lead. What takes
-// them in is dropped in one place: what drops it is long.
-fn traced_ruled<R: Files + Threads + Sync + AllocGlobal, C: Clock, W: Sink>(
+// The same of the logs that are asked for, of a server that was set up so. What takes them in is dropped in one place:
+// what drops it is long.
+fn traced_ruled_of<R: Files + Threads + Sync + AllocGlobal, C: Clock, W: Sink>(
     rt: &R,
-    asked: WatchOpening,
+    asked: &WatchOpening,
+    setup: Setup,
     rhythm: Rhythm,
     others: &[WhatIf],
     notes: &mut Vec<u8>,
     progress: &Progress<C, W>,
 ) -> Result<Traced, Stop> {
-    let setup = setup_of(rt, asked.settings.as_str(), asked.factor)?;
-    put_unfollowed(notes, &setup.unfollowed)?;
-    let logs = RuledLogs {
+    let logs = Imported {
         config: setup.config,
         dialect: asked.manner.dialect,
         starts: asked.starts.as_slice(),
@@ -162,9 +200,70 @@ fn traced_ruled<R: Files + Threads + Sync + AllocGlobal, C: Clock, W: Sink>(
     match Intake::open(rt.alloc(), setup, rhythm, ALL, None) {
         Err(_) => Err(Stop::Memory),
         Ok(mut intake) => {
-            let traced = traced_by(rt, &logs, &mut intake, others, notes, progress);
+            let traced = traced_ruled_by(rt, &logs, &mut intake, others, notes, progress);
             drop(intake);
             traced
+        }
+    }
+}
+
+// Plays what the logs become that are asked for, in parts, behind their starts, where the rules alone lead.
+fn traced_ruled<R: Files + Threads + Sync + AllocGlobal, C: Clock, W: Sink>(
+    rt: &R,
+    asked: &WatchOpening,
+    rhythm: Rhythm,
+    others: &[WhatIf],
+    notes: &mut Vec<u8>,
+    progress: &Progress<C, W>,
+) -> Result<Traced, Stop> {
+    match setup_of(rt, asked.settings.as_str(), asked.factor) {
+        Err(stop) => Err(stop),
+        Ok(setup) => match put_unfollowed(notes, &setup.unfollowed) {
+            Err(_) => Err(Stop::Memory),
+            Ok(()) => traced_ruled_of(rt, asked, setup, rhythm, others, notes, progress),
+        },
+    }
+}
+
+// Plays logs, which lead: their last life in parts, or the life of this number as far as its steps fit into a tree.
+fn traced_life<R: Files + Threads + Sync + AllocGlobal, C: Clock, W: Sink>(
+    rt: &R,
+    logs: &LedLogs<'_>,
+    life: Option<u32>,
+    others: &[WhatIf],
+    notes: &mut Vec<u8>,
+    uncovered: &mut Vec<u8>,
+    progress: &Progress<C, W>,
+) -> Result<Traced, Stop> {
+    if life.is_none() {
+        return traced_logs(rt, logs, others, notes, uncovered, progress);
+    }
+    match from_begin(rt, logs, life, notes, progress) {
+        Err(stop) => Err(stop),
+        Ok(Opened { session, .. }) => {
+            Traced::begin(session, logs.server.setup.config, rt.alloc(), others)
+        }
+    }
+}
+
+// Plays what the logs become that are asked for, which lead, of a server with this setup.
+fn traced_server<R: Files + Threads + Sync + AllocGlobal, C: Clock, W: Sink>(
+    rt: &R,
+    asked: &WatchOpening,
+    setup: &Setup,
+    coverage: Coverage,
+    others: &[WhatIf],
+    notes: &mut Vec<u8>,
+    uncovered: &mut Vec<u8>,
+    progress: &Progress<C, W>,
+) -> Result<Traced, Stop>
+    requires { IsWithinLimits setup.now.config }
+{
+    match sampling_for(rt.alloc(), asked) {
+        Err(stop) => Err(stop),
+        Ok(sampling) => {
+            let logs = led(setup, coverage, &sampling, asked);
+            traced_life(rt, &logs, asked.life, others, notes, uncovered, progress)
         }
     }
 }
@@ -173,22 +272,20 @@ fn traced_ruled<R: Files + Threads + Sync + AllocGlobal, C: Clock, W: Sink>(
 // be.
 fn traced_led<R: Files + Threads + Sync + AllocGlobal, C: Clock, W: Sink>(
     rt: &R,
-    asked: WatchOpening,
+    asked: &WatchOpening,
     anyway: bool,
     others: &[WhatIf],
     notes: &mut Vec<u8>,
     uncovered: &mut Vec<u8>,
     progress: &Progress<C, W>,
 ) -> Result<Traced, Stop> {
-    let (setup, coverage) = whole_setup(rt, asked.settings.as_str(), asked.factor, anyway, notes)?;
-    let sampling = sampling_for(rt.alloc(), &asked)?;
-    let logs = led(&setup, coverage, &sampling, &asked);
-    if asked.life.is_none() {
-        return traced_logs(rt, &logs, others, notes, uncovered, progress);
-    }
-    match from_begin(rt, &logs, asked.life, notes, progress) {
+    match whole_setup(rt, asked.settings.as_str(), asked.factor, anyway, notes) {
         Err(stop) => Err(stop),
-        Ok(Opened { session, .. }) => Traced::begin(session, setup.config, rt.alloc(), others),
+        Ok((setup, coverage)) => {
+            traced_server(
+                rt, asked, &setup, coverage, others, notes, uncovered, progress,
+            )
+        }
     }
 }
 
@@ -197,7 +294,7 @@ fn traced_led<R: Files + Threads + Sync + AllocGlobal, C: Clock, W: Sink>(
 /// `uncovered`.
 pub(crate) fn traced_logs_of<R: Files + Threads + Sync + AllocGlobal, C: Clock, W: Sink>(
     rt: &R,
-    asked: WatchOpening,
+    asked: &WatchOpening,
     others: &[WhatIf],
     notes: &mut Vec<u8>,
     uncovered: &mut Vec<u8>,

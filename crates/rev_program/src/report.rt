@@ -92,7 +92,7 @@ impl Told {
 // What is played, and tried with other settings.
 fn traced_of<R: Files + Threads + Sync + AllocGlobal, C: Clock, W: Sink>(
     rt: &R,
-    asked: Played,
+    asked: &Played,
     others: &[Asked],
     notes: &mut Vec<u8>,
     uncovered: &mut Vec<u8>,
@@ -236,63 +236,162 @@ fn in_memory(written: Result<(), RowsFailed>) -> Result<(), AllocError> {
     }
 }
 
-// Adds the files of tables and curves.
-fn add_data(
+// What the tables and curves of a report are made of.
+#[derive(Clone, Copy)]
+struct Findings<'a> {
+    figures: &'a Figures,
+    curves: &'a Curves,
+    lives: &'a [Life],
+    what_ifs: &'a [WhatIf],
+    evidence: &'a [LeftBy],
+}
+
+// The tables and curves that have a file each.
+#[derive(Clone, Copy)]
+enum Table {
+    Classes,
+    Prefixes,
+    Left,
+    Moves,
+    Queues,
+    Evidence,
+    Keys,
+    WhatIfs,
+}
+
+// How the name of its file ends.
+fn end_of(table: Table) -> &'static str {
+    match table {
+        Table::Classes => ".classes.csv",
+        Table::Prefixes => ".prefixes.csv",
+        Table::Left => ".left.csv",
+        Table::Moves => ".moves.csv",
+        Table::Queues => ".queues.csv",
+        Table::Evidence => ".evidence.csv",
+        Table::Keys => ".keys.csv",
+        Table::WhatIfs => ".what-if.csv",
+    }
+}
+
+// Whether there is anything to tell in it.
+fn is_told(table: Table, found: &Findings<'_>) -> bool {
+    match table {
+        Table::Evidence => !found.evidence.is_empty(),
+        Table::Keys => !found.lives.is_empty(),
+        Table::WhatIfs => !found.what_ifs.is_empty(),
+        _ => true,
+    }
+}
+
+fn write_table(text: &mut Vec<u8>, table: Table, found: &Findings<'_>) -> Result<(), RowsFailed> {
+    match table {
+        Table::Classes => write_classes(text, found.figures),
+        Table::Prefixes => write_prefixes(text, found.figures),
+        Table::Left => write_left(text, found.figures, found.curves),
+        Table::Moves => write_moves(text, found.figures, found.curves),
+        Table::Queues => write_queues(text, found.figures, found.curves),
+        Table::Evidence => write_evidence(text, found.evidence),
+        Table::Keys => write_lives(text, found.figures, found.lives),
+        Table::WhatIfs => write_what_ifs(text, found.figures, found.what_ifs),
+    }
+}
+
+// The file of a table.
+fn output_of(
+    alloc: Global,
+    prefix: &str,
+    table: Table,
+    found: &Findings<'_>,
+) -> Result<Output, AllocError> {
+    let mut output = Output::new(alloc, prefix, end_of(table))?;
+    match in_memory(write_table(&mut output.text, table, found)) {
+        Ok(()) => Ok(output),
+        Err(refused) => Err(refused),
+    }
+}
+
+// Adds the file of a table, if there is anything to tell in it.
+fn add_table(
     outputs: &mut Vec<Output>,
     alloc: Global,
     prefix: &str,
-    figures: &Figures,
-    curves: &Curves,
-    lives: &[Life],
-    what_ifs: &[WhatIf],
-    evidence: &[LeftBy],
+    table: Table,
+    found: &Findings<'_>,
 ) -> Result<(), AllocError> {
-    let mut classes = Output::new(alloc, prefix, ".classes.csv")?;
-    in_memory(write_classes(&mut classes.text, figures))?;
-    outputs.push(classes)?;
-    let mut prefixes = Output::new(alloc, prefix, ".prefixes.csv")?;
-    in_memory(write_prefixes(&mut prefixes.text, figures))?;
-    outputs.push(prefixes)?;
-    let mut left = Output::new(alloc, prefix, ".left.csv")?;
-    in_memory(write_left(&mut left.text, figures, curves))?;
-    outputs.push(left)?;
-    let mut moves = Output::new(alloc, prefix, ".moves.csv")?;
-    in_memory(write_moves(&mut moves.text, figures, curves))?;
-    outputs.push(moves)?;
-    let mut queues = Output::new(alloc, prefix, ".queues.csv")?;
-    in_memory(write_queues(&mut queues.text, figures, curves))?;
-    outputs.push(queues)?;
-    if !evidence.is_empty() {
-        let mut told = Output::new(alloc, prefix, ".evidence.csv")?;
-        in_memory(write_evidence(&mut told.text, evidence))?;
-        outputs.push(told)?;
-    }
-    if !lives.is_empty() {
-        let mut keys = Output::new(alloc, prefix, ".keys.csv")?;
-        in_memory(write_lives(&mut keys.text, figures, lives))?;
-        outputs.push(keys)?;
-    }
-    if !what_ifs.is_empty() {
-        let mut trials = Output::new(alloc, prefix, ".what-if.csv")?;
-        in_memory(write_what_ifs(&mut trials.text, figures, what_ifs))?;
-        outputs.push(trials)?;
+    if is_told(table, found) {
+        outputs.push(output_of(alloc, prefix, table, found)?)?;
     }
     Ok(())
 }
 
-// The page, and the files of its tables and curves where they are asked for.
-fn outputs_of(
+// Adds the files of tables and curves.
+fn add_tables(
+    outputs: &mut Vec<Output>,
+    alloc: Global,
+    prefix: &str,
+    found: &Findings<'_>,
+) -> Result<(), AllocError> {
+    add_table(outputs, alloc, prefix, Table::Classes, found)?;
+    add_table(outputs, alloc, prefix, Table::Prefixes, found)?;
+    add_table(outputs, alloc, prefix, Table::Left, found)?;
+    add_table(outputs, alloc, prefix, Table::Moves, found)?;
+    add_table(outputs, alloc, prefix, Table::Queues, found)?;
+    add_table(outputs, alloc, prefix, Table::Evidence, found)?;
+    add_table(outputs, alloc, prefix, Table::Keys, found)?;
+    add_table(outputs, alloc, prefix, Table::WhatIfs, found)
+}
+
+// The page.
+fn page_of(
+    alloc: Global,
+    out: &str,
+    subject: &Subject<'_>,
+    found: &Findings<'_>,
+) -> Result<Output, AllocError> {
+    let mut page = Output::new(alloc, out, "")?;
+    match put_page(
+        &mut page.text,
+        alloc,
+        subject,
+        found.figures,
+        found.curves,
+        found.lives,
+    ) {
+        Ok(()) => Ok(page),
+        Err(refused) => Err(refused),
+    }
+}
+
+// Adds the page, and the files of its tables and curves where they are asked for.
+fn add_files(
+    outputs: &mut Vec<Output>,
+    alloc: Global,
+    asked: &Wanted<'_>,
+    subject: &Subject<'_>,
+    found: &Findings<'_>,
+) -> Result<(), AllocError> {
+    outputs.push(page_of(alloc, asked.out, subject, found)?)?;
+    match asked.data {
+        Some(prefix) => add_tables(outputs, alloc, prefix.as_str(), found),
+        None => Ok(()),
+    }
+}
+
+// Adds the files of a report on a trace of which this is told. The program ends behind it, and all memory goes back at
+// once.
+fn add_outputs(
+    outputs: &mut Vec<Output>,
     alloc: Global,
     trace: &Traced,
     figures: &Figures,
     told: &Told,
     what_ifs: &[WhatIf],
     asked: &Wanted<'_>,
-) -> Result<Vec<Output>, AllocError> {
-    let curves = curves_of(alloc, figures)?;
-    let lives = lives_of(alloc, &trace.session, figures, asked.keys)?;
-    let options = options_of(alloc, &trace.config)?;
-    let evidence = trace.counting.evidence()?;
+) -> Result<(), AllocError> {
+    let curves = ManuallyDrop::new(curves_of(alloc, figures)?);
+    let lives = ManuallyDrop::new(lives_of(alloc, &trace.session, figures, asked.keys)?);
+    let options = ManuallyDrop::new(options_of(alloc, &trace.config)?);
+    let evidence = ManuallyDrop::new(trace.counting.evidence()?);
     let subject = Subject {
         names: told.names.as_slice(),
         config: &trace.config,
@@ -303,30 +402,14 @@ fn outputs_of(
         evidence: evidence.as_slice(),
         what_ifs,
     };
-    let mut outputs = Vec::new(alloc);
-    let mut page = Output::new(alloc, asked.out, "")?;
-    put_page(
-        &mut page.text,
-        alloc,
-        &subject,
+    let found = Findings {
         figures,
-        &curves,
-        lives.as_slice(),
-    )?;
-    outputs.push(page)?;
-    if let Some(prefix) = asked.data {
-        add_data(
-            &mut outputs,
-            alloc,
-            prefix.as_str(),
-            figures,
-            &curves,
-            lives.as_slice(),
-            subject.what_ifs,
-            subject.evidence,
-        )?;
-    }
-    Ok(outputs)
+        curves: &*curves,
+        lives: lives.as_slice(),
+        what_ifs,
+        evidence: evidence.as_slice(),
+    };
+    add_files(outputs, alloc, asked, &subject, &found)
 }
 
 // Writes all files, each under another name until all are whole.
@@ -367,92 +450,145 @@ fn put_files<R: Files>(rt: &R, alloc: Global, outputs: &[Output]) -> Result<(), 
     put
 }
 
-// The files of a report on a trace.
+// Adds the files of a report on a trace. The program ends behind it, and all memory goes back at once.
 fn report_on<R: Threads + Sync>(
     rt: &R,
     alloc: Global,
     trace: &mut Traced,
     told: &Told,
     asked: &Wanted<'_>,
-) -> Result<Vec<Output>, Stop> {
-    let what_ifs = trace.counting.what_ifs(rt, &trace.session)?;
-    let figures = figures_in(alloc, trace, told.clock_kind)?;
-    match outputs_of(alloc, trace, &figures, told, what_ifs.as_slice(), asked) {
-        Ok(outputs) => Ok(outputs),
-        Err(_) => Err(Stop::Memory),
-    }
+    outputs: &mut Vec<Output>,
+) -> Result<(), Stop> {
+    let what_ifs = ManuallyDrop::new(trace.counting.what_ifs(rt, &trace.session)?);
+    let figures = ManuallyDrop::new(figures_in(alloc, trace, told.clock_kind)?);
+    add_outputs(
+        outputs,
+        alloc,
+        trace,
+        &*figures,
+        told,
+        what_ifs.as_slice(),
+        asked,
+    )?;
+    Ok(())
 }
 
-// The files of a report on what is played.
-fn report_of<R: Files + Threads + Sync + AllocGlobal, C: Clock, W: Sink>(
+// Adds the files of a report on what is played, of which this is told.
+fn report_told<R: Files + Threads + Sync + AllocGlobal, C: Clock, W: Sink>(
     rt: &R,
-    played: Played,
+    played: &Played,
     others: &[Asked],
+    told: &mut Told,
     asked: &Wanted<'_>,
+    outputs: &mut Vec<Output>,
     progress: &Progress<C, W>,
-) -> Result<Vec<Output>, Stop> {
-    let mut told = Told::of(rt.alloc(), &played)?;
-    told.agreement = agreement_with(rt, &played, progress)?;
-    let Told {
-        notes,
-        uncovered,
-        ..
-    } = &mut told;
+) -> Result<(), Stop> {
+    let notes = &mut told.notes;
+    let uncovered = &mut told.uncovered;
     match traced_of(rt, played, others, notes, uncovered, progress) {
         Err(stop) => Err(stop),
         Ok(trace) => {
             // The program ends behind it, and all its memory goes back at once.
             let mut trace = ManuallyDrop::new(trace);
-            report_on(rt, rt.alloc(), &mut *trace, &told, asked)
+            report_on(rt, rt.alloc(), &mut *trace, told, asked, outputs)
         }
     }
 }
 
-// Plays what is asked for, and writes the report of it.
+// What is told of what is played before it is.
+fn told_of<R: Files + AllocGlobal, C: Clock, W: Sink>(
+    rt: &R,
+    asked: &Played,
+    progress: &Progress<C, W>,
+) -> Result<Told, Stop> {
+    let mut told = Told::of(rt.alloc(), asked)?;
+    match agreement_with(rt, asked, progress) {
+        Ok(agreement) => {
+            told.agreement = agreement;
+            Ok(told)
+        }
+        Err(stop) => Err(stop),
+    }
+}
+
+// Adds the files of a report on what is played.
+fn report_of<R: Files + Threads + Sync + AllocGlobal, C: Clock, W: Sink>(
+    rt: &R,
+    played: &Played,
+    others: &[Asked],
+    asked: &Wanted<'_>,
+    outputs: &mut Vec<Output>,
+    progress: &Progress<C, W>,
+) -> Result<(), Stop> {
+    match told_of(rt, played, progress) {
+        Err(stop) => Err(stop),
+        Ok(told) => {
+            // The program ends behind it, and all its memory goes back at once.
+            let mut told = ManuallyDrop::new(told);
+            report_told(rt, played, others, &mut *told, asked, outputs, progress)
+        }
+    }
+}
+
+// Plays what is asked for, and writes the report of it and of these keys.
 fn make_files<R: Files + Threads + Sync + AllocGlobal, C: Clock, W: Sink>(
     rt: &R,
-    asked: Reporting,
+    asked: &Reporting,
     keys: &[Key<Global>],
     progress: &Progress<C, W>,
 ) -> Result<(), Stop> {
-    let Reporting {
-        played,
-        out,
-        data,
-        keys: _,
-        what_ifs: others,
-    } = asked;
-    let data = data.as_ref();
-    let out = out.as_str();
-    let wanted = Wanted { out, data, keys };
-    match report_of(rt, played, others.as_slice(), &wanted, progress) {
+    let wanted = Wanted {
+        out: asked.out.as_str(),
+        data: asked.data.as_ref(),
+        keys,
+    };
+    let others = asked.what_ifs.as_slice();
+    let mut outputs = Vec::new(rt.alloc());
+    match report_of(rt, &asked.played, others, &wanted, &mut outputs, progress) {
         Err(stop) => Err(stop),
-        Ok(outputs) => put_files(rt, rt.alloc(), outputs.as_slice()),
+        Ok(()) => put_files(rt, rt.alloc(), outputs.as_slice()),
     }
 }
 
 // Sees that the page can be written. A part of it is there then, of no byte.
-fn claim<R: Files>(rt: &R, alloc: Global, page: &Output) -> Result<(), Stop> {
+fn claim<R: Files>(rt: &R, alloc: Global, out: &str) -> Result<Output, Stop> {
+    let page = Output::new(alloc, out, "")?;
     match fs::write(rt, page.part.as_str(), b"") {
-        Ok(()) => Ok(()),
+        Ok(()) => Ok(page),
         Err(_) => Err(cannot_write(alloc, page.name.as_str())),
     }
 }
 
-// Makes the report that is asked for, where its page can be written. Where that fails, nothing is left of it.
+// Makes the report that is asked for, of these keys, where its page can be written. Where that fails, nothing is left
+// of it.
+fn make_of<R: Files + Threads + Sync + AllocGlobal, C: Clock, W: Sink>(
+    rt: &R,
+    asked: &Reporting,
+    keys: &[Key<Global>],
+    progress: &Progress<C, W>,
+) -> Result<(), Stop> {
+    match claim(rt, rt.alloc(), asked.out.as_str()) {
+        Err(stop) => Err(stop),
+        Ok(page) => {
+            let made = make_files(rt, asked, keys, progress);
+            if made.is_err() {
+                let _ = fs::remove_file(rt, page.part.as_str());
+            }
+            made
+        }
+    }
+}
+
+// Makes the report that is asked for.
 fn make<R: Files + Threads + Sync + AllocGlobal, C: Clock, W: Sink>(
     rt: &R,
     asked: Reporting,
     progress: &Progress<C, W>,
 ) -> Result<(), Stop> {
-    let keys = keys_of(rt.alloc(), asked.keys.as_slice())?;
-    let page = Output::new(rt.alloc(), asked.out.as_str(), "")?;
-    claim(rt, rt.alloc(), &page)?;
-    let made = make_files(rt, asked, keys.as_slice(), progress);
-    if made.is_err() {
-        let _ = fs::remove_file(rt, page.part.as_str());
+    match keys_of(rt.alloc(), asked.keys.as_slice()) {
+        Err(stop) => Err(stop),
+        Ok(keys) => make_of(rt, &asked, keys.as_slice(), progress),
     }
-    made
 }
 
 /// Makes the report that is asked for: plays the trace as `open` does, and writes the page, and its tables and curves

@@ -36,6 +36,7 @@ use rev_script::source::FromRead;
 use std::alloc::Global;
 use std::collections::VecDeque;
 use std::io::{Read, Write};
+use std::mem::ManuallyDrop;
 use std::rt::{Clock, Files};
 
 // Why nothing more is played of a script of this name.
@@ -149,9 +150,18 @@ fn play_scripts<R: Files + AllocGlobal, I: Read + Drop, C: Clock, W: Sink, L: Li
     progress.expect(rt, names);
     match rules_behind(rt, &config, dialect, starts, progress) {
         Err(stop) => Err(stop),
-        Ok(mut rules) => {
+        Ok(rules) => {
+            // The program ends behind it, and all memory goes back at once.
+            let mut rules = ManuallyDrop::new(rules);
             play_named(
-                rt, &mut rules, dialect, names, reader, listener, notes, progress,
+                rt,
+                &mut *rules,
+                dialect,
+                names,
+                reader,
+                listener,
+                notes,
+                progress,
             )
         }
     }
@@ -198,9 +208,18 @@ fn play_rows_behind<R: Files + AllocGlobal, I: Read + Drop, C: Clock, W: Sink, L
     progress.expect(rt, names);
     match rules_behind(rt, config, dialect, starts, progress) {
         Err(stop) => Err(stop),
-        Ok(mut rules) => {
+        Ok(rules) => {
+            // The program ends behind it, and all memory goes back at once.
+            let mut rules = ManuallyDrop::new(rules);
             play_rows(
-                rt, &mut rules, intake, names, reader, listener, notes, progress,
+                rt,
+                &mut *rules,
+                intake,
+                names,
+                reader,
+                listener,
+                notes,
+                progress,
             )
         }
     }
@@ -224,23 +243,27 @@ fn play_traces<R: Files + AllocGlobal, I: Read + Drop, C: Clock, W: Sink, L: Lis
         ..
     } = asked;
     let names = traces.as_slice();
-    let config = sampled(&config, rows.sample, notes)?;
-    match intake_of(rt.alloc(), &config, rows.rhythm, rows.sample) {
+    match sampled(&config, rows.sample, notes) {
         Err(stop) => Err(stop),
-        Ok(mut intake) => {
-            play_rows_behind(
-                rt,
-                &config,
-                dialect,
-                starts,
-                &mut intake,
-                names,
-                reader,
-                listener,
-                notes,
-                progress,
-            )
-        }
+        Ok(config) => match intake_of(rt.alloc(), &config, rows.rhythm, rows.sample) {
+            Err(stop) => Err(stop),
+            Ok(intake) => {
+                // The program ends behind it, and all memory goes back at once.
+                let mut intake = ManuallyDrop::new(intake);
+                play_rows_behind(
+                    rt,
+                    &config,
+                    dialect,
+                    starts,
+                    &mut *intake,
+                    names,
+                    reader,
+                    listener,
+                    notes,
+                    progress,
+                )
+            }
+        },
     }
 }
 
@@ -284,7 +307,7 @@ fn follow<R: Files + AllocGlobal, I: Read + Drop, C: Clock, W: Sink, K: Sink>(
     found_by(send_lives(rt.alloc(), lives, as_json, sink))
 }
 
-// The same of the keys that are asked for. They are dropped in one place: what drops them is long.
+// The same of the keys that are asked for. The program ends behind it, and all memory goes back at once.
 fn follow_asked<R: Files + AllocGlobal, I: Read + Drop, C: Clock, W: Sink, K: Sink>(
     rt: &R,
     traces: AskedTraces,
@@ -295,10 +318,9 @@ fn follow_asked<R: Files + AllocGlobal, I: Read + Drop, C: Clock, W: Sink, K: Si
     progress: &Progress<C, W>,
 ) -> Result<Found, Stop> {
     match asked_for(rt.alloc(), asked) {
-        Ok(mut lives) => {
-            let told = follow(rt, traces, reader, &mut lives, sink, notes, progress);
-            drop(lives);
-            told
+        Ok(lives) => {
+            let mut lives = ManuallyDrop::new(lives);
+            follow(rt, traces, reader, &mut *lives, sink, notes, progress)
         }
         Err(_) => Err(Stop::Memory),
     }
@@ -311,6 +333,27 @@ fn sent<O: Write>(told: Result<Found, Stop>, outbox: &mut Outbox<'_, O>) -> Resu
         Err(stop) => Err(stop),
         Ok(_) if sent.is_err() => Err(Stop::CannotWrite),
         Ok(found) => Ok(found),
+    }
+}
+
+// Tells the lives of the keys that are asked for.
+fn tell_lives_in<R: Files + AllocGlobal, I: Read + Drop, O: Write + Drop, C: Clock, W: Sink>(
+    rt: &R,
+    traces: AskedTraces,
+    reader: I,
+    asked: &LivesAsked<Global>,
+    writer: O,
+    notes: &mut Vec<u8>,
+    progress: &Progress<C, W>,
+) -> Result<Found, Stop> {
+    match Room::new(rt.alloc()) {
+        Err(_) => Err(Stop::Memory),
+        Ok(room) => {
+            let mut writer = BesideProgress::new(writer, progress);
+            let mut outbox = Outbox::new(room, &mut writer);
+            let told = follow_asked(rt, traces, reader, asked, &mut outbox, notes, progress);
+            sent(told, &mut outbox)
+        }
     }
 }
 
@@ -329,21 +372,20 @@ fn tell_lives_of<R: Files + AllocGlobal, I: Read + Drop, O: Write + Drop, C: Clo
         key_file,
         last,
     } = asked;
-    let asked = LivesAsked {
-        keys: keys_of(rt, keys.as_slice(), &key_file)?,
-        last,
-        life: None,
-        json: traces.json,
-        // (the rules tell of no prefix)
-        prefix_end: COLON,
-    };
-    let Ok(room) = Room::new(rt.alloc()) else {
-        return Err(Stop::Memory);
-    };
-    let mut writer = BesideProgress::new(writer, progress);
-    let mut outbox = Outbox::new(room, &mut writer);
-    let told = follow_asked(rt, traces, reader, &asked, &mut outbox, notes, progress);
-    sent(told, &mut outbox)
+    match keys_of(rt, keys.as_slice(), &key_file) {
+        Err(stop) => Err(stop),
+        Ok(keys) => {
+            let asked = LivesAsked {
+                keys,
+                last,
+                life: None,
+                json: traces.json,
+                // (the rules tell of no prefix)
+                prefix_end: COLON,
+            };
+            tell_lives_in(rt, traces, reader, &asked, writer, notes, progress)
+        }
+    }
 }
 
 // Sends what is at hand, and counts what was told.
@@ -418,14 +460,16 @@ fn tell_gone_of<R: Files + AllocGlobal, I: Read + Drop, O: Write + Drop, C: Cloc
     } = asked;
     let filter = filter_of(class, cause, &prefix, first, last);
     let alloc = rt.alloc();
-    let Ok(room) = Room::new(alloc) else {
-        return Err(Stop::Memory);
-    };
-    let mut writer = BesideProgress::new(writer, progress);
-    let mut outbox = Outbox::new(room, &mut writer);
-    let gone = Gone::new(alloc, &filter, traces.json, &mut outbox);
-    let told = follow_leaving(rt, traces, reader, gone, notes, progress);
-    sent(told, &mut outbox)
+    match Room::new(alloc) {
+        Err(_) => Err(Stop::Memory),
+        Ok(room) => {
+            let mut writer = BesideProgress::new(writer, progress);
+            let mut outbox = Outbox::new(room, &mut writer);
+            let gone = Gone::new(alloc, &filter, traces.json, &mut outbox);
+            let told = follow_leaving(rt, traces, reader, gone, notes, progress);
+            sent(told, &mut outbox)
+        }
+    }
 }
 
 /// Plays the traces that are asked for, and tells the lives of keys. Answers the exit status: 0, or 1 where no step

@@ -36,6 +36,7 @@ use rev_messages::opened::OpenedAt;
 use rev_messages::progress::Progress;
 use rev_options::{KEPT, Standing, Until};
 use rev_output::Sink;
+use rev_plays::quiet::TraceFault;
 use rev_plays::trace::TraceEnd;
 use rev_replay::keeping::Keeping;
 use rev_replay::seeking::{Sought, Spot};
@@ -210,6 +211,47 @@ fn grown_files<R: Files + AllocGlobal, C: Clock, W: Sink>(
     )
 }
 
+// Why nothing more is played of a script that is made as it is read.
+fn stop_of_script<T: Feed + Drop>(
+    alloc: Global,
+    script: ImportedScript<T>,
+    fault: TraceFault,
+) -> Stop {
+    match copied(alloc, script.name()) {
+        Err(stop) => stop,
+        Ok(name) => match script.into_stop() {
+            Some(stop) => stop,
+            None => stop_of_trace(fault, name),
+        },
+    }
+}
+
+// Where a script of this name fills the tree, if it does.
+fn full_of(alloc: Global, name: &str, end: TraceEnd) -> Result<Option<Full>, Stop> {
+    match end {
+        TraceEnd::Whole => Ok(None),
+        TraceEnd::Full { line } => Ok(Some(Full {
+            file: copied(alloc, name)?,
+            line,
+        })),
+    }
+}
+
+// Plays a script that is made as it is read.
+fn grow_made<T: Feed + Drop>(
+    growing: &mut Growing<'_, Global>,
+    script: &mut ImportedScript<T>,
+) -> Result<TraceEnd, TraceFault>
+    ensures { OnOk result (HasGone growing.old growing.new) }
+{
+    let mut source = FromRead::new(script);
+    match growing.take_script(Dialect::CrLf, &mut source) {
+        Ok(TraceEnd::Whole) => Ok(TraceEnd::Whole),
+        Ok(TraceEnd::Full { line }) => Ok(TraceEnd::Full { line }),
+        Err(fault) => Err(fault),
+    }
+}
+
 // Plays the script of what is fed, and tells where it fills the tree, if it does.
 fn grow_script<T: Feed + Drop>(
     alloc: Global,
@@ -219,20 +261,12 @@ fn grow_script<T: Feed + Drop>(
     ensures { OnOk result (HasGone growing.old growing.new) }
 {
     let mut script = ImportedScript::new(alloc, feed);
-    let mut source = FromRead::new(&mut script);
-    match growing.take_script(Dialect::CrLf, &mut source) {
-        Ok(TraceEnd::Whole) => Ok(None),
-        Ok(TraceEnd::Full { line }) => Ok(Some(Full {
-            file: copied(alloc, script.name())?,
-            line,
-        })),
-        Err(fault) => {
-            let name = copied(alloc, script.name())?;
-            match script.into_stop() {
-                Some(stop) => Err(stop),
-                None => Err(stop_of_trace(fault, name)),
-            }
-        }
+    match grow_made(growing, &mut script) {
+        Ok(end) => match full_of(alloc, script.name(), end) {
+            Ok(full) => Ok(full),
+            Err(stop) => Err(stop),
+        },
+        Err(fault) => Err(stop_of_script(alloc, script, fault)),
     }
 }
 
@@ -281,7 +315,25 @@ fn grow_rows<R: Files + AllocGlobal, C: Clock, W: Sink>(
     Ok(full)
 }
 
-// What published traces become behind the starts.
+// What published traces become behind the starts, where this takes them in.
+fn grown_rows_by<R: Files + AllocGlobal, C: Clock, W: Sink>(
+    rt: &R,
+    scripts: &Scripts<'_>,
+    intake: &mut RowIntake,
+    keeping: Keeping,
+    sought: &Sought<Global>,
+    notes: &mut Vec<u8>,
+    progress: &Progress<C, W>,
+) -> Result<Taken<Global>, Stop>
+    ensures grown { IfOk result (λ taken. IsGrownBy keeping taken.grown) }
+    ensures spot { IfOk result (λ taken. IsPlaceOf (plain_sought sought.now) taken.grown.spot) }
+{
+    let mut growing = growing_on(rt, scripts, keeping, sought, progress)?;
+    let played = grow_rows(rt, scripts.names, &mut growing, intake, notes, progress);
+    grown_or(growing, played)
+}
+
+// The same of so many of their rows.
 fn grown_rows<R: Files + AllocGlobal, C: Clock, W: Sink>(
     rt: &R,
     scripts: &Scripts<'_>,
@@ -295,17 +347,14 @@ fn grown_rows<R: Files + AllocGlobal, C: Clock, W: Sink>(
     ensures grown { IfOk result (λ taken. IsGrownBy keeping taken.grown) }
     ensures spot { IfOk result (λ taken. IsPlaceOf (plain_sought sought.now) taken.grown.spot) }
 {
-    let mut intake = intake_of(rt.alloc(), scripts.config, rhythm, sample)?;
-    let mut growing = growing_on(rt, scripts, keeping, sought, progress)?;
-    let played = grow_rows(
-        rt,
-        scripts.names,
-        &mut growing,
-        &mut intake,
-        notes,
-        progress,
-    );
-    grown_or(growing, played)
+    match intake_of(rt.alloc(), scripts.config, rhythm, sample) {
+        Err(stop) => Err(stop),
+        Ok(mut intake) => {
+            let grown = grown_rows_by(rt, scripts, &mut intake, keeping, sought, notes, progress);
+            drop(intake);
+            grown
+        }
+    }
 }
 
 // A setup once more.
@@ -545,6 +594,12 @@ fn at_end_of<R: Files + AllocGlobal, C: Clock, W: Sink>(
     }
 }
 
+// Lets all go that is kept.
+fn let_go(taken: Taken<Global>) {
+    let Taken { grown, .. } = taken;
+    grown.let_go();
+}
+
 // Adds that a key never left.
 fn add_never(notes: &mut Vec<u8>, word: &str) -> Result<(), AllocError>
     ensures { OnOk result (notes.new.items ≡ with_never by_steps notes.old.items word.now) }
@@ -597,7 +652,7 @@ fn at_spot<R: Files + AllocGlobal, C: Clock, W: Sink>(
     if taken.grown.serves(spot, keep) {
         return Ok(stand(rt.alloc(), taken, spot, steps));
     }
-    drop(taken);
+    let_go(taken);
     match read_once(rt, scripts.names) {
         None => read_again(rt, scripts, spot, steps, keep, progress),
         Some(name) => Err(bad_file(
@@ -625,7 +680,7 @@ fn found_in<R: Files + AllocGlobal, C: Clock, W: Sink>(
     match taken.grown.spot {
         None => {
             let steps = taken.grown.last();
-            drop(taken);
+            let_go(taken);
             let first = name_in(scripts.names, 0);
             no_place(rt.alloc(), first, &standing.until, steps, notes)
         }

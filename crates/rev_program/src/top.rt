@@ -1,5 +1,6 @@
 //! `lrudb top`: the logs of a server are read, and tell where the cache's room goes.
 ghost use Rattle.std.specs.Prelude.{◌≡◌, true, IfOk};
+ghost use Rattle.rev_classes.specs.Limits.{IsWithinLimits};
 ghost use Rattle.rev_messages.specs.Ends.{IsStatus};
 ghost use Rattle.rev_program.specs.Program.{EndsAsked};
 
@@ -12,6 +13,7 @@ use rev_options::TopAsked;
 use rev_output::Sink;
 use rev_output::outbox::{Outbox, Room};
 use rev_replay::fault::ReplayFault;
+use rev_replay::sampling::Sampling;
 use rev_top::tell::tell_top;
 use rev_top::{Asked, By};
 use std::alloc::Global;
@@ -51,6 +53,45 @@ fn sent<O: Write>(
     }
 }
 
+// Reads the logs that are asked, of this server, of all keys or of a sample, and tells where the room goes.
+fn tell_top_by<R: Files + AllocGlobal, I: Read + Drop, O: Write + Drop, C: Clock, W: Sink>(
+    rt: &R,
+    asked: &TopAsked,
+    server: &LeadingServer,
+    sampling: Option<&Sampling<Global>>,
+    reader: I,
+    writer: O,
+    notes: &mut Vec<u8>,
+    progress: &Progress<C, W>,
+) -> Result<bool, Stop>
+    requires { IsWithinLimits server.now.setup.config }
+    ensures { IfOk result (λ all_seen. all_seen ≡ true) }
+{
+    let (alloc, names) = (rt.alloc(), asked.logs.logs.as_slice());
+    progress.expect(rt, names);
+    match all_opened(rt, alloc, names, reader, progress) {
+        Err(stop) => Err(stop),
+        Ok(files) => match Room::new(alloc) {
+            Err(_) => Err(Stop::Memory),
+            Ok(room) => {
+                let mut writer = BesideProgress::new(writer, progress);
+                let mut outbox = Outbox::new(room, &mut writer);
+                let told = tell_top(
+                    alloc,
+                    &server.setup,
+                    server.coverage,
+                    sampling,
+                    files,
+                    asked_of(asked),
+                    &mut outbox,
+                    notes,
+                );
+                sent(alloc, names, told, &mut outbox)
+            }
+        },
+    }
+}
+
 // Tells where the room goes.
 fn tell_top_of<R: Files + AllocGlobal, I: Read + Drop, O: Write + Drop, C: Clock, W: Sink>(
     rt: &R,
@@ -62,33 +103,22 @@ fn tell_top_of<R: Files + AllocGlobal, I: Read + Drop, O: Write + Drop, C: Clock
 ) -> Result<bool, Stop>
     ensures { IfOk result (λ all_seen. all_seen ≡ true) }
 {
-    let logs = &asked.logs;
-    let alloc = rt.alloc();
-    let LeadingServer {
-        setup,
-        coverage,
-        pages,
-    } = server_of(rt, logs, notes)?;
-    let sampling = asked_sampling(alloc, logs, pages, &[], notes)?;
-    let names = logs.logs.as_slice();
-    progress.expect(rt, names);
-    let files = all_opened(rt, alloc, names, reader, progress)?;
-    let Ok(room) = Room::new(alloc) else {
-        return Err(Stop::Memory);
-    };
-    let mut writer = BesideProgress::new(writer, progress);
-    let mut outbox = Outbox::new(room, &mut writer);
-    let told = tell_top(
-        alloc,
-        &setup,
-        coverage,
-        sampling.as_ref(),
-        files,
-        asked_of(asked),
-        &mut outbox,
-        notes,
-    );
-    sent(alloc, names, told, &mut outbox)
+    match server_of(rt, &asked.logs, notes) {
+        Err(stop) => Err(stop),
+        Ok(server) => match asked_sampling(rt.alloc(), &asked.logs, server.pages, &[], notes) {
+            Err(stop) => Err(stop),
+            Ok(sampling) => tell_top_by(
+                rt,
+                asked,
+                &server,
+                sampling.as_ref(),
+                reader,
+                writer,
+                notes,
+                progress,
+            ),
+        },
+    }
 }
 
 /// Reads the logs that are asked, and tells where the room goes. Answers the exit status: 0, and then what is to be

@@ -52,6 +52,15 @@ fn add_settings(settings: &mut Vec<Setting>, asked: &Asked) -> Result<(), AllocE
     Ok(())
 }
 
+// The settings with the values that are asked for.
+fn settings_of(alloc: Global, asked: &Asked) -> Result<Vec<Setting>, AllocError> {
+    let mut settings = Vec::new(alloc);
+    match add_settings(&mut settings, asked) {
+        Ok(()) => Ok(settings),
+        Err(refused) => Err(refused),
+    }
+}
+
 fn setting_of(asked: &Asked) -> Varied {
     match asked {
         Asked::Pages(_) => Varied::Pages,
@@ -106,14 +115,15 @@ struct Attempt {
 impl Attempt {
     // Trials of which no step is played.
     fn open(alloc: Global, config: &Config, asked: &Asked) -> Result<Attempt, AllocError> {
-        let mut settings = Vec::new(alloc);
-        add_settings(&mut settings, asked)?;
-        let groups = groups_of(alloc, config, settings.as_slice())?;
-        Ok(Attempt {
-            varied: setting_of(asked),
-            settings,
-            groups,
-        })
+        let settings = settings_of(alloc, asked)?;
+        match groups_of(alloc, config, settings.as_slice()) {
+            Ok(groups) => Ok(Attempt {
+                varied: setting_of(asked),
+                settings,
+                groups,
+            }),
+            Err(refused) => Err(refused),
+        }
     }
 
     // No step is played any more.
@@ -143,17 +153,38 @@ impl Attempt {
         config: &Config,
     ) -> Result<WhatIf, AllocError> {
         let mut trials = Vec::new(alloc);
-        for group in &self.groups {
-            for tried in &group.told(alloc)? {
-                trials.push(trial_of(tried))?;
-            }
+        match add_trials(&mut trials, alloc, self.groups.as_slice()) {
+            Ok(()) => Ok(WhatIf {
+                setting: self.varied,
+                own: own_value(session, config, self.varied),
+                trials,
+            }),
+            Err(refused) => Err(refused),
         }
-        Ok(WhatIf {
-            setting: self.varied,
-            own: own_value(session, config, self.varied),
-            trials,
-        })
     }
+}
+
+// Adds what a report tells of the trials of these groups.
+fn add_trials(trials: &mut Vec<Trial>, alloc: Global, groups: &[Trials]) -> Result<(), AllocError> {
+    for group in groups {
+        for tried in &group.told(alloc)? {
+            trials.push(trial_of(tried))?;
+        }
+    }
+    Ok(())
+}
+
+// Adds groups of trials of these settings, in their order.
+fn add_groups(
+    groups: &mut Vec<Trials>,
+    alloc: Global,
+    config: &Config,
+    settings: &[Setting],
+) -> Result<(), AllocError> {
+    for settings in settings.chunks(MOST_AT_ONCE) {
+        groups.push(Trials::open(alloc, config, settings)?)?;
+    }
+    Ok(())
 }
 
 // Groups of trials of these settings, in their order.
@@ -163,10 +194,23 @@ fn groups_of(
     settings: &[Setting],
 ) -> Result<Vec<Trials>, AllocError> {
     let mut groups = Vec::new(alloc);
-    for settings in settings.chunks(MOST_AT_ONCE) {
-        groups.push(Trials::open(alloc, config, settings)?)?;
+    match add_groups(&mut groups, alloc, config, settings) {
+        Ok(()) => Ok(groups),
+        Err(refused) => Err(refused),
     }
-    Ok(groups)
+}
+
+// Adds trials of which no step is played, of one setting after another.
+fn add_attempts(
+    attempts: &mut Vec<Attempt>,
+    alloc: Global,
+    config: &Config,
+    asked: &[Asked],
+) -> Result<(), AllocError> {
+    for asked in asked {
+        attempts.push(Attempt::open(alloc, config, asked)?)?;
+    }
+    Ok(())
 }
 
 /// Trials under way of all values that are asked for, of one setting after another. The trace is fed to them in parts,
@@ -186,14 +230,14 @@ impl Attempts {
         asked: &[Asked],
     ) -> Result<Attempts, AllocError> {
         let mut attempts = Vec::new(alloc);
-        for asked in asked {
-            attempts.push(Attempt::open(alloc, &config, asked)?)?;
+        match add_attempts(&mut attempts, alloc, &config, asked) {
+            Ok(()) => Ok(Attempts {
+                alloc,
+                config,
+                attempts,
+            }),
+            Err(refused) => Err(refused),
         }
-        Ok(Attempts {
-            alloc,
-            config,
-            attempts,
-        })
     }
 
     /// The steps that were played are of no trace any more.

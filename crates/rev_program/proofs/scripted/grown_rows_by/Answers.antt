@@ -1,5 +1,5 @@
 use Rattle.rev_program.proofs.Grows.{grown_well, placed_well}
-use Rattle.rev_program.proofs.scripted.grown_rows.Goals as goal
+use Rattle.rev_program.proofs.scripted.grown_rows_by.Goals as goal
 
 pub returns-clause-grown : goal.returns-clause-grown
 returns-clause-grown g c =
