@@ -1,2 +1,4 @@
 mod Feeds
+mod Kept
 mod Reports
+mod Rhythms

@@ -1,0 +1,297 @@
+//! In which rhythm the rules lead logs: the one that is asked for, or the best of some that are tried on the first lines
+//! of the logs.
+ghost use Rattle.std.specs.Prelude.{◌≡◌, ◌++◌, ◌∷◌, nat_eq, IfOk, OnOk};
+ghost use Rattle.rev_intake.specs.Report.{behind};
+ghost use Rattle.rev_import_commands.specs.Kept.{AllKeep};
+ghost use Rattle.rev_import_commands.specs.Rhythms.{Chooses, IsBest, IsRhythm, best_parts, name_of, others, rhythms_of, steps_parts, trial_parts, trials_parts};
+
+use crate::check::{Check, compare};
+use crate::kept::{KeptLog, begun, unread};
+use rev_choices::Rhythm;
+use rev_import::setup::Setup;
+use rev_intake::intake::Range;
+use rev_intake::report::put_part;
+use rev_messages::Stop;
+use rev_options::Steps;
+use std::alloc::{AllocError, Global};
+use std::io::Read;
+
+/// The rhythms that are tried behind `lean` (this project's own).
+const OTHERS: [Rhythm; 5] = [
+    Rhythm::None,
+    Rhythm::Every(1),
+    Rhythm::Every(2),
+    Rhythm::Every(5),
+    Rhythm::Every(10),
+];
+
+/// A rhythm that was tried on the first lines of logs.
+#[derive(Clone, Copy)]
+pub struct Trial {
+    pub rhythm: Rhythm,
+    /// How many evictions these lines tell.
+    pub logged: u64,
+    /// How many of them the replay tells.
+    pub told: u64,
+}
+
+/// Logs, and in which rhythm the rules lead them.
+#[derive(Drop)]
+pub struct SteppedLogs<F: Read> {
+    pub rhythm: Rhythm,
+    pub logs: Vec<KeptLog<F>>,
+}
+
+// What rhythms are tried on: the first lines of logs of these names, of a server that was set up so.
+#[derive(Clone, Copy)]
+struct FirstLines<'a> {
+    setup: &'a Setup,
+    range: Range,
+    names: &'a [String],
+    fronts: &'a [&'a [u8]],
+}
+
+// What is tried of logs.
+fn fronts_of<F: Read>(alloc: Global, logs: &[KeptLog<F>]) -> Result<Vec<&[u8]>, AllocError> {
+    let mut fronts = Vec::new(alloc);
+    for log in logs {
+        fronts.push(log.tried())?;
+    }
+    Ok(fronts)
+}
+
+// How many lines these are.
+fn lines_in(fronts: &[&[u8]]) -> u64 {
+    let mut lines: u64 = 0;
+    for front in fronts {
+        let more = front.iter().filter(|byte| **byte == b'\n').count();
+        lines = lines.saturating_add(more as u64);
+    }
+    lines
+}
+
+// Where the first lines have no event that is asked for, they tell no eviction.
+fn or_none(compared: Result<(), Stop>) -> Result<(), Stop> {
+    match compared {
+        Err(Stop::NoEvent(_)) => Ok(()),
+        compared => compared,
+    }
+}
+
+// Compares a replay of the first lines in a rhythm with them.
+fn compare_lines(
+    alloc: Global,
+    first: &FirstLines<'_>,
+    rhythm: Rhythm,
+    check: &mut Check,
+) -> Result<(), Stop> {
+    let FirstLines {
+        setup,
+        range,
+        names,
+        fronts,
+    } = *first;
+    let logs = fronts.to_vec(alloc)?;
+    or_none(compare(alloc, setup, rhythm, range, names, logs, check))
+}
+
+// Tries a rhythm on the first lines. What memory that takes goes back.
+fn trial(alloc: Global, first: &FirstLines<'_>, rhythm: Rhythm) -> Result<Trial, Stop>
+    ensures { IfOk result (λ trial. trial.rhythm ≡ rhythm) }
+{
+    match Check::open(alloc, &first.setup.config) {
+        Err(stop) => Err(stop),
+        Ok(mut check) => {
+            let compared = compare_lines(alloc, first, rhythm, &mut check);
+            let tally = check.close();
+            match compared {
+                Err(stop) => Err(stop),
+                Ok(()) => Ok(Trial {
+                    rhythm,
+                    logged: tally.logged,
+                    told: tally.both,
+                }),
+            }
+        }
+    }
+}
+
+// Tries the rhythms behind `lean`.
+fn other_trials(alloc: Global, first: &FirstLines<'_>) -> Result<Vec<Trial>, Stop>
+    ensures { IfOk result (λ trials. rhythms_of trials.items ≡ others) }
+{
+    let mut trials = Vec::new(alloc);
+    for rhythm in OTHERS {
+        trials.push(trial(alloc, first, rhythm)?)?;
+    }
+    Ok(trials)
+}
+
+// The first of the trials that tell most.
+fn best_of(first: Trial, others: &[Trial]) -> Trial
+    ensures { IsBest (first ∷ others.now) result }
+{
+    let mut best = first;
+    for trial in others {
+        if trial.told > best.told {
+            best = *trial;
+        }
+    }
+    best
+}
+
+// Adds the word for a rhythm.
+fn put_name(out: &mut Vec<u8>, rhythm: Rhythm) -> Result<(), AllocError>
+    ensures { OnOk result (out.new.items ≡ out.old.items ++ name_of rhythm) }
+{
+    match rhythm {
+        Rhythm::Lean => out.extend_from_slice(b"lean"),
+        Rhythm::None => out.extend_from_slice(b"none"),
+        Rhythm::Every(count) => put_part(out, b"every:", u64::from(count), b""),
+    }
+}
+
+// Adds how many evictions a rhythm tells.
+fn put_trial(out: &mut Vec<u8>, trial: &Trial) -> Result<(), AllocError>
+    ensures { OnOk result (out.new.items ≡ behind out.old.items (trial_parts trial.now)) }
+{
+    out.extend_from_slice(b"; ")?;
+    put_name(out, trial.rhythm)?;
+    put_part(out, b" ", trial.told, b"")
+}
+
+// Adds how many evictions each rhythm tells.
+fn put_trials(out: &mut Vec<u8>, trials: &[Trial]) -> Result<(), AllocError>
+    ensures { OnOk result (out.new.items ≡ behind out.old.items (trials_parts trials.now)) }
+{
+    for trial in trials {
+        put_trial(out, trial)?;
+    }
+    Ok(())
+}
+
+// Adds why a rhythm is taken: what it tells of so many lines, and how many evictions each tells that was tried.
+fn put_reason(
+    out: &mut Vec<u8>,
+    lines: u64,
+    best: &Trial,
+    first: Trial,
+    others: &[Trial],
+) -> Result<(), AllocError>
+    ensures { OnOk result (out.new.items ≡ behind out.old.items (best_parts (nat_eq best.now.logged 0) lines best.now (first ∷ others.now))) }
+{
+    if best.logged == 0 {
+        return put_part(out, b", since the first ", lines, b" lines tell no eviction\n");
+    }
+    put_part(
+        out,
+        b", which tells most of the ",
+        best.logged,
+        b" evictions of the first ",
+    )?;
+    put_part(out, b"", lines, b" lines")?;
+    put_trial(out, &first)?;
+    put_trials(out, others)?;
+    out.extend_from_slice(b"\n")
+}
+
+// Adds which rhythm is taken, and why.
+fn put_best(
+    out: &mut Vec<u8>,
+    lines: u64,
+    best: &Trial,
+    first: Trial,
+    others: &[Trial],
+) -> Result<(), AllocError>
+    ensures { OnOk result (out.new.items ≡ behind out.old.items (steps_parts lines best.now (first ∷ others.now))) }
+{
+    out.extend_from_slice(b"steps: ")?;
+    put_name(out, best.rhythm)?;
+    put_reason(out, lines, best, first, others)
+}
+
+// The best rhythm for logs, by their first lines.
+fn best_rhythm(alloc: Global, first: &FirstLines<'_>, notes: &mut Vec<u8>) -> Result<Rhythm, Stop>
+    ensures { IfOk result (Chooses notes.old.items notes.new.items) }
+{
+    let lean = trial(alloc, first, Rhythm::Lean)?;
+    let others = other_trials(alloc, first)?;
+    let best = best_of(lean, others.as_slice());
+    put_best(
+        notes,
+        lines_in(first.fronts),
+        &best,
+        lean,
+        others.as_slice(),
+    )?;
+    Ok(best.rhythm)
+}
+
+// The same, where the first lines were read.
+fn best_for<F: Read>(
+    alloc: Global,
+    setup: &Setup,
+    range: Range,
+    names: &[String],
+    logs: &[KeptLog<F>],
+    notes: &mut Vec<u8>,
+) -> Result<Rhythm, Stop>
+    ensures { IfOk result (Chooses notes.old.items notes.new.items) }
+{
+    let fronts = fronts_of(alloc, logs)?;
+    let first = FirstLines {
+        setup,
+        range,
+        names,
+        fronts: fronts.as_slice(),
+    };
+    match best_rhythm(alloc, &first, notes) {
+        Ok(rhythm) => Ok(rhythm),
+        Err(stop) => Err(stop),
+    }
+}
+
+// The logs that the rules lead in the best rhythm.
+fn best_stepped<F: Read + Drop>(
+    alloc: Global,
+    setup: &Setup,
+    range: Range,
+    names: &[String],
+    logs: Vec<F>,
+    notes: &mut Vec<u8>,
+) -> Result<SteppedLogs<F>, Stop>
+    ensures steps { IfOk result (λ stepped. Chooses notes.old.items notes.new.items stepped.rhythm) }
+    ensures logs { IfOk result (λ stepped. AllKeep F.remaining logs.items stepped.logs.items) }
+{
+    let logs = begun(alloc, logs)?;
+    match best_for(alloc, setup, range, names, logs.as_slice(), notes) {
+        Ok(rhythm) => Ok(SteppedLogs { rhythm, logs }),
+        Err(stop) => Err(stop),
+    }
+}
+
+/// The logs of these names, and in which rhythm the rules lead them. Which one is the best is tried by replays of their
+/// first lines, 100000 or as many as 32 MiB hold, of a server that was set up so, from an empty cache on. It goes
+/// behind `notes`.
+///
+/// Err: memory was refused, or one of the lines that are tried is none.
+pub fn stepped<F: Read + Drop>(
+    alloc: Global,
+    setup: &Setup,
+    steps: Steps,
+    range: Range,
+    names: &[String],
+    logs: Vec<F>,
+    notes: &mut Vec<u8>,
+) -> Result<SteppedLogs<F>, Stop>
+    ensures steps { IfOk result (λ stepped. IsRhythm steps notes.old.items notes.new.items stepped.rhythm) }
+    ensures logs { IfOk result (λ stepped. AllKeep F.remaining logs.items stepped.logs.items) }
+{
+    match steps {
+        Steps::Best => best_stepped(alloc, setup, range, names, logs, notes),
+        Steps::In(rhythm) => match unread(alloc, logs) {
+            Ok(logs) => Ok(SteppedLogs { rhythm, logs }),
+            Err(stop) => Err(stop),
+        },
+    }
+}
