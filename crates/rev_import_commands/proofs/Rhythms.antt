@@ -43,12 +43,12 @@ best_behind front b mid [] p q = record {
 }
 best_behind front b mid (t ∷ trials) p q = elim (leb_tells (suc b.told) t.told) [
   | inl h ↦
-    let less = less_both t.told front (b ∷ mid) (less_of_more b.told t.told front p (omega (arith, h.1))) (omega (arith, h.1), less_than b.told t.told mid q (omega (arith, h.1))) in
-    let there : front ++ b ∷ (mid ++ t ∷ trials) ≡ (front ++ b ∷ mid) ++ t ∷ trials = sym (append_assoc front (b ∷ mid) (t ∷ trials)) in
-    rw (h.0, there) (best_behind (front ++ b ∷ mid) t [] trials less tt)
+      let less = less_both t.told front (b ∷ mid) (less_of_more b.told t.told front p (omega (arith, h.1))) (omega (arith, h.1), less_than b.told t.told mid q (omega (arith, h.1))) in
+      let there : front ++ b ∷ (mid ++ t ∷ trials) ≡ (front ++ b ∷ mid) ++ t ∷ trials = sym (append_assoc front (b ∷ mid) (t ∷ trials)) in
+      rw (h.0, there) (best_behind (front ++ b ∷ mid) t [] trials less tt)
   | inr h ↦
-    let there : front ++ b ∷ (mid ++ t ∷ trials) ≡ front ++ b ∷ ((mid ++ t ∷ []) ++ trials) = ap (λ l. front ++ b ∷ l) (sym (append_assoc mid (t ∷ []) trials)) in
-    rw (h.0, there) (best_behind front b (mid ++ t ∷ []) trials p (no_more_one b.told mid t q (omega (arith, h.1))))
+      let there : front ++ b ∷ (mid ++ t ∷ trials) ≡ front ++ b ∷ ((mid ++ t ∷ []) ++ trials) = ap (λ l. front ++ b ∷ l) (sym (append_assoc mid (t ∷ []) trials)) in
+      rw (h.0, there) (best_behind front b (mid ++ t ∷ []) trials p (no_more_one b.told mid t q (omega (arith, h.1))))
 ]
 
 pub best_is : (first : Trial) (others : List Trial) → IsBest (first ∷ others) (best_from first others)

@@ -5,7 +5,6 @@ ghost use Rattle.std.specs.Io.KnownBytes.{Keeps, prepend_known};
 ghost use Rattle.rev_import_commands.specs.Kept.{AllKeep, bytes_of_lines};
 
 use rev_intake::intake::PIECE;
-use rev_messages::Stop;
 use std::alloc::{AllocError, Global};
 use std::io;
 use std::io::{Chain, Cursor, ErrorKind, Read};
@@ -178,7 +177,10 @@ fn kept_by<F: Read + Drop>(
 /// Logs, of which the first lines are read.
 ///
 /// Err: memory was refused.
-pub(crate) fn begun<F: Read + Drop>(alloc: Global, logs: Vec<F>) -> Result<Vec<KeptLog<F>>, Stop>
+pub(crate) fn begun<F: Read + Drop>(
+    alloc: Global,
+    logs: Vec<F>,
+) -> Result<Vec<KeptLog<F>>, AllocError>
     ensures { IfOk result (λ kept. AllKeep F.remaining logs.items kept.items) }
 {
     let mut piece = vec![in alloc; 0; PIECE]?;
@@ -186,21 +188,18 @@ pub(crate) fn begun<F: Read + Drop>(alloc: Global, logs: Vec<F>) -> Result<Vec<K
         lines: MOST_LINES,
         bytes: MOST_BYTES,
     };
-    match kept_by(alloc, logs, piece.as_mut_slice(), &mut quota) {
-        Ok(kept) => Ok(kept),
-        Err(_) => Err(Stop::Memory),
-    }
+    kept_by(alloc, logs, piece.as_mut_slice(), &mut quota)
 }
 
 /// Logs, of which nothing is read.
 ///
 /// Err: memory was refused.
-pub(crate) fn unread<F: Read + Drop>(alloc: Global, logs: Vec<F>) -> Result<Vec<KeptLog<F>>, Stop>
+pub(crate) fn unread<F: Read + Drop>(
+    alloc: Global,
+    logs: Vec<F>,
+) -> Result<Vec<KeptLog<F>>, AllocError>
     ensures { IfOk result (λ kept. AllKeep F.remaining logs.items kept.items) }
 {
     let mut quota = Quota { lines: 0, bytes: 0 };
-    match kept_by(alloc, logs, &mut [], &mut quota) {
-        Ok(kept) => Ok(kept),
-        Err(_) => Err(Stop::Memory),
-    }
+    kept_by(alloc, logs, &mut [], &mut quota)
 }

@@ -64,7 +64,7 @@ fn fronts_of<F: Read>(alloc: Global, logs: &[KeptLog<F>]) -> Result<Vec<&[u8]>, 
 fn lines_in(fronts: &[&[u8]]) -> u64 {
     let mut lines: u64 = 0;
     for front in fronts {
-        let more = front.iter().filter(|byte| **byte == b'\n').count();
+        let more = (*front).iter().filter(|byte| **byte == b'\n').count();
         lines = lines.saturating_add(more as u64);
     }
     lines
@@ -73,7 +73,10 @@ fn lines_in(fronts: &[&[u8]]) -> u64 {
 // Where the first lines have no event that is asked for, they tell no eviction.
 fn or_none(compared: Result<(), Stop>) -> Result<(), Stop> {
     match compared {
-        Err(Stop::NoEvent(_)) => Ok(()),
+        Err(Stop::NoEvent(name)) => {
+            drop(name);
+            Ok(())
+        }
         compared => compared,
     }
 }
@@ -96,7 +99,7 @@ fn compare_lines(
 }
 
 // Tries a rhythm on the first lines. What memory that takes goes back.
-fn trial(alloc: Global, first: &FirstLines<'_>, rhythm: Rhythm) -> Result<Trial, Stop>
+fn trial_of(alloc: Global, first: &FirstLines<'_>, rhythm: Rhythm) -> Result<Trial, Stop>
     ensures { IfOk result (λ trial. trial.rhythm ≡ rhythm) }
 {
     match Check::open(alloc, &first.setup.config) {
@@ -121,8 +124,11 @@ fn other_trials(alloc: Global, first: &FirstLines<'_>) -> Result<Vec<Trial>, Sto
     ensures { IfOk result (λ trials. rhythms_of trials.items ≡ others) }
 {
     let mut trials = Vec::new(alloc);
-    for rhythm in OTHERS {
-        trials.push(trial(alloc, first, rhythm)?)?;
+    for rhythm in &OTHERS {
+        let trial = trial_of(alloc, first, *rhythm)?;
+        if trials.push(trial).is_err() {
+            return Err(Stop::Memory);
+        }
     }
     Ok(trials)
 }
@@ -181,7 +187,12 @@ fn put_reason(
     ensures { OnOk result (out.new.items ≡ behind out.old.items (best_parts (nat_eq best.now.logged 0) lines best.now (first ∷ others.now))) }
 {
     if best.logged == 0 {
-        return put_part(out, b", since the first ", lines, b" lines tell no eviction\n");
+        return put_part(
+            out,
+            b", since the first ",
+            lines,
+            b" lines tell no eviction\n",
+        );
     }
     put_part(
         out,
@@ -214,16 +225,11 @@ fn put_best(
 fn best_rhythm(alloc: Global, first: &FirstLines<'_>, notes: &mut Vec<u8>) -> Result<Rhythm, Stop>
     ensures { IfOk result (Chooses notes.old.items notes.new.items) }
 {
-    let lean = trial(alloc, first, Rhythm::Lean)?;
-    let others = other_trials(alloc, first)?;
-    let best = best_of(lean, others.as_slice());
-    put_best(
-        notes,
-        lines_in(first.fronts),
-        &best,
-        lean,
-        others.as_slice(),
-    )?;
+    let lean = trial_of(alloc, first, Rhythm::Lean)?;
+    let more = other_trials(alloc, first)?;
+    let best = best_of(lean, more.as_slice());
+    let lines = lines_in(first.fronts);
+    put_best(notes, lines, &best, lean, more.as_slice())?;
     Ok(best.rhythm)
 }
 
@@ -291,7 +297,7 @@ pub fn stepped<F: Read + Drop>(
         Steps::Best => best_stepped(alloc, setup, range, names, logs, notes),
         Steps::In(rhythm) => match unread(alloc, logs) {
             Ok(logs) => Ok(SteppedLogs { rhythm, logs }),
-            Err(stop) => Err(stop),
+            Err(_) => Err(Stop::Memory),
         },
     }
 }

@@ -122,6 +122,9 @@ fn rhythm(text: &str) -> Option<Rhythm> {
     }
 }
 
+// The word for the rhythm that tells most evictions.
+const BEST: &str = "auto";
+
 // The rhythm of this word, or the parser's error: what is wanted.
 fn rhythm_by(alloc: Global, word: &str, wanted: &str) -> Result<Rhythm, Error> {
     match rhythm(word) {
@@ -132,29 +135,28 @@ fn rhythm_by(alloc: Global, word: &str, wanted: &str) -> Result<Rhythm, Error> {
 
 /// The rhythm that the words ask for where published traces are played, or the parser's error.
 pub fn rhythm_of(alloc: Global, matches: &ArgMatches<'_>) -> Result<Rhythm, Error> {
-    match matches.get_str("steps").unwrap_or("lean") {
-        "auto" => Err(fault(
+    let word = matches.get_str("steps").unwrap_or("lean");
+    if word == BEST {
+        return Err(fault(
             alloc,
             ErrorKind::ArgumentConflict,
             "--steps: auto is for logs, since a published trace tells no evictions",
-        )),
-        word => rhythm_by(
-            alloc,
-            word,
-            "--steps: lean, none, or every:N with a number from 1 on is wanted",
-        ),
+        ));
     }
+    let wanted = "--steps: lean, none, or every:N with a number from 1 on is wanted";
+    rhythm_by(alloc, word, wanted)
 }
 
 /// The steps that the words ask for where the rules lead logs, or the parser's error.
 pub(crate) fn steps_of(alloc: Global, matches: &ArgMatches<'_>) -> Result<Steps, Error> {
-    match matches.get_str("steps").unwrap_or("lean") {
-        "auto" => Ok(Steps::Best),
-        word => Ok(Steps::In(rhythm_by(
-            alloc,
-            word,
-            "--steps: lean, none, auto, or every:N with a number from 1 on is wanted",
-        )?)),
+    let word = matches.get_str("steps").unwrap_or("lean");
+    if word == BEST {
+        return Ok(Steps::Best);
+    }
+    let wanted = "--steps: lean, none, auto, or every:N with a number from 1 on is wanted";
+    match rhythm_by(alloc, word, wanted) {
+        Ok(rhythm) => Ok(Steps::In(rhythm)),
+        Err(error) => Err(error),
     }
 }
 
