@@ -7,37 +7,37 @@ use Rattle.rev_choices.specs.declared.Rhythm.TheVariants as rhythms
 use Rattle.rev_intake.specs.Report.{behind, part}
 use Rattle.rev_options.specs.declared.leader.Steps.{Steps}
 use Rattle.rev_options.specs.declared.leader.Steps.TheVariants.{In, Best}
-use Rattle.rev_import_commands.specs.declared.rhythms.Trial.{Trial}
+use Rattle.rev_import_commands.specs.declared.rhythms.Candidate.{Candidate}
 
 -- ---- which one
 
 -- the rhythms that are tried behind `lean`, in this order
-abbrev pub others : List Rhythm
-others = rhythms.None ∷ rhythms.Every 1 ∷ rhythms.Every 2 ∷ rhythms.Every 5 ∷ rhythms.Every 10 ∷ []
+abbrev pub other_rhythms : List Rhythm
+other_rhythms = rhythms.None ∷ rhythms.Every 1 ∷ rhythms.Every 2 ∷ rhythms.Every 5 ∷ rhythms.Every 10 ∷ []
 
-abbrev pub candidates : List Rhythm
-candidates = rhythms.Lean ∷ others
+abbrev pub tried_rhythms : List Rhythm
+tried_rhythms = rhythms.Lean ∷ other_rhythms
 
--- the rhythms of trials
-abbrev pub rhythms_of : List Trial → List Rhythm
-rhythms_of trials = map (λ t. t.rhythm) trials
+-- the rhythms of candidates
+abbrev pub rhythms_of : List Candidate → List Rhythm
+rhythms_of candidates = map (λ t. t.rhythm) candidates
 
--- each of these trials tells less than so many evictions, or no more
-abbrev pub TellLess : ℕ → List Trial → Type 0
+-- each of these candidates tells less than so many evictions, or no more
+abbrev pub TellLess : ℕ → List Candidate → Type 0
 TellLess n [] = ⊤
-TellLess n (t ∷ trials) = (t.told < n) × TellLess n trials
+TellLess n (t ∷ candidates) = (t.told < n) × TellLess n candidates
 
-abbrev pub TellNoMore : ℕ → List Trial → Type 0
+abbrev pub TellNoMore : ℕ → List Candidate → Type 0
 TellNoMore n [] = ⊤
-TellNoMore n (t ∷ trials) = (t.told ≤ n) × TellNoMore n trials
+TellNoMore n (t ∷ candidates) = (t.told ≤ n) × TellNoMore n candidates
 
--- of these trials it is the first one that tells most
-pub record IsBest (trials : List Trial) (best : Trial) : Type 0 where
-  pub front : List Trial
-  pub others : List Trial
-  pub parted : trials ≡ front ++ best ∷ others
+-- of these candidates it is the first one that tells most
+pub record IsBest (candidates : List Candidate) (best : Candidate) : Type 0 where
+  pub front : List Candidate
+  pub rest : List Candidate
+  pub parted : candidates ≡ front ++ best ∷ rest
   pub less : TellLess best.told front
-  pub no_more : TellNoMore best.told others
+  pub no_more : TellNoMore best.told rest
 
 -- ---- what is told of it
 
@@ -47,36 +47,36 @@ name_of rhythms.None = codes "none"
 name_of (rhythms.Every n) = codes "every:" ++ decimal n
 
 -- how many evictions one tells, and each of several
-abbrev pub trial_parts : Trial → List (List ℕ)
-trial_parts t = codes "; " ∷ name_of t.rhythm ∷ part (codes " ") t.told [] ∷ []
+abbrev pub candidate_parts : Candidate → List (List ℕ)
+candidate_parts t = codes "; " ∷ name_of t.rhythm ∷ part (codes " ") t.told [] ∷ []
 
-abbrev pub trials_parts : List Trial → List (List ℕ)
-trials_parts [] = []
-trials_parts (t ∷ trials) = trial_parts t ++ trials_parts trials
+abbrev pub candidates_parts : List Candidate → List (List ℕ)
+candidates_parts [] = []
+candidates_parts (t ∷ candidates) = candidate_parts t ++ candidates_parts candidates
 
 -- where no eviction is logged, and where some are
-abbrev pub best_parts : Bool → ℕ → Trial → List Trial → List (List ℕ)
-best_parts true lines best trials = part (codes ", since the first ") lines (codes " lines tell no eviction\n") ∷ []
-best_parts false lines best trials =
+abbrev pub best_parts : Bool → ℕ → Candidate → List Candidate → List (List ℕ)
+best_parts true lines best candidates = part (codes ", since the first ") lines (codes " lines tell no eviction\n") ∷ []
+best_parts false lines best candidates =
     part (codes ", which tells most of the ") best.logged (codes " evictions of the first ")
     ∷ part [] lines (codes " lines")
-    ∷ (trials_parts trials ++ codes "\n" ∷ [])
+    ∷ (candidates_parts candidates ++ codes "\n" ∷ [])
 
 -- of so many lines
-abbrev pub steps_parts : ℕ → Trial → List Trial → List (List ℕ)
-steps_parts lines best trials = codes "steps: " ∷ name_of best.rhythm ∷ best_parts (nat_eq best.logged 0) lines best trials
+abbrev pub steps_parts : ℕ → Candidate → List Candidate → List (List ℕ)
+steps_parts lines best candidates = codes "steps: " ∷ name_of best.rhythm ∷ best_parts (nat_eq best.logged 0) lines best candidates
 
 -- ---- both
 
--- the candidates were tried, and the best one is taken and told
+-- these rhythms were tried, and the best one is taken and told
 pub record Chooses (old new : List ℕ) (rhythm : Rhythm) : Type 0 where
   pub lines : ℕ
-  pub trials : List Trial
-  pub best : Trial
-  pub tried : rhythms_of trials ≡ candidates
-  pub is_best : IsBest trials best
+  pub candidates : List Candidate
+  pub best : Candidate
+  pub tried : rhythms_of candidates ≡ tried_rhythms
+  pub is_best : IsBest candidates best
   pub taken : rhythm ≡ best.rhythm
-  pub told : new ≡ behind old (steps_parts lines best trials)
+  pub told : new ≡ behind old (steps_parts lines best candidates)
 
 -- the rhythm that is asked for, of which nothing is told, or the best one
 abbrev pub IsRhythm : Steps → (old new : List ℕ) → Rhythm → Type 0

@@ -110,7 +110,12 @@ pub fn setup_by(settings: &Settings, factor: Option<Factor>) -> Result<Setup, St
 }
 
 /// A setup once more.
-pub fn same_setup(setup: &Setup) -> Result<Setup, Stop> {
+///
+/// Err: its configuration breaks a limit.
+pub fn same_setup(setup: &Setup) -> Result<Setup, Stop>
+    ensures config { IfOk result (λ again. again.config ≡ setup.now.config) }
+    ensures tuning { IfOk result (λ again. (again.tune ≡ setup.now.tune) × (again.temp_ttl ≡ setup.now.temp_ttl)) }
+{
     match ClassTable::build(&setup.config) {
         Ok(classes) => Ok(Setup {
             config: setup.config,

@@ -116,8 +116,13 @@ fn read_front<F: Read>(
     ensures { OnOk result (Keeps (prepend_known front.old.items (F.remaining log.old)) (prepend_known front.new.items (F.remaining log.new))) }
 {
     for _ in 0..u64::MAX {
-        if quota.is_met() || !read_piece(log, front, piece, quota)? {
-            break;
+        if quota.is_met() {
+            return Ok(());
+        }
+        match read_piece(log, front, piece, quota) {
+            Err(refused) => return Err(refused),
+            Ok(false) => return Ok(()),
+            Ok(true) => {}
         }
     }
     Ok(())

@@ -3,7 +3,7 @@
 ghost use Rattle.std.specs.Prelude.{◌≡◌, ◌++◌, ◌∷◌, nat_eq, IfOk, OnOk};
 ghost use Rattle.rev_intake.specs.Report.{behind};
 ghost use Rattle.rev_import_commands.specs.Kept.{AllKeep};
-ghost use Rattle.rev_import_commands.specs.Rhythms.{Chooses, IsBest, IsRhythm, best_parts, name_of, others, rhythms_of, steps_parts, trial_parts, trials_parts};
+ghost use Rattle.rev_import_commands.specs.Rhythms.{Chooses, IsBest, IsRhythm, best_parts, candidate_parts, candidates_parts, name_of, other_rhythms, rhythms_of, steps_parts};
 
 use crate::check::{Check, compare};
 use crate::kept::{KeptLog, begun, unread};
@@ -27,7 +27,7 @@ const OTHERS: [Rhythm; 5] = [
 
 /// A rhythm that was tried on the first lines of logs.
 #[derive(Clone, Copy)]
-pub struct Trial {
+pub struct Candidate {
     pub rhythm: Rhythm,
     /// How many evictions these lines tell.
     pub logged: u64,
@@ -99,8 +99,8 @@ fn compare_lines(
 }
 
 // Tries a rhythm on the first lines. What memory that takes goes back.
-fn trial_of(alloc: Global, first: &FirstLines<'_>, rhythm: Rhythm) -> Result<Trial, Stop>
-    ensures { IfOk result (λ trial. trial.rhythm ≡ rhythm) }
+fn candidate_of(alloc: Global, first: &FirstLines<'_>, rhythm: Rhythm) -> Result<Candidate, Stop>
+    ensures { IfOk result (λ candidate. candidate.rhythm ≡ rhythm) }
 {
     match Check::open(alloc, &first.setup.config) {
         Err(stop) => Err(stop),
@@ -109,7 +109,7 @@ fn trial_of(alloc: Global, first: &FirstLines<'_>, rhythm: Rhythm) -> Result<Tri
             let tally = check.close();
             match compared {
                 Err(stop) => Err(stop),
-                Ok(()) => Ok(Trial {
+                Ok(()) => Ok(Candidate {
                     rhythm,
                     logged: tally.logged,
                     told: tally.both,
@@ -120,27 +120,27 @@ fn trial_of(alloc: Global, first: &FirstLines<'_>, rhythm: Rhythm) -> Result<Tri
 }
 
 // Tries the rhythms behind `lean`.
-fn other_trials(alloc: Global, first: &FirstLines<'_>) -> Result<Vec<Trial>, Stop>
-    ensures { IfOk result (λ trials. rhythms_of trials.items ≡ others) }
+fn other_candidates(alloc: Global, first: &FirstLines<'_>) -> Result<Vec<Candidate>, Stop>
+    ensures { IfOk result (λ candidates. rhythms_of candidates.items ≡ others) }
 {
-    let mut trials = Vec::new(alloc);
+    let mut candidates = Vec::new(alloc);
     for rhythm in &OTHERS {
-        let trial = trial_of(alloc, first, *rhythm)?;
-        if trials.push(trial).is_err() {
+        let candidate = candidate_of(alloc, first, *rhythm)?;
+        if candidates.push(candidate).is_err() {
             return Err(Stop::Memory);
         }
     }
-    Ok(trials)
+    Ok(candidates)
 }
 
-// The first of the trials that tell most.
-fn best_of(first: Trial, others: &[Trial]) -> Trial
+// The first of the candidates that tell most.
+fn best_of(first: Candidate, others: &[Candidate]) -> Candidate
     ensures { IsBest (first ∷ others.now) result }
 {
     let mut best = first;
-    for trial in others {
-        if trial.told > best.told {
-            best = *trial;
+    for candidate in others {
+        if candidate.told > best.told {
+            best = *candidate;
         }
     }
     best
@@ -158,20 +158,20 @@ fn put_name(out: &mut Vec<u8>, rhythm: Rhythm) -> Result<(), AllocError>
 }
 
 // Adds how many evictions a rhythm tells.
-fn put_trial(out: &mut Vec<u8>, trial: &Trial) -> Result<(), AllocError>
-    ensures { OnOk result (out.new.items ≡ behind out.old.items (trial_parts trial.now)) }
+fn put_candidate(out: &mut Vec<u8>, candidate: &Candidate) -> Result<(), AllocError>
+    ensures { OnOk result (out.new.items ≡ behind out.old.items (candidate_parts candidate.now)) }
 {
     out.extend_from_slice(b"; ")?;
-    put_name(out, trial.rhythm)?;
-    put_part(out, b" ", trial.told, b"")
+    put_name(out, candidate.rhythm)?;
+    put_part(out, b" ", candidate.told, b"")
 }
 
 // Adds how many evictions each rhythm tells.
-fn put_trials(out: &mut Vec<u8>, trials: &[Trial]) -> Result<(), AllocError>
-    ensures { OnOk result (out.new.items ≡ behind out.old.items (trials_parts trials.now)) }
+fn put_candidates(out: &mut Vec<u8>, candidates: &[Candidate]) -> Result<(), AllocError>
+    ensures { OnOk result (out.new.items ≡ behind out.old.items (candidates_parts candidates.now)) }
 {
-    for trial in trials {
-        put_trial(out, trial)?;
+    for candidate in candidates {
+        put_candidate(out, candidate)?;
     }
     Ok(())
 }
@@ -180,9 +180,9 @@ fn put_trials(out: &mut Vec<u8>, trials: &[Trial]) -> Result<(), AllocError>
 fn put_reason(
     out: &mut Vec<u8>,
     lines: u64,
-    best: &Trial,
-    first: Trial,
-    others: &[Trial],
+    best: &Candidate,
+    first: Candidate,
+    others: &[Candidate],
 ) -> Result<(), AllocError>
     ensures { OnOk result (out.new.items ≡ behind out.old.items (best_parts (nat_eq best.now.logged 0) lines best.now (first ∷ others.now))) }
 {
@@ -201,8 +201,8 @@ fn put_reason(
         b" evictions of the first ",
     )?;
     put_part(out, b"", lines, b" lines")?;
-    put_trial(out, &first)?;
-    put_trials(out, others)?;
+    put_candidate(out, &first)?;
+    put_candidates(out, others)?;
     out.extend_from_slice(b"\n")
 }
 
@@ -210,9 +210,9 @@ fn put_reason(
 fn put_best(
     out: &mut Vec<u8>,
     lines: u64,
-    best: &Trial,
-    first: Trial,
-    others: &[Trial],
+    best: &Candidate,
+    first: Candidate,
+    others: &[Candidate],
 ) -> Result<(), AllocError>
     ensures { OnOk result (out.new.items ≡ behind out.old.items (steps_parts lines best.now (first ∷ others.now))) }
 {
@@ -225,8 +225,8 @@ fn put_best(
 fn best_rhythm(alloc: Global, first: &FirstLines<'_>, notes: &mut Vec<u8>) -> Result<Rhythm, Stop>
     ensures { IfOk result (Chooses notes.old.items notes.new.items) }
 {
-    let lean = trial_of(alloc, first, Rhythm::Lean)?;
-    let more = other_trials(alloc, first)?;
+    let lean = candidate_of(alloc, first, Rhythm::Lean)?;
+    let more = other_candidates(alloc, first)?;
     let best = best_of(lean, more.as_slice());
     let lines = lines_in(first.fronts);
     put_best(notes, lines, &best, lean, more.as_slice())?;

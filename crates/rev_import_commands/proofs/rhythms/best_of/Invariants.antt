@@ -3,5 +3,5 @@ use Rattle.rev_import_commands.proofs.Rhythms.{best_from}
 use Rattle.rev_import_commands.proofs.rhythms.best_of.Given as goal
 
 -- the best one so far, and of those that are left, is the best one of all
-abbrev pub invariant-loop-trial : goal.invariant-loop-trial
-invariant-loop-trial l = best_from l.best (drop l.trial-index l.others) ≡ best_from l.first l.others
+abbrev pub invariant-loop-candidate : goal.invariant-loop-candidate
+invariant-loop-candidate l = best_from l.best (drop l.candidate-index l.others) ≡ best_from l.first l.others
