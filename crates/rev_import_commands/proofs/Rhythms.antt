@@ -32,6 +32,26 @@ no_more_one : (n : ℕ) (xs : List Candidate) (t : Candidate) → TellNoMore n x
 no_more_one n [] t p h = (h, tt)
 no_more_one n (x ∷ xs) t p h = (p.0, no_more_one n xs t p.1 h)
 
+-- the next one tells more, or no more
+with_more : (front : List Candidate) (b : Candidate) (mid : List Candidate) (t : Candidate) (candidates : List Candidate) → TellLess b.told front → TellNoMore b.told mid
+    → nat_lt b.told t.told ≡ true → b.told < t.told
+    → (TellLess t.told (front ++ b ∷ mid) → TellNoMore t.told [] → IsBest ((front ++ b ∷ mid) ++ t ∷ candidates) (best_from t candidates))
+    → IsBest (front ++ b ∷ (mid ++ t ∷ candidates)) (best_from b (t ∷ candidates))
+with_more front b mid t candidates p q e h k =
+    let less : TellLess t.told (front ++ b ∷ mid) = less_both t.told front (b ∷ mid) (less_of_more b.told t.told front p (omega (arith, h))) (h, less_than b.told t.told mid q h) in
+    let there : (front ++ b ∷ mid) ++ t ∷ candidates ≡ front ++ b ∷ (mid ++ t ∷ candidates) = append_assoc front (b ∷ mid) (t ∷ candidates) in
+    let taken : best_from t candidates ≡ best_from b (t ∷ candidates) = sym (ap (λ x. best_from (if x then t else b) candidates) e) in
+    subst (λ l. IsBest l (best_from b (t ∷ candidates))) there (subst (λ c. IsBest ((front ++ b ∷ mid) ++ t ∷ candidates) c) taken (k less tt))
+
+with_no_more : (front : List Candidate) (b : Candidate) (mid : List Candidate) (t : Candidate) (candidates : List Candidate) → TellLess b.told front → TellNoMore b.told mid
+    → nat_lt b.told t.told ≡ false → t.told ≤ b.told
+    → (TellLess b.told front → TellNoMore b.told (mid ++ t ∷ []) → IsBest (front ++ b ∷ ((mid ++ t ∷ []) ++ candidates)) (best_from b candidates))
+    → IsBest (front ++ b ∷ (mid ++ t ∷ candidates)) (best_from b (t ∷ candidates))
+with_no_more front b mid t candidates p q e h k =
+    let there : front ++ b ∷ ((mid ++ t ∷ []) ++ candidates) ≡ front ++ b ∷ (mid ++ t ∷ candidates) = ap (λ l. front ++ b ∷ l) (append_assoc mid (t ∷ []) candidates) in
+    let taken : best_from b candidates ≡ best_from b (t ∷ candidates) = sym (ap (λ x. best_from (if x then t else b) candidates) e) in
+    subst (λ l. IsBest l (best_from b (t ∷ candidates))) there (subst (λ c. IsBest (front ++ b ∷ ((mid ++ t ∷ []) ++ candidates)) c) taken (k p (no_more_one b.told mid t q h)))
+
 -- behind those that tell less and those that tell no more
 best_behind : (front : List Candidate) (b : Candidate) (mid candidates : List Candidate) → TellLess b.told front → TellNoMore b.told mid → IsBest (front ++ b ∷ (mid ++ candidates)) (best_from b candidates)
 best_behind front b mid [] p q = record {
@@ -42,13 +62,8 @@ best_behind front b mid [] p q = record {
   no_more = q;
 }
 best_behind front b mid (t ∷ candidates) p q = elim (leb_tells (suc b.told) t.told) [
-  | inl h ↦
-      let less = less_both t.told front (b ∷ mid) (less_of_more b.told t.told front p (omega (arith, h.1))) (omega (arith, h.1), less_than b.told t.told mid q (omega (arith, h.1))) in
-      let there : front ++ b ∷ (mid ++ t ∷ candidates) ≡ (front ++ b ∷ mid) ++ t ∷ candidates = sym (append_assoc front (b ∷ mid) (t ∷ candidates)) in
-      rw (h.0, there) (best_behind (front ++ b ∷ mid) t [] candidates less tt)
-  | inr h ↦
-      let there : front ++ b ∷ (mid ++ t ∷ candidates) ≡ front ++ b ∷ ((mid ++ t ∷ []) ++ candidates) = ap (λ l. front ++ b ∷ l) (sym (append_assoc mid (t ∷ []) candidates)) in
-      rw (h.0, there) (best_behind front b (mid ++ t ∷ []) candidates p (no_more_one b.told mid t q (omega (arith, h.1))))
+  | inl h ↦ with_more front b mid t candidates p q h.0 (omega (arith, h.1)) (best_behind (front ++ b ∷ mid) t [] candidates)
+  | inr h ↦ with_no_more front b mid t candidates p q h.0 (omega (arith, h.1)) (best_behind front b (mid ++ t ∷ []) candidates)
 ]
 
 pub best_is : (first : Candidate) (others : List Candidate) → IsBest (first ∷ others) (best_from first others)

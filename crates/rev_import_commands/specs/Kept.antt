@@ -1,6 +1,6 @@
 -- Logs of which the front is read before they are taken in.
 -- Rule of this project: who takes them in is given all their bytes.
-use Rattle.std.specs.Prelude.{◌≡◌, ⊤, ⊥, ℕ, zero, suc, ◌+◌, nat_eq, if◌then◌else◌, List, [], ◌∷◌, Option}
+use Rattle.std.specs.Prelude.{⊤, ℕ, zero, suc, ◌+◌, nat_eq, if◌then◌else◌, List, [], ◌∷◌, Option}
 use Rattle.std.specs.Io.KnownBytes.{Keeps}
 
 -- each log still gives the bytes that it gave before, where they are known
