@@ -1,4 +1,4 @@
+mod Choosing
 mod Feeds
-mod Kept
+mod Fronts
 mod Reports
-mod Rhythms

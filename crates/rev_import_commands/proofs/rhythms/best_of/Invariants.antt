@@ -1,5 +1,5 @@
 use Rattle.std.proofs.Common.{◌≡◌, drop}
-use Rattle.rev_import_commands.proofs.Rhythms.{best_from}
+use Rattle.rev_import_commands.proofs.Choosing.{best_from}
 use Rattle.rev_import_commands.proofs.rhythms.best_of.Given as goal
 
 -- the best one so far, and of those that are left, is the best one of all
