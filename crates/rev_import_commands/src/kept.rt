@@ -65,14 +65,28 @@ impl<F: Read> Read for KeptLog<F> {
     }
 }
 
-/// How much more is read of the fronts of logs: lines, and bytes.
+/// How much more is read of the fronts of logs.
 #[derive(Clone, Copy)]
 struct Quota {
     lines: u64,
     bytes: usize,
+    // how many logs were begun
+    begun: usize,
+    // the place of the log of which a read failed, if one did
+    failed: Option<usize>,
 }
 
 impl Quota {
+    // Nothing was read.
+    fn new(lines: u64, bytes: usize) -> Quota {
+        Quota {
+            lines,
+            bytes,
+            begun: 0,
+            failed: None,
+        }
+    }
+
     // These bytes were read.
     fn take(&mut self, bytes: &[u8]) {
         let lines = bytes.iter().filter(|byte| **byte == b'\n').count() as u64;
@@ -80,13 +94,17 @@ impl Quota {
         self.bytes = self.bytes.saturating_sub(bytes.len());
     }
 
+    // A read of the log failed that was begun last.
+    fn fail(&mut self) {
+        self.failed = Some(self.begun.saturating_sub(1));
+    }
+
     fn is_met(&self) -> bool {
-        self.lines == 0 || self.bytes == 0
+        self.lines == 0 || self.bytes == 0 || self.failed.is_some()
     }
 }
 
-// Reads a piece of a log behind its front. The answer is whether there may be more. A read that fails ends the front:
-// who reads the log again meets the failure.
+// Reads a piece of a log behind its front. The answer is whether there may be more.
 fn read_piece<F: Read>(
     log: &mut F,
     front: &mut Vec<u8>,
@@ -96,7 +114,13 @@ fn read_piece<F: Read>(
     ensures { OnOk result (Keeps (prepend_known front.old.items (F.remaining log.old)) (prepend_known front.new.items (F.remaining log.new))) }
 {
     match log.read(piece) {
-        Err(error) => Ok(error.kind() == ErrorKind::Interrupted),
+        Err(error) => {
+            if error.kind() == ErrorKind::Interrupted {
+                return Ok(true);
+            }
+            quota.fail();
+            Ok(false)
+        }
         Ok(n) => {
             let bytes = &piece[..n];
             quota.take(bytes);
@@ -158,6 +182,7 @@ fn kept_log<F: Read + Drop>(
     let mut log = log;
     let mut front = Vec::new(alloc);
     let most = quota.lines;
+    quota.begun = quota.begun.saturating_add(1);
     read_front(&mut log, &mut front, piece, quota)?;
     let tried = bytes_of_lines(front.as_slice(), most);
     Ok(KeptLog::behind(front, tried, log))
@@ -179,21 +204,27 @@ fn kept_by<F: Read + Drop>(
     Ok(kept)
 }
 
+/// Logs, of which the first lines were read.
+#[derive(Drop)]
+pub(crate) struct Begun<F: Read> {
+    pub(crate) logs: Vec<KeptLog<F>>,
+    /// The place of the log of which a read failed, if one did. Behind it nothing was read.
+    pub(crate) failed: Option<usize>,
+}
+
 /// Logs, of which the first lines are read.
 ///
 /// Err: memory was refused.
-pub(crate) fn begun<F: Read + Drop>(
-    alloc: Global,
-    logs: Vec<F>,
-) -> Result<Vec<KeptLog<F>>, AllocError>
-    ensures { IfOk result (λ kept. AllKeep F.remaining logs.items kept.items) }
+pub(crate) fn begun<F: Read + Drop>(alloc: Global, logs: Vec<F>) -> Result<Begun<F>, AllocError>
+    ensures { IfOk result (λ begun. AllKeep F.remaining logs.items begun.logs.items) }
 {
     let mut piece = vec![in alloc; 0; PIECE]?;
-    let mut quota = Quota {
-        lines: MOST_LINES,
-        bytes: MOST_BYTES,
-    };
-    kept_by(alloc, logs, piece.as_mut_slice(), &mut quota)
+    let mut quota = Quota::new(MOST_LINES, MOST_BYTES);
+    let logs = kept_by(alloc, logs, piece.as_mut_slice(), &mut quota)?;
+    Ok(Begun {
+        logs,
+        failed: quota.failed,
+    })
 }
 
 /// Logs, of which nothing is read.
@@ -205,6 +236,6 @@ pub(crate) fn unread<F: Read + Drop>(
 ) -> Result<Vec<KeptLog<F>>, AllocError>
     ensures { IfOk result (λ kept. AllKeep F.remaining logs.items kept.items) }
 {
-    let mut quota = Quota { lines: 0, bytes: 0 };
+    let mut quota = Quota::new(0, 0);
     kept_by(alloc, logs, &mut [], &mut quota)
 }

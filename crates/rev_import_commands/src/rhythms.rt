@@ -6,9 +6,11 @@ ghost use Rattle.rev_import_commands.specs.Kept.{AllKeep};
 ghost use Rattle.rev_import_commands.specs.Rhythms.{Chooses, IsBest, IsRhythm, best_parts, candidate_parts, candidates_parts, name_of, other_rhythms, rhythms_of, steps_parts};
 
 use crate::check::{Check, compare};
-use crate::kept::{KeptLog, begun, unread};
+use crate::imported::stop_in;
+use crate::kept::{Begun, KeptLog, begun, unread};
 use rev_choices::Rhythm;
 use rev_import::setup::Setup;
+use rev_intake::fault::IntakeFault;
 use rev_intake::intake::Range;
 use rev_intake::report::put_part;
 use rev_messages::Stop;
@@ -269,10 +271,13 @@ fn best_stepped<F: Read + Drop>(
     ensures steps { IfOk result (λ stepped. Chooses notes.old.items notes.new.items stepped.rhythm) }
     ensures logs { IfOk result (λ stepped. AllKeep F.remaining logs.items stepped.logs.items) }
 {
-    let logs = begun(alloc, logs)?;
+    let Begun { logs, failed } = begun(alloc, logs)?;
     match best_for(alloc, setup, range, names, logs.as_slice(), notes) {
-        Ok(rhythm) => Ok(SteppedLogs { rhythm, logs }),
         Err(stop) => Err(stop),
+        Ok(rhythm) => match failed {
+            None => Ok(SteppedLogs { rhythm, logs }),
+            Some(place) => Err(stop_in(alloc, IntakeFault::Read, names, place)),
+        },
     }
 }
 
@@ -280,7 +285,7 @@ fn best_stepped<F: Read + Drop>(
 /// first lines, 100000 or as many as 32 MiB hold, of a server that was set up so, from an empty cache on. It goes
 /// behind `notes`.
 ///
-/// Err: memory was refused, or one of the lines that are tried is none.
+/// Err: memory was refused, a read failed, or one of the lines that are tried is none.
 pub fn stepped<F: Read + Drop>(
     alloc: Global,
     setup: &Setup,
