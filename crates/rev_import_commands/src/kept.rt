@@ -206,7 +206,7 @@ fn kept_by<F: Read + Drop>(
 
 /// Logs, of which the first lines were read.
 #[derive(Drop)]
-pub(crate) struct Begun<F: Read> {
+pub(crate) struct ReadLogs<F: Read> {
     pub(crate) logs: Vec<KeptLog<F>>,
     /// The place of the log of which a read failed, if one did. Behind it nothing was read.
     pub(crate) failed: Option<usize>,
@@ -215,13 +215,13 @@ pub(crate) struct Begun<F: Read> {
 /// Logs, of which the first lines are read.
 ///
 /// Err: memory was refused.
-pub(crate) fn begun<F: Read + Drop>(alloc: Global, logs: Vec<F>) -> Result<Begun<F>, AllocError>
+pub(crate) fn begun<F: Read + Drop>(alloc: Global, logs: Vec<F>) -> Result<ReadLogs<F>, AllocError>
     ensures { IfOk result (λ begun. AllKeep F.remaining logs.items begun.logs.items) }
 {
     let mut piece = vec![in alloc; 0; PIECE]?;
     let mut quota = Quota::new(MOST_LINES, MOST_BYTES);
     let logs = kept_by(alloc, logs, piece.as_mut_slice(), &mut quota)?;
-    Ok(Begun {
+    Ok(ReadLogs {
         logs,
         failed: quota.failed,
     })

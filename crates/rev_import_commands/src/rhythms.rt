@@ -7,7 +7,7 @@ ghost use Rattle.rev_import_commands.specs.Rhythms.{Chooses, IsBest, IsRhythm, b
 
 use crate::check::{Check, compare};
 use crate::imported::stop_in;
-use crate::kept::{Begun, KeptLog, begun, unread};
+use crate::kept::{KeptLog, ReadLogs, begun, unread};
 use rev_choices::Rhythm;
 use rev_import::setup::Setup;
 use rev_intake::fault::IntakeFault;
@@ -271,7 +271,7 @@ fn best_stepped<F: Read + Drop>(
     ensures steps { IfOk result (λ stepped. Chooses notes.old.items notes.new.items stepped.rhythm) }
     ensures logs { IfOk result (λ stepped. AllKeep F.remaining logs.items stepped.logs.items) }
 {
-    let Begun { logs, failed } = begun(alloc, logs)?;
+    let ReadLogs { logs, failed } = begun(alloc, logs)?;
     match best_for(alloc, setup, range, names, logs.as_slice(), notes) {
         Err(stop) => Err(stop),
         Ok(rhythm) => match failed {
