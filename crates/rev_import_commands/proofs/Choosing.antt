@@ -1,5 +1,5 @@
 -- The best of the rhythms that were tried, and what is told of it.
-use Rattle.std.proofs.Common.{◌≡◌, ◌∙◌, ◌<◌, ◌≤◌, ℕ, suc, Bool, true, false, inl, inr, List, [], ◌∷◌, ◌++◌, refl, sym, ap, append_assoc, append-nil, nat_lt, if◌then◌else◌, arith}
+use Rattle.std.proofs.Common.{◌≡◌, ◌∙◌, ◌<◌, ◌≤◌, ℕ, suc, Bool, true, false, inl, inr, List, [], ◌∷◌, ◌++◌, refl, sym, ap, append_assoc, append-nil, nat_lt, if◌then◌else◌, arith, subst}
 use Rattle.std.proofs.lemmas.Bool.Decides.{leb_tells}
 use Rattle.rev_intake.specs.Report.{behind}
 use Rattle.rev_import_commands.specs.Rhythms.{IsBest, TellLess, TellNoMore, candidates_parts}
@@ -7,14 +7,10 @@ use Rattle.rev_import_commands.specs.declared.rhythms.Candidate.{Candidate}
 
 -- ---- the best one
 
--- the one that tells more, or the first of both
-pub better : Candidate → Candidate → Candidate
-better b t = if nat_lt b.told t.told then t else b
-
--- and of one and those behind it
-pub best_from : Candidate → List Candidate → Candidate
+-- the first that tells most, of one and of those behind it
+abbrev pub best_from : Candidate → List Candidate → Candidate
 best_from b [] = b
-best_from b (t ∷ candidates) = best_from (better b t) candidates
+best_from b (t ∷ candidates) = best_from (if nat_lt b.told t.told then t else b) candidates
 
 less_of_more : (n m : ℕ) (candidates : List Candidate) → TellLess n candidates → n ≤ m → TellLess m candidates
 less_of_more n m [] p h = tt

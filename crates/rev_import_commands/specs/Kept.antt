@@ -11,7 +11,7 @@ AllKeep before (log ∷ logs) [] = ⊥
 AllKeep before (log ∷ logs) (kept ∷ all) = Keeps (before log) kept × AllKeep before logs all
 
 -- how many bytes the first lines have, so many with their LF; where there are fewer, all bytes
-pub bytes_of_lines : ℕ → List ℕ → ℕ
+abbrev pub bytes_of_lines : ℕ → List ℕ → ℕ
 bytes_of_lines zero bytes = 0
 bytes_of_lines (suc n) [] = 0
 bytes_of_lines (suc n) (b ∷ bytes) = 1 + bytes_of_lines (if nat_eq b 10 then n else suc n) bytes

@@ -136,6 +136,7 @@ fn other_candidates(alloc: Global, first: &FirstLines<'_>) -> Result<Vec<Candida
 }
 
 // The first of the candidates that tell most.
+#[tactic(auto, using(crate::proofs::Choosing::best_is))]
 fn best_of(first: Candidate, others: &[Candidate]) -> Candidate
     ensures { IsBest (first ∷ others.now) result }
 {
@@ -179,6 +180,7 @@ fn put_candidates(out: &mut Vec<u8>, candidates: &[Candidate]) -> Result<(), All
 }
 
 // Adds why a rhythm is taken: what it tells of so many lines, and how many evictions each tells that was tried.
+#[tactic(auto, using(crate::proofs::Choosing::behind_both))]
 fn put_reason(
     out: &mut Vec<u8>,
     lines: u64,
