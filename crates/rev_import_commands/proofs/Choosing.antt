@@ -1,8 +1,8 @@
 -- The best of the rhythms that were tried, and what is told of it.
-use Rattle.std.proofs.Common.{◌≡◌, ◌∙◌, ◌<◌, ◌≤◌, ℕ, suc, Bool, true, false, inl, inr, List, [], ◌∷◌, ◌++◌, refl, sym, ap, append_assoc, append-nil, nat_lt, if◌then◌else◌, arith, subst}
+use Rattle.std.proofs.Common.{◌≡◌, ◌∙◌, ◌<◌, ◌≤◌, ℕ, suc, Bool, true, false, inl, inr, List, [], ◌∷◌, ◌++◌, refl, sym, ap, append_assoc, append-nil, nat_lt, if◌then◌else◌, arith, subst, codes}
 use Rattle.std.proofs.lemmas.Bool.Decides.{leb_tells}
-use Rattle.rev_intake.specs.Report.{behind}
-use Rattle.rev_import_commands.specs.Rhythms.{IsBest, TellLess, TellNoMore, candidates_parts}
+use Rattle.rev_intake.specs.Report.{behind, part}
+use Rattle.rev_import_commands.specs.Rhythms.{IsBest, TellLess, TellNoMore, best_parts, candidate_parts, candidates_parts}
 use Rattle.rev_import_commands.specs.declared.rhythms.Candidate.{Candidate}
 
 -- ---- the best one
@@ -67,6 +67,26 @@ best_is first others = best_behind [] first [] others tt tt
 
 -- ---- what is told
 
-pub behind_both : (old : List ℕ) (xs ys : List (List ℕ)) → behind old (xs ++ ys) ≡ behind (behind old xs) ys
+behind_both : (old : List ℕ) (xs ys : List (List ℕ)) → behind old (xs ++ ys) ≡ behind (behind old xs) ys
 behind_both old [] ys = refl
 behind_both old (x ∷ xs) ys = behind_both (old ++ x) xs ys
+
+-- where some evictions are logged
+pub most_told : (b : Bool) (lines : ℕ) (best first : Candidate) (others : List Candidate) (old one two three four new : List ℕ)
+    → b ≡ false
+    → one ≡ old ++ part (codes ", which tells most of the ") best.logged (codes " evictions of the first ")
+    → two ≡ one ++ part [] lines (codes " lines")
+    → three ≡ behind two (candidate_parts first)
+    → four ≡ behind three (candidates_parts others)
+    → new ≡ four ++ codes "\n"
+    → new ≡ behind old (best_parts b lines best (first ∷ others))
+most_told b lines best first others old one two three four new some e1 e2 e3 e4 e5 =
+    let p1 : List ℕ = part (codes ", which tells most of the ") best.logged (codes " evictions of the first ") in
+    let p2 : List ℕ = part [] lines (codes " lines") in
+    let x : List ℕ = (old ++ p1) ++ p2 in
+    let all : four ≡ behind (behind x (candidate_parts first)) (candidates_parts others) =
+    e4 ∙ ap (λ l. behind l (candidates_parts others)) (e3 ∙ ap (λ l. behind l (candidate_parts first)) (e2 ∙ ap (λ l. l ++ p2) e1)) in
+    let each : four ≡ behind x (candidate_parts first ++ candidates_parts others) = all ∙ sym (behind_both x (candidate_parts first) (candidates_parts others)) in
+    let told : new ≡ behind x ((candidate_parts first ++ candidates_parts others) ++ codes "\n" ∷ []) =
+    e5 ∙ ap (λ l. l ++ codes "\n") each ∙ sym (behind_both x (candidate_parts first ++ candidates_parts others) (codes "\n" ∷ [])) in
+    subst (λ t. new ≡ behind old (best_parts t lines best (first ∷ others))) (sym some) told

@@ -189,7 +189,7 @@ fn kept_log<F: Read + Drop>(
 }
 
 // Logs, whose fronts are read as far as the quota goes.
-#[tactic(auto, using(crate::proofs::Fronts::all_kept, crate::proofs::Fronts::one_kept))]
+#[tactic(auto, using(crate::proofs::Fronts::one_kept))]
 fn kept_by<F: Read + Drop>(
     alloc: Global,
     logs: Vec<F>,

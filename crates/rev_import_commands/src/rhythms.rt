@@ -123,7 +123,7 @@ fn candidate_of(alloc: Global, first: &FirstLines<'_>, rhythm: Rhythm) -> Result
 
 // Tries the rhythms behind `lean`.
 fn other_candidates(alloc: Global, first: &FirstLines<'_>) -> Result<Vec<Candidate>, Stop>
-    ensures { IfOk result (λ candidates. rhythms_of candidates.items ≡ others) }
+    ensures { IfOk result (λ candidates. rhythms_of candidates.items ≡ other_rhythms) }
 {
     let mut candidates = Vec::new(alloc);
     for rhythm in &OTHERS {
@@ -136,7 +136,6 @@ fn other_candidates(alloc: Global, first: &FirstLines<'_>) -> Result<Vec<Candida
 }
 
 // The first of the candidates that tell most.
-#[tactic(auto, using(crate::proofs::Choosing::best_is))]
 fn best_of(first: Candidate, others: &[Candidate]) -> Candidate
     ensures { IsBest (first ∷ others.now) result }
 {
@@ -180,7 +179,6 @@ fn put_candidates(out: &mut Vec<u8>, candidates: &[Candidate]) -> Result<(), All
 }
 
 // Adds why a rhythm is taken: what it tells of so many lines, and how many evictions each tells that was tried.
-#[tactic(auto, using(crate::proofs::Choosing::behind_both))]
 fn put_reason(
     out: &mut Vec<u8>,
     lines: u64,
@@ -207,7 +205,10 @@ fn put_reason(
     put_part(out, b"", lines, b" lines")?;
     put_candidate(out, &first)?;
     put_candidates(out, others)?;
-    out.extend_from_slice(b"\n")
+    match out.extend_from_slice(b"\n") {
+        Ok(()) => Ok(()),
+        Err(refused) => Err(refused),
+    }
 }
 
 // Adds which rhythm is taken, and why.
