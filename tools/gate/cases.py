@@ -59,8 +59,9 @@ STANDARD = "-"
 # The sizes of the pieces in which a log comes, and the longest log that is read in pieces.
 SIZES = (1, 2, 3, 5, 64, 4096)
 LONG = 65536
-# How lines begin that stand before the options, where an import tells these: of what was made of its settings.
-FIRST_TOLD = (b"settings: ", b"sample: pages of ")
+# How lines begin that stand before the options, where an import tells these: of what was made of its settings, and which
+# rhythm was found to be the best.
+FIRST_TOLD = (b"settings: ", b"sample: pages of ", b"steps: ")
 # What stands in the place of the bytes of a file where a folder is, or a link.
 FOLDER, LINK = "a folder", "a link to "
 # How names of files begin that say what is left, and what ends the name of a page.

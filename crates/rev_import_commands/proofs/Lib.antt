@@ -1,2 +1,4 @@
+mod Choosing
 mod Feeds
+mod Fronts
 mod Reports

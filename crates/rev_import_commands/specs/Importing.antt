@@ -94,7 +94,7 @@ pub record TellsLed (asked : WatchImport) (notes : List ℕ) : Type 0 where
 -- the log leads, unless the rules are said to
 abbrev pub is_led : Leader → Bool
 is_led (Log anyway) = true
-is_led (Rules rhythm) = false
+is_led (Rules steps) = false
 
 -- the log leads: the rules are not said to, and neither a sample nor a comparison is asked for, which are of their script
 abbrev pub leads : WatchImport → Bool

@@ -1,3 +1,5 @@
 pub mod Feeding
 pub mod Importing
+pub mod Kept
+pub mod Rhythms
 pub mod Sampled

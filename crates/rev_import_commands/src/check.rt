@@ -2,19 +2,22 @@
 ghost use Rattle.std.specs.Prelude.{◌≡◌, ◌++◌, ℕ, List, OnOk};
 
 use crate::files::Making;
+use crate::import::same_setup;
 use crate::imported::stop_in;
 use indexmap::IndexMap;
+use rev_choices::Rhythm;
 use rev_classes::{Config, fault_of};
 use rev_explain::departures;
 use rev_explain::events::Departure;
+use rev_import::setup::Setup;
 use rev_intake::fault::IntakeFault;
 use rev_intake::feed::LogFeed;
-use rev_intake::intake::{Intake, PIECE};
+use rev_intake::intake::{Intake, PIECE, Range};
 use rev_intake::report::put_part;
 use rev_items::Key;
 use rev_messages::Stop;
 use rev_model::{Cause, Outcome};
-use rev_output::{Sink, write_all};
+use rev_output::{Sink, ToWrite, write_all};
 use rev_plays::begin::open_session;
 use rev_plays::quiet::{LineSteps, line_steps, play_quietly};
 use rev_requests::Step;
@@ -28,6 +31,7 @@ use rev_undotree::Session;
 use rev_watch::event::{Event, LogLine, LookUpOutcome, StoreOutcome};
 use std::alloc::{AllocError, Global};
 use std::hash::{BuildHasherDefault, FoldHasher};
+use std::io;
 use std::io::Read;
 use std::mem::ManuallyDrop;
 
@@ -339,6 +343,17 @@ impl Check {
         self.comparison.tally
     }
 
+    // The same, where nothing more is compared: all memory goes back.
+    pub(crate) fn close(self) -> Tally {
+        let Check {
+            session,
+            comparison,
+            ..
+        } = self;
+        drop(ManuallyDrop::into_inner(session));
+        comparison.tally
+    }
+
     // Notes what the step that was played last evicted.
     fn note_evictions(&mut self) -> Result<(), AllocError> {
         let departures = departures(&*self.session, None)?;
@@ -593,5 +608,44 @@ impl<'a, F: Read + Drop> Making for CheckedLogs<'a, F> {
         let mut logs = LogFeed::new(alloc, intake, logs);
         let sent = send_checked(alloc, &mut logs, check, sink);
         made_or_stopped(alloc, sent, names, logs.place())
+    }
+}
+
+// Plays what logs of these names become beside them, and compares. The script itself is wanted nowhere.
+fn compare_by<F: Read + Drop>(
+    intake: &mut Intake<Global>,
+    names: &[String],
+    logs: Vec<F>,
+    check: &mut Check,
+) -> Result<(), Stop> {
+    let logs = CheckedLogs {
+        intake,
+        names,
+        logs,
+        check,
+    };
+    logs.make(&mut ToWrite::new(io::sink()))
+}
+
+/// Plays what logs of these names become in a rhythm, of a server that was set up so, beside them, and compares.
+///
+/// Err: memory was refused, a log can't be read, a line that begins like one of the log is none, or no event is in the
+/// range.
+pub fn compare<F: Read + Drop>(
+    alloc: Global,
+    setup: &Setup,
+    rhythm: Rhythm,
+    range: Range,
+    names: &[String],
+    logs: Vec<F>,
+    check: &mut Check,
+) -> Result<(), Stop> {
+    match Intake::open(alloc, same_setup(setup)?, rhythm, range, None) {
+        Err(_) => Err(Stop::Memory),
+        Ok(mut intake) => {
+            let compared = compare_by(&mut intake, names, logs, check);
+            drop(intake);
+            compared
+        }
     }
 }

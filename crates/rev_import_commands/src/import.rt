@@ -11,10 +11,11 @@ use crate::check::{Check, CheckedLogs};
 use crate::ending::end_import;
 use crate::files::{Making, copied, send, send_with_start};
 use crate::led::import_led;
+use crate::rhythms::{SteppedLogs, stepped};
 use crate::sampled::sampled_setup;
 use either::Either;
 use rev_choices::{Factor, Rhythm};
-use rev_classes::Config;
+use rev_classes::{ClassTable, Config};
 use rev_import::figures::Figures;
 use rev_import::setup::{Setup, follow};
 use rev_intake::counts::LineCounts;
@@ -26,7 +27,7 @@ use rev_intake::told::{put_run_behind, put_sample, put_split};
 use rev_intake::words::put_options;
 use rev_messages::Stop;
 use rev_messages::progress::{Progress, ToldFile};
-use rev_options::{Leader, STANDARD, WatchImport};
+use rev_options::{Leader, STANDARD, Steps, WatchImport};
 use rev_output::Sink;
 use rev_transcript::transcript::ScriptOutlet;
 use rev_watch::settings::{LogStats, Settings, StatFault, read_log_stats, read_settings};
@@ -104,6 +105,25 @@ pub fn setup_by(settings: &Settings, factor: Option<Factor>) -> Result<Setup, St
 {
     match follow(settings, factor) {
         Ok(setup) => Ok(setup),
+        Err(fault) => Err(Stop::from(fault)),
+    }
+}
+
+/// A setup once more.
+///
+/// Err: its configuration breaks a limit.
+pub fn same_setup(setup: &Setup) -> Result<Setup, Stop>
+    ensures config { IfOk result (λ again. again.config ≡ setup.now.config) }
+    ensures tuning { IfOk result (λ again. (again.tune ≡ setup.now.tune) × (again.temp_ttl ≡ setup.now.temp_ttl)) }
+{
+    match ClassTable::build(&setup.config) {
+        Ok(classes) => Ok(Setup {
+            config: setup.config,
+            classes,
+            tune: setup.tune,
+            temp_ttl: setup.temp_ttl,
+            unfollowed: setup.unfollowed,
+        }),
         Err(fault) => Err(Stop::from(fault)),
     }
 }
@@ -236,21 +256,30 @@ pub(crate) fn setup_lines(setup: &Setup) -> u64 {
 }
 
 // The steps of the maintainer of a script that the rules lead.
-fn rhythm_of(leader: Leader) -> Rhythm {
+fn steps_of(leader: Leader) -> Steps {
     match leader {
-        Leader::Rules(rhythm) => rhythm,
-        Leader::Log { .. } => Rhythm::Lean,
+        Leader::Rules(steps) => steps,
+        Leader::Log { .. } => Steps::In(Rhythm::Lean),
     }
 }
 
-// An intake of the events that are asked for.
-fn intake_of(alloc: Global, setup: Setup, asked: &WatchImport) -> Result<Intake<Global>, Stop> {
-    let range = Range {
+// The events that are asked for.
+fn range_of(asked: &WatchImport) -> Range {
+    Range {
         first: asked.first,
         last: asked.last,
         sample: asked.sample,
-    };
-    match Intake::open(alloc, setup, rhythm_of(asked.leader), range, asked.split) {
+    }
+}
+
+// An intake of the events that are asked for, in a rhythm.
+fn intake_of(
+    alloc: Global,
+    setup: Setup,
+    rhythm: Rhythm,
+    asked: &WatchImport,
+) -> Result<Intake<Global>, Stop> {
+    match Intake::open(alloc, setup, rhythm, range_of(asked), asked.split) {
         Ok(intake) => Ok(intake),
         Err(_) => Err(Stop::Memory),
     }
@@ -285,10 +314,15 @@ fn together(check: Option<Check>, intake: Result<Intake<Global>, Stop>) -> Resul
     }
 }
 
-// What is asked for, for a store with this setup.
-fn means_of(alloc: Global, setup: Setup, asked: &WatchImport) -> Result<Means, Stop> {
+// What is asked for, for a store with this setup, in a rhythm.
+fn means_of(
+    alloc: Global,
+    setup: Setup,
+    rhythm: Rhythm,
+    asked: &WatchImport,
+) -> Result<Means, Stop> {
     match check_of(alloc, asked.check, &setup.config) {
-        Ok(check) => together(check, intake_of(alloc, setup, asked)),
+        Ok(check) => together(check, intake_of(alloc, setup, rhythm, asked)),
         Err(stop) => {
             drop(setup);
             Err(stop)
@@ -329,23 +363,6 @@ fn send_logs<R: Files + AllocGlobal, F: Read + Drop, O: Write>(
             send(rt, asked.out.as_str(), words, making, writer)
         }
     }
-}
-
-// Opens the logs, and makes their script where it is asked for.
-fn import_logs<R: Files + AllocGlobal, I: Read + Drop, O: Write, C: Clock, W: Sink>(
-    rt: &R,
-    asked: &WatchImport,
-    words: &[u8],
-    means: &mut Means,
-    reader: I,
-    writer: &mut O,
-    progress: &Progress<C, W>,
-) -> Result<(), Stop> {
-    let names = asked.logs.as_slice();
-    progress.expect(rt, names);
-    let logs = all_opened(rt, rt.alloc(), names, reader, progress)?;
-    let Means { intake, check } = means;
-    send_logs(rt, asked, words, intake, check, logs, writer)
 }
 
 /// Adds the words for a run of the script, where it goes to the standard output.
@@ -486,27 +503,84 @@ fn setup_asked<R: Files + AllocGlobal>(
     Ok(setup)
 }
 
-// Makes the script that is asked for by these means, and adds what is told of it to the notes.
-fn import_by<R: Files + AllocGlobal, I: Read + Drop, O: Write, C: Clock, W: Sink>(
+// Makes the script of these logs by these means, and adds what is told of it to the notes.
+fn import_by<R: Files + AllocGlobal, F: Read + Drop, O: Write>(
     rt: &R,
     asked: &WatchImport,
     words: &[u8],
     means: &mut Means,
     setup_lines: u64,
     stats: Option<LogStats>,
-    reader: I,
+    logs: Vec<F>,
     writer: &mut O,
     notes: &mut Vec<u8>,
-    progress: &Progress<C, W>,
 ) -> Result<(), Stop>
     ensures { OnOk result (TellsLogs asked.now notes.new.items) }
 {
-    import_logs(rt, asked, words, means, reader, writer, progress)?;
     let Means { intake, check } = means;
+    send_logs(rt, asked, words, intake, check, logs, writer)?;
     match add_report(notes, asked, words, intake, check, setup_lines, stats) {
         Ok(()) => Ok(()),
         Err(_) => Err(Stop::Memory),
     }
+}
+
+// Makes the script of these logs, of a store with this setup, in a rhythm, and adds what is told of it to the notes.
+fn import_in<R: Files + AllocGlobal, F: Read + Drop, O: Write>(
+    rt: &R,
+    asked: &WatchImport,
+    setup: Setup,
+    rhythm: Rhythm,
+    words: &[u8],
+    stats: Option<LogStats>,
+    logs: Vec<F>,
+    writer: &mut O,
+    notes: &mut Vec<u8>,
+) -> Result<(), Stop>
+    ensures { OnOk result (TellsLogs asked.now notes.new.items) }
+{
+    let setup_lines = setup_lines(&setup);
+    match means_of(rt.alloc(), setup, rhythm, asked) {
+        Err(stop) => Err(stop),
+        Ok(means) => {
+            // The program ends behind it, and all memory goes back at once.
+            let mut means = ManuallyDrop::new(means);
+            import_by(
+                rt,
+                asked,
+                words,
+                &mut *means,
+                setup_lines,
+                stats,
+                logs,
+                writer,
+                notes,
+            )
+        }
+    }
+}
+
+// Opens the logs that are asked for, and sees in which rhythm the rules lead them.
+fn stepped_logs<'p, R: Files + AllocGlobal, I: Read + Drop, C: Clock, W: Sink>(
+    rt: &R,
+    asked: &WatchImport,
+    setup: &Setup,
+    reader: I,
+    notes: &mut Vec<u8>,
+    progress: &'p Progress<C, W>,
+) -> Result<SteppedLogs<ToldFile<'p, Either<R::File, I>, C, W>>, Stop> {
+    let names = asked.logs.as_slice();
+    progress.expect(rt, names);
+    let logs = all_opened(rt, rt.alloc(), names, reader, progress)?;
+    stepped(
+        rt.alloc(),
+        setup,
+        steps_of(asked.leader),
+        range_of(asked),
+        names,
+        logs,
+        notes,
+    )
 }
 
 // Makes the script that is asked for, of a store with this setup, and adds what is told of it to the notes.
@@ -523,24 +597,13 @@ fn import_into<R: Files + AllocGlobal, I: Read + Drop, O: Write, C: Clock, W: Si
 ) -> Result<(), Stop>
     ensures { OnOk result (TellsLogs asked.now notes.new.items) }
 {
-    let setup_lines = setup_lines(&setup);
-    match means_of(rt.alloc(), setup, asked) {
-        Err(stop) => Err(stop),
-        Ok(means) => {
-            // The program ends behind it, and all memory goes back at once.
-            let mut means = ManuallyDrop::new(means);
-            import_by(
-                rt,
-                asked,
-                words,
-                &mut *means,
-                setup_lines,
-                stats,
-                reader,
-                writer,
-                notes,
-                progress,
-            )
+    match stepped_logs(rt, asked, &setup, reader, notes, progress) {
+        Err(stop) => {
+            drop(setup);
+            Err(stop)
+        }
+        Ok(SteppedLogs { rhythm, logs }) => {
+            import_in(rt, asked, setup, rhythm, words, stats, logs, writer, notes)
         }
     }
 }

@@ -175,7 +175,7 @@ static LEADING: [OptionSpec; 3] = [
     OptionSpec {
         name: "steps",
         unit: "WHICH",
-        help: "Implies --free: steps of the LRU maintainer: lean, none, or every:N lines of clients [without it: lean]",
+        help: "Implies --free: steps of the LRU maintainer: lean, none, every:N lines of clients, or auto: those of some rhythms that tell most evictions of the first 100000 lines [without it: lean]",
         ..TEXT
     },
     OptionSpec {
@@ -372,7 +372,7 @@ static PLAYED: [OptionSpec; 6] = [
     OptionSpec {
         name: "steps",
         unit: "WHICH",
-        help: "With --csv, or with --watch, where it implies --free: steps of the LRU maintainer: lean, none, or every:N lines of clients [without it: lean]",
+        help: "With --csv, or with --watch, where it implies --free: steps of the LRU maintainer: lean, none, every:N lines of clients, or with --watch auto: those of some rhythms that tell most evictions of the first 100000 lines [without it: lean]",
         excludes: Some(&["traces"]),
         ..TEXT
     },

@@ -4,7 +4,7 @@ ghost use Rattle.rev_options.specs.Request.{IsInRange, IsLife, IsOfWords, OpensB
 
 use crate::asking::life_of;
 use crate::csv::{csv_import, sample_of};
-use crate::leader::{Leader, leader_of};
+use crate::leader::{Leader, Steps, leader_of};
 use crate::state::state_import;
 use crate::{Request, fault, files_of};
 use clap::error::ErrorKind;
@@ -122,14 +122,41 @@ fn rhythm(text: &str) -> Option<Rhythm> {
     }
 }
 
-pub fn rhythm_of(alloc: Global, matches: &ArgMatches<'_>) -> Result<Rhythm, Error> {
-    match rhythm(matches.get_str("steps").unwrap_or("lean")) {
+// The word for the rhythm that tells most evictions.
+const BEST: &str = "auto";
+
+// The rhythm of this word, or the parser's error: what is wanted.
+fn rhythm_by(alloc: Global, word: &str, wanted: &str) -> Result<Rhythm, Error> {
+    match rhythm(word) {
         Some(rhythm) => Ok(rhythm),
-        None => Err(fault(
+        None => Err(fault(alloc, ErrorKind::ValueValidation, wanted)),
+    }
+}
+
+/// The rhythm that the words ask for where published traces are played, or the parser's error.
+pub fn rhythm_of(alloc: Global, matches: &ArgMatches<'_>) -> Result<Rhythm, Error> {
+    let word = matches.get_str("steps").unwrap_or("lean");
+    if word == BEST {
+        return Err(fault(
             alloc,
-            ErrorKind::ValueValidation,
-            "--steps: lean, none, or every:N with a number from 1 on is wanted",
-        )),
+            ErrorKind::ArgumentConflict,
+            "--steps: auto is for logs, since a published trace tells no evictions",
+        ));
+    }
+    let wanted = "--steps: lean, none, or every:N with a number from 1 on is wanted";
+    rhythm_by(alloc, word, wanted)
+}
+
+/// The steps that the words ask for where the rules lead logs, or the parser's error.
+pub(crate) fn steps_of(alloc: Global, matches: &ArgMatches<'_>) -> Result<Steps, Error> {
+    let word = matches.get_str("steps").unwrap_or("lean");
+    if word == BEST {
+        return Ok(Steps::Best);
+    }
+    let wanted = "--steps: lean, none, auto, or every:N with a number from 1 on is wanted";
+    match rhythm_by(alloc, word, wanted) {
+        Ok(rhythm) => Ok(Steps::In(rhythm)),
+        Err(error) => Err(error),
     }
 }
 

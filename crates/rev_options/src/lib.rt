@@ -28,7 +28,7 @@ use clap::error::ErrorKind;
 use clap::{ArgMatches, Error};
 pub use csv::CsvImport;
 pub use import::{STANDARD, WatchImport};
-pub use leader::Leader;
+pub use leader::{Leader, Steps};
 pub use number::Number;
 pub use opening::{CsvOpening, Manner, Opening, WatchOpening};
 pub use reporting::{Played, Reporting, WhatIf};

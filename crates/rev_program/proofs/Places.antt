@@ -7,11 +7,11 @@ use Rattle.rev_messages.specs.declared.stop.Stop.{Stop}
 use Rattle.rev_options.specs.Request.{sought_key}
 use Rattle.rev_options.specs.declared.leader.Leader.{Leader}
 use Rattle.rev_options.specs.declared.leader.Leader.TheVariants.{Rules, Log}
+use Rattle.rev_options.specs.declared.leader.Steps.{Steps}
 use Rattle.rev_options.specs.declared.standing.Standing.{Standing}
 use Rattle.rev_replay.specs.Turns.{Grows}
 use Rattle.rev_replay.specs.declared.grown.Grown.{Grown}
 use Rattle.rev_replay.specs.declared.seeking.Spot.{Spot}
-use Rattle.rev_choices.specs.declared.Rhythm.{Rhythm}
 use Rattle.rev_program.specs.Placed.{IsGrown, IsPlaced, IsPlacedAt, Opens, OpensAt, TellsNever, stood_behind}
 use Rattle.rev_program.specs.Scripted.{IsPlacedBy, IsScripted}
 use Rattle.rev_program.proofs.Grows.{never_in}
@@ -47,11 +47,11 @@ never_at config (Some spot) sought text h = absurd h
 
 -- no session is opened only where a key is to be gone that never left
 pub tells_never : (leader : Leader) (standing : Option Standing) (text : List ℕ) → IsPlacedBy leader standing text NeverLeft → TellsNever (sought_key standing) text
-tells_never (Rules rhythm) standing text h = never_in standing text h
+tells_never (Rules steps) standing text h = never_in standing text h
 tells_never (Log anyway) None text h = absurd h.1
 tells_never (Log anyway) (Some standing) text h = never_at h.0 h.1.spot _ text h.1.settled
 
 -- where the rules lead
-pub placed_by_rules : (leader : Leader) (rhythm : Rhythm) (standing : Option Standing) (text : List ℕ) (r : Result Placed Stop) → leader ≡ Rules rhythm → IfOk r (IsScripted standing text) →
+pub placed_by_rules : (leader : Leader) (steps : Steps) (standing : Option Standing) (text : List ℕ) (r : Result Placed Stop) → leader ≡ Rules steps → IfOk r (IsScripted standing text) →
     IfOk r (IsPlacedBy leader standing text)
-placed_by_rules leader rhythm standing text r is h = rw is h
+placed_by_rules leader steps standing text r is h = rw is h

@@ -143,5 +143,5 @@ IsScripted (Some standing) text placed = IsFoundBy standing.until text placed
 
 -- a session on logs, by what leads their replay
 abbrev pub IsPlacedBy : Leader → Option Standing → (text : List ℕ) → Placed → Type 0
-IsPlacedBy (Rules rhythm) standing text placed = IsScripted standing text placed
+IsPlacedBy (Rules steps) standing text placed = IsScripted standing text placed
 IsPlacedBy (Log anyway) standing text placed = (config : Config) × IsPlaced config standing text placed

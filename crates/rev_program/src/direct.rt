@@ -14,7 +14,7 @@ use crate::opening::{Full, answer, told_files};
 use crate::placed::{LedLogs, Opened, Placed, add_place, placed_on, unled};
 use crate::scripted::{Material, Scripts, Settled, settled_on};
 use crate::starts::started;
-use rev_choices::{Rhythm, Sample};
+use rev_choices::Sample;
 use rev_classes::{Config, fault_of};
 use rev_import::setup::Setup;
 use rev_import_commands::import::{name_in, setup_of};
@@ -27,7 +27,7 @@ use rev_messages::ends::ended;
 use rev_messages::opened::{OpenedAt, put_opened, put_opened_object};
 use rev_messages::progress::Progress;
 use rev_messages::telling::tell_bytes;
-use rev_options::{CsvOpening, Leader, Manner, Standing, Until, WatchOpening};
+use rev_options::{CsvOpening, Leader, Manner, Standing, Steps, Until, WatchOpening};
 use rev_output::Sink;
 use rev_pushers::times::{micros, seconds_text};
 use rev_replay::coverage::Coverage;
@@ -80,13 +80,13 @@ pub(crate) fn begun<R: Files + AllocGlobal, C: Clock, W: Sink>(
 }
 
 // The logs that are asked for, led by the rules, of a server that was set up so.
-fn ruled<'a>(setup: &'a Setup, rhythm: Rhythm, asked: &'a WatchOpening) -> Scripts<'a> {
+fn ruled<'a>(setup: &'a Setup, steps: Steps, asked: &'a WatchOpening) -> Scripts<'a> {
     Scripts {
         config: &setup.config,
         dialect: asked.manner.dialect,
         starts: asked.starts.as_slice(),
         names: asked.logs.as_slice(),
-        material: Material::Logs { setup, rhythm },
+        material: Material::Logs { setup, steps },
     }
 }
 
@@ -263,9 +263,9 @@ fn placed_as<R: Files + AllocGlobal, C: Clock, W: Sink>(
     ensures { IfOk result (λ placed. IsPlacedBy asked.leader asked.standing notes.new.items placed) }
 {
     match asked.leader {
-        Leader::Rules(rhythm) => {
+        Leader::Rules(steps) => {
             let setup = told_setup(rt, &asked, notes)?;
-            let scripts = ruled(&setup, rhythm, &asked);
+            let scripts = ruled(&setup, steps, &asked);
             placed_in(rt, &scripts, &asked.standing, notes, progress)
         }
         Leader::Log { anyway } => {

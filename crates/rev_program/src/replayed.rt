@@ -8,9 +8,10 @@ use crate::placed::{LedLogs, Opened, from_begin};
 use rev_choices::Rhythm;
 use rev_classes::Config;
 use rev_import::setup::Setup;
-use rev_import_commands::import::{all_opened, setup_of};
+use rev_import_commands::import::{all_opened, same_setup, setup_of};
 use rev_import_commands::imported::{NamedLogs, NamedTraces};
 use rev_import_commands::leading::whole_setup;
+use rev_import_commands::rhythms::{SteppedLogs, stepped};
 use rev_import_commands::sampled::sampled;
 use rev_import_commands::traces::intake_of;
 use rev_intake::feed::{LogFeed, RowFeed};
@@ -20,12 +21,13 @@ use rev_intake::row_report::put_row_report;
 use rev_intake::rows::RowIntake;
 use rev_messages::Stop;
 use rev_messages::progress::Progress;
-use rev_options::{CsvOpening, Leader, WatchOpening, WhatIf};
+use rev_options::{CsvOpening, Leader, Steps, WatchOpening, WhatIf};
 use rev_output::Sink;
 use rev_replay::coverage::Coverage;
 use rev_script::dialect::Dialect;
 use std::alloc::Global;
 use std::io;
+use std::io::Read;
 use std::rt::{Clock, Files};
 use std::thread::Threads;
 
@@ -145,48 +147,68 @@ pub(crate) fn traced_rows<R: Files + Threads + Sync + AllocGlobal, C: Clock, W: 
 
 // ---- logs
 
-// Plays what the logs of these names become by the rules, and adds what is told of it.
-fn play_ruled<R: Files + Threads + Sync + AllocGlobal, C: Clock, W: Sink>(
+// Plays what these logs become by the rules, and adds what is told of it.
+fn play_ruled<R: Threads + Sync + AllocGlobal, F: Read + Drop>(
     rt: &R,
     names: &[String],
     trace: &mut Traced,
     intake: &mut Intake<Global>,
+    logs: Vec<F>,
     notes: &mut Vec<u8>,
-    progress: &Progress<C, W>,
 ) -> Result<(), Stop> {
     let alloc = rt.alloc();
-    let files = all_opened(rt, alloc, names, io::empty(), progress)?;
-    let logs = LogFeed::new(alloc, intake, files);
+    let logs = LogFeed::new(alloc, intake, logs);
     play_feed(rt, trace, NamedLogs { alloc, names, logs })?;
     put_report(notes, &intake.counts(), &intake.figures(), None)?;
     Ok(())
 }
 
-// Plays what logs become by the rules, in parts, behind their starts, where this takes them in.
-fn traced_ruled_by<R: Files + Threads + Sync + AllocGlobal, C: Clock, W: Sink>(
+// Plays what logs become by the rules, in a rhythm, in parts, behind their starts, of a server that was set up so. What
+// takes them in is dropped in one place: what drops it is long.
+fn play_in<R: Threads + Sync + AllocGlobal, F: Read + Drop>(
     rt: &R,
-    logs: &Imported<'_>,
-    intake: &mut Intake<Global>,
-    others: &[WhatIf],
+    names: &[String],
+    trace: &mut Traced,
+    setup: Setup,
+    rhythm: Rhythm,
+    logs: Vec<F>,
     notes: &mut Vec<u8>,
-    progress: &Progress<C, W>,
-) -> Result<Traced, Stop> {
-    match begun_trace(rt, logs, others, progress) {
-        Err(stop) => Err(stop),
-        Ok(mut trace) => {
-            let played = play_ruled(rt, logs.names, &mut trace, intake, notes, progress);
-            trace.ended(played)
+) -> Result<(), Stop> {
+    match Intake::open(rt.alloc(), setup, rhythm, ALL, None) {
+        Err(_) => Err(Stop::Memory),
+        Ok(mut intake) => {
+            let played = play_ruled(rt, names, trace, &mut intake, logs, notes);
+            drop(intake);
+            played
         }
     }
 }
 
-// The same of the logs that are asked for, of a server that was set up so. What takes them in is dropped in one place:
-// what drops it is long.
+// The same of the logs of these names, where the rhythm is seen by their first lines or is asked for.
+fn play_logs<R: Files + Threads + Sync + AllocGlobal, C: Clock, W: Sink>(
+    rt: &R,
+    names: &[String],
+    trace: &mut Traced,
+    setup: &Setup,
+    steps: Steps,
+    notes: &mut Vec<u8>,
+    progress: &Progress<C, W>,
+) -> Result<(), Stop> {
+    let alloc = rt.alloc();
+    let files = all_opened(rt, alloc, names, io::empty(), progress)?;
+    let SteppedLogs { rhythm, logs } = stepped(alloc, setup, steps, ALL, names, files, notes)?;
+    match same_setup(setup) {
+        Ok(setup) => play_in(rt, names, trace, setup, rhythm, logs, notes),
+        Err(stop) => Err(stop),
+    }
+}
+
+// Plays what the logs become that are asked for, in parts, behind their starts, of a server that was set up so.
 fn traced_ruled_of<R: Files + Threads + Sync + AllocGlobal, C: Clock, W: Sink>(
     rt: &R,
     asked: &WatchOpening,
-    setup: Setup,
-    rhythm: Rhythm,
+    setup: &Setup,
+    steps: Steps,
     others: &[WhatIf],
     notes: &mut Vec<u8>,
     progress: &Progress<C, W>,
@@ -197,12 +219,11 @@ fn traced_ruled_of<R: Files + Threads + Sync + AllocGlobal, C: Clock, W: Sink>(
         starts: asked.starts.as_slice(),
         names: asked.logs.as_slice(),
     };
-    match Intake::open(rt.alloc(), setup, rhythm, ALL, None) {
-        Err(_) => Err(Stop::Memory),
-        Ok(mut intake) => {
-            let traced = traced_ruled_by(rt, &logs, &mut intake, others, notes, progress);
-            drop(intake);
-            traced
+    match begun_trace(rt, &logs, others, progress) {
+        Err(stop) => Err(stop),
+        Ok(mut trace) => {
+            let played = play_logs(rt, logs.names, &mut trace, setup, steps, notes, progress);
+            trace.ended(played)
         }
     }
 }
@@ -211,7 +232,7 @@ fn traced_ruled_of<R: Files + Threads + Sync + AllocGlobal, C: Clock, W: Sink>(
 fn traced_ruled<R: Files + Threads + Sync + AllocGlobal, C: Clock, W: Sink>(
     rt: &R,
     asked: &WatchOpening,
-    rhythm: Rhythm,
+    steps: Steps,
     others: &[WhatIf],
     notes: &mut Vec<u8>,
     progress: &Progress<C, W>,
@@ -220,7 +241,7 @@ fn traced_ruled<R: Files + Threads + Sync + AllocGlobal, C: Clock, W: Sink>(
         Err(stop) => Err(stop),
         Ok(setup) => match put_unfollowed(notes, &setup.unfollowed) {
             Err(_) => Err(Stop::Memory),
-            Ok(()) => traced_ruled_of(rt, asked, setup, rhythm, others, notes, progress),
+            Ok(()) => traced_ruled_of(rt, asked, &setup, steps, others, notes, progress),
         },
     }
 }
@@ -301,7 +322,7 @@ pub(crate) fn traced_logs_of<R: Files + Threads + Sync + AllocGlobal, C: Clock, 
     progress: &Progress<C, W>,
 ) -> Result<Traced, Stop> {
     match asked.leader {
-        Leader::Rules(rhythm) => traced_ruled(rt, asked, rhythm, others, notes, progress),
+        Leader::Rules(steps) => traced_ruled(rt, asked, steps, others, notes, progress),
         Leader::Log { anyway } => traced_led(rt, asked, anyway, others, notes, uncovered, progress),
     }
 }

@@ -148,7 +148,7 @@ fn agreement_with<R: Files + AllocGlobal, C: Clock, W: Sink>(
 ) -> Result<Option<Agreement>, Stop> {
     match asked {
         Played::Logs(asked) => match asked.leader {
-            Leader::Rules(rhythm) => Ok(Some(agreement_of(rt, asked, rhythm, progress)?)),
+            Leader::Rules(steps) => Ok(Some(agreement_of(rt, asked, steps, progress)?)),
             Leader::Log { .. } => Ok(None),
         },
         Played::Traces(_) | Played::Rows(_) => Ok(None),

@@ -18,12 +18,13 @@ use crate::placed::{Opened, Placed, read_once, sought_of, unled};
 use crate::starts::started;
 use crate::stopping::stop_of_trace;
 use rev_choices::{Rhythm, Sample};
-use rev_classes::{ClassTable, Config, fault_of};
+use rev_classes::{Config, fault_of};
 use rev_explain::clock_at;
 use rev_import::setup::Setup;
 use rev_import_commands::files::copied;
-use rev_import_commands::import::{all_opened, name_in};
+use rev_import_commands::import::{all_opened, name_in, same_setup};
 use rev_import_commands::imported::{Feed, ImportedScript, NamedLogs, NamedTraces};
+use rev_import_commands::rhythms::{SteppedLogs, stepped};
 use rev_import_commands::state::bad_file;
 use rev_import_commands::traces::intake_of;
 use rev_intake::feed::{LogFeed, RowFeed};
@@ -34,7 +35,7 @@ use rev_intake::rows::RowIntake;
 use rev_messages::Stop;
 use rev_messages::opened::OpenedAt;
 use rev_messages::progress::Progress;
-use rev_options::{KEPT, Standing, Until};
+use rev_options::{KEPT, Standing, Steps, Until};
 use rev_output::Sink;
 use rev_plays::quiet::TraceFault;
 use rev_plays::trace::TraceEnd;
@@ -59,7 +60,7 @@ pub(crate) enum Material<'a> {
     /// Published traces.
     Rows { rhythm: Rhythm, sample: Sample },
     /// Logs of a server that was set up so.
-    Logs { setup: &'a Setup, rhythm: Rhythm },
+    Logs { setup: &'a Setup, steps: Steps },
 }
 
 /// Scripts, and the files whose steps are played before them.
@@ -357,26 +358,53 @@ fn grown_rows<R: Files + AllocGlobal, C: Clock, W: Sink>(
     }
 }
 
-// A setup once more.
-fn same_setup(setup: &Setup) -> Result<Setup, Stop> {
-    match ClassTable::build(&setup.config) {
-        Ok(classes) => Ok(Setup {
-            config: setup.config,
-            classes,
-            tune: setup.tune,
-            temp_ttl: setup.temp_ttl,
-            unfollowed: setup.unfollowed,
-        }),
-        Err(fault) => Err(Stop::from(fault)),
+// Plays what these logs become, where this takes them in, and adds what is told of them.
+fn grow_by<F: Read + Drop>(
+    alloc: Global,
+    names: &[String],
+    growing: &mut Growing<'_, Global>,
+    intake: &mut Intake<Global>,
+    logs: Vec<F>,
+    notes: &mut Vec<u8>,
+) -> Result<Option<Full>, Stop>
+    ensures { OnOk result (HasGone growing.old growing.new) }
+{
+    let logs = LogFeed::new(alloc, intake, logs);
+    let full = grow_script(alloc, growing, NamedLogs { alloc, names, logs })?;
+    put_report(notes, &intake.counts(), &intake.figures(), None)?;
+    Ok(full)
+}
+
+// The same of a server that was set up so, in a rhythm. What takes the logs in is dropped in one place: what drops it is
+// long.
+fn grow_in<F: Read + Drop>(
+    alloc: Global,
+    names: &[String],
+    growing: &mut Growing<'_, Global>,
+    setup: Setup,
+    rhythm: Rhythm,
+    logs: Vec<F>,
+    notes: &mut Vec<u8>,
+) -> Result<Option<Full>, Stop>
+    ensures { OnOk result (HasGone growing.old growing.new) }
+{
+    match Intake::open(alloc, setup, rhythm, ALL, None) {
+        Err(_) => Err(Stop::Memory),
+        Ok(mut intake) => {
+            let full = grow_by(alloc, names, growing, &mut intake, logs, notes);
+            drop(intake);
+            full
+        }
     }
 }
 
-// Plays what logs become, and adds what is told of them.
+// Plays what logs of a server that was set up so become, and adds what is told of them.
 fn grow_logs<R: Files + AllocGlobal, C: Clock, W: Sink>(
     rt: &R,
     names: &[String],
     growing: &mut Growing<'_, Global>,
-    intake: &mut Intake<Global>,
+    setup: &Setup,
+    steps: Steps,
     notes: &mut Vec<u8>,
     progress: &Progress<C, W>,
 ) -> Result<Option<Full>, Stop>
@@ -384,17 +412,19 @@ fn grow_logs<R: Files + AllocGlobal, C: Clock, W: Sink>(
 {
     let alloc = rt.alloc();
     let files = all_opened(rt, alloc, names, io::empty(), progress)?;
-    let logs = LogFeed::new(alloc, intake, files);
-    let full = grow_script(alloc, growing, NamedLogs { alloc, names, logs })?;
-    put_report(notes, &intake.counts(), &intake.figures(), None)?;
-    Ok(full)
+    let SteppedLogs { rhythm, logs } = stepped(alloc, setup, steps, ALL, names, files, notes)?;
+    match same_setup(setup) {
+        Ok(setup) => grow_in(alloc, names, growing, setup, rhythm, logs, notes),
+        Err(stop) => Err(stop),
+    }
 }
 
-// What the logs of a server become behind the starts, led by the rules, where this takes them in.
-fn grown_logs_by<R: Files + AllocGlobal, C: Clock, W: Sink>(
+// What the logs of a server become behind the starts, led by the rules.
+fn grown_logs<R: Files + AllocGlobal, C: Clock, W: Sink>(
     rt: &R,
     scripts: &Scripts<'_>,
-    intake: &mut Intake<Global>,
+    setup: &Setup,
+    steps: Steps,
     keeping: Keeping,
     sought: &Sought<Global>,
     notes: &mut Vec<u8>,
@@ -404,32 +434,16 @@ fn grown_logs_by<R: Files + AllocGlobal, C: Clock, W: Sink>(
     ensures spot { IfOk result (λ taken. IsPlaceOf (plain_sought sought.now) taken.grown.spot) }
 {
     let mut growing = growing_on(rt, scripts, keeping, sought, progress)?;
-    let played = grow_logs(rt, scripts.names, &mut growing, intake, notes, progress);
+    let played = grow_logs(
+        rt,
+        scripts.names,
+        &mut growing,
+        setup,
+        steps,
+        notes,
+        progress,
+    );
     grown_or(growing, played)
-}
-
-// The same, of a server that was set up so. What takes the logs in is dropped in one place: what drops it is long.
-fn grown_logs<R: Files + AllocGlobal, C: Clock, W: Sink>(
-    rt: &R,
-    scripts: &Scripts<'_>,
-    setup: &Setup,
-    rhythm: Rhythm,
-    keeping: Keeping,
-    sought: &Sought<Global>,
-    notes: &mut Vec<u8>,
-    progress: &Progress<C, W>,
-) -> Result<Taken<Global>, Stop>
-    ensures grown { IfOk result (λ taken. IsGrownBy keeping taken.grown) }
-    ensures spot { IfOk result (λ taken. IsPlaceOf (plain_sought sought.now) taken.grown.spot) }
-{
-    match Intake::open(rt.alloc(), same_setup(setup)?, rhythm, ALL, None) {
-        Err(_) => Err(Stop::Memory),
-        Ok(mut intake) => {
-            let grown = grown_logs_by(rt, scripts, &mut intake, keeping, sought, notes, progress);
-            drop(intake);
-            grown
-        }
-    }
 }
 
 // Reads the scripts, behind the starts, keeps so much of the steps, and looks for a place. What is told of what they
@@ -452,8 +466,8 @@ fn grown_by<R: Files + AllocGlobal, C: Clock, W: Sink>(
         Material::Rows { rhythm, sample } => grown_rows(
             rt, scripts, rhythm, sample, keeping, sought, notes, progress,
         ),
-        Material::Logs { setup, rhythm } => grown_logs(
-            rt, scripts, setup, rhythm, keeping, sought, notes, progress,
+        Material::Logs { setup, steps } => grown_logs(
+            rt, scripts, setup, steps, keeping, sought, notes, progress,
         ),
     }
 }
