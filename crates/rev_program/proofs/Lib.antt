@@ -3,3 +3,4 @@ mod Grows
 mod Places
 mod Tallies
 mod Running
+mod Asks

@@ -1,4 +1,5 @@
-use Rattle.std.proofs.Common.{◌≡◌, inl, rules, map, true, false, Err, sym, ◌∙◌}
+use Rattle.std.proofs.Common.{◌≡◌, inl, rules, map, true, false, Err, sym, subst, ◌∙◌}
+use Rattle.rev_program.proofs.Asks.{IsRecording, records_only}
 use Rattle.rev_options.specs.Request.{asks_open, brings, seeks_key, sought_key}
 use Rattle.rev_program.proofs.Ends.{asked_stopped, not_gone, not_sought, placed_of, sought_csv, sought_none, sought_open, sought_watch, stopped_of, plainly, plain_of, unnoted, noted_of, noted_plainly, behind_of, early_of}
 use Rattle.rev_program.proofs.Tallies.{run_stopped, some_status}
@@ -146,3 +147,54 @@ returns-in-Ok-OpenCsv-clause-status g c =
 pub returns-in-Ok-OpenCsv-clause-behind : goal.returns-in-Ok-OpenCsv-clause-behind
 returns-in-Ok-OpenCsv-clause-behind g c =
     λ i r l b s. absurd (let h = rw c.in-Ok-OpenCsv.field-0-is at c.in-Ok-OpenCsv.ensures.brings in let e : true ≡ false = sym h.0 ∙ b in cc)
+
+pub returns-in-Err-clause-records : goal.returns-in-Err-clause-records
+returns-in-Err-clause-records g c = λ asks. record {
+  done = λ zero. absurd (some_status c.from.result (sym c.ended.ensures.status ∙ zero));
+  stopped = λ some. inl (c.from.result, record { status_is = c.ended.ensures.status; text_is = c.ended.ensures.told }, keep _);
+}
+
+pub returns-in-Ok-Record-clause-records : goal.returns-in-Ok-Record-clause-records
+returns-in-Ok-Record-clause-records g c = λ asks. record {
+  done = λ zero. let r = c.record_files.ensures.recorded zero in (c.in-Ok-Record.config, c.in-Ok-Record.dialect, c.in-Ok-Record.starts.items, c.in-Ok-Record.files.items, r.0, r.1);
+  stopped = λ some. c.record_files.ensures.early some;
+}
+
+pub returns-in-Ok-Run-clause-records : goal.returns-in-Ok-Run-clause-records
+returns-in-Ok-Run-clause-records g c = λ asks. absurd (subst IsRecording c.in-Ok-Run.field-0-is (records_only (map g.S.AsStr.text c.args.words.now) _ c.in-Ok-Run.ensures.words c.in-Ok-Run.ensures.opens c.in-Ok-Run.ensures.runs c.in-Ok-Run.ensures.reports c.in-Ok-Run.ensures.lives asks))
+
+pub returns-in-Ok-ImportWatch-clause-records : goal.returns-in-Ok-ImportWatch-clause-records
+returns-in-Ok-ImportWatch-clause-records g c = λ asks. absurd (subst IsRecording c.in-Ok-ImportWatch.field-0-is (records_only (map g.S.AsStr.text c.args.words.now) _ c.in-Ok-ImportWatch.ensures.words c.in-Ok-ImportWatch.ensures.opens c.in-Ok-ImportWatch.ensures.runs c.in-Ok-ImportWatch.ensures.reports c.in-Ok-ImportWatch.ensures.lives asks))
+
+pub returns-in-Ok-ImportCsv-clause-records : goal.returns-in-Ok-ImportCsv-clause-records
+returns-in-Ok-ImportCsv-clause-records g c = λ asks. absurd (subst IsRecording c.in-Ok-ImportCsv.field-0-is (records_only (map g.S.AsStr.text c.args.words.now) _ c.in-Ok-ImportCsv.ensures.words c.in-Ok-ImportCsv.ensures.opens c.in-Ok-ImportCsv.ensures.runs c.in-Ok-ImportCsv.ensures.reports c.in-Ok-ImportCsv.ensures.lives asks))
+
+pub returns-in-Ok-ImportState-clause-records : goal.returns-in-Ok-ImportState-clause-records
+returns-in-Ok-ImportState-clause-records g c = λ asks. absurd (subst IsRecording c.in-Ok-ImportState.field-0-is (records_only (map g.S.AsStr.text c.args.words.now) _ c.in-Ok-ImportState.ensures.words c.in-Ok-ImportState.ensures.opens c.in-Ok-ImportState.ensures.runs c.in-Ok-ImportState.ensures.reports c.in-Ok-ImportState.ensures.lives asks))
+
+pub returns-in-Ok-Open-clause-records : goal.returns-in-Ok-Open-clause-records
+returns-in-Ok-Open-clause-records g c = λ asks. absurd (subst IsRecording c.in-Ok-Open.field-0-is (records_only (map g.S.AsStr.text c.args.words.now) _ c.in-Ok-Open.ensures.words c.in-Ok-Open.ensures.opens c.in-Ok-Open.ensures.runs c.in-Ok-Open.ensures.reports c.in-Ok-Open.ensures.lives asks))
+
+pub returns-in-Ok-OpenWatch-clause-records : goal.returns-in-Ok-OpenWatch-clause-records
+returns-in-Ok-OpenWatch-clause-records g c = λ asks. absurd (subst IsRecording c.in-Ok-OpenWatch.field-0-is (records_only (map g.S.AsStr.text c.args.words.now) _ c.in-Ok-OpenWatch.ensures.words c.in-Ok-OpenWatch.ensures.opens c.in-Ok-OpenWatch.ensures.runs c.in-Ok-OpenWatch.ensures.reports c.in-Ok-OpenWatch.ensures.lives asks))
+
+pub returns-in-Ok-OpenCsv-clause-records : goal.returns-in-Ok-OpenCsv-clause-records
+returns-in-Ok-OpenCsv-clause-records g c = λ asks. absurd (subst IsRecording c.in-Ok-OpenCsv.field-0-is (records_only (map g.S.AsStr.text c.args.words.now) _ c.in-Ok-OpenCsv.ensures.words c.in-Ok-OpenCsv.ensures.opens c.in-Ok-OpenCsv.ensures.runs c.in-Ok-OpenCsv.ensures.reports c.in-Ok-OpenCsv.ensures.lives asks))
+
+pub returns-in-Ok-Report-clause-records : goal.returns-in-Ok-Report-clause-records
+returns-in-Ok-Report-clause-records g c = λ asks. absurd (subst IsRecording c.in-Ok-Report.field-0-is (records_only (map g.S.AsStr.text c.args.words.now) _ c.in-Ok-Report.ensures.words c.in-Ok-Report.ensures.opens c.in-Ok-Report.ensures.runs c.in-Ok-Report.ensures.reports c.in-Ok-Report.ensures.lives asks))
+
+pub returns-in-Ok-Why-clause-records : goal.returns-in-Ok-Why-clause-records
+returns-in-Ok-Why-clause-records g c = λ asks. absurd (subst IsRecording c.in-Ok-Why.field-0-is (records_only (map g.S.AsStr.text c.args.words.now) _ c.in-Ok-Why.ensures.words c.in-Ok-Why.ensures.opens c.in-Ok-Why.ensures.runs c.in-Ok-Why.ensures.reports c.in-Ok-Why.ensures.lives asks))
+
+pub returns-in-Ok-Gone-clause-records : goal.returns-in-Ok-Gone-clause-records
+returns-in-Ok-Gone-clause-records g c = λ asks. absurd (subst IsRecording c.in-Ok-Gone.field-0-is (records_only (map g.S.AsStr.text c.args.words.now) _ c.in-Ok-Gone.ensures.words c.in-Ok-Gone.ensures.opens c.in-Ok-Gone.ensures.runs c.in-Ok-Gone.ensures.reports c.in-Ok-Gone.ensures.lives asks))
+
+pub returns-in-Ok-WhyTraces-clause-records : goal.returns-in-Ok-WhyTraces-clause-records
+returns-in-Ok-WhyTraces-clause-records g c = λ asks. absurd (subst IsRecording c.in-Ok-WhyTraces.field-0-is (records_only (map g.S.AsStr.text c.args.words.now) _ c.in-Ok-WhyTraces.ensures.words c.in-Ok-WhyTraces.ensures.opens c.in-Ok-WhyTraces.ensures.runs c.in-Ok-WhyTraces.ensures.reports c.in-Ok-WhyTraces.ensures.lives asks))
+
+pub returns-in-Ok-GoneTraces-clause-records : goal.returns-in-Ok-GoneTraces-clause-records
+returns-in-Ok-GoneTraces-clause-records g c = λ asks. absurd (subst IsRecording c.in-Ok-GoneTraces.field-0-is (records_only (map g.S.AsStr.text c.args.words.now) _ c.in-Ok-GoneTraces.ensures.words c.in-Ok-GoneTraces.ensures.opens c.in-Ok-GoneTraces.ensures.runs c.in-Ok-GoneTraces.ensures.reports c.in-Ok-GoneTraces.ensures.lives asks))
+
+pub returns-in-Ok-Top-clause-records : goal.returns-in-Ok-Top-clause-records
+returns-in-Ok-Top-clause-records g c = λ asks. absurd (subst IsRecording c.in-Ok-Top.field-0-is (records_only (map g.S.AsStr.text c.args.words.now) _ c.in-Ok-Top.ensures.words c.in-Ok-Top.ensures.opens c.in-Ok-Top.ensures.runs c.in-Ok-Top.ensures.reports c.in-Ok-Top.ensures.lives asks))
