@@ -14,6 +14,13 @@ abbrev pub IsRecording : Request → Type 0
 IsRecording (Record config dialect starts files) = Unit {0}
 IsRecording other = ⊥
 
+-- an opening, and nothing else
+abbrev pub IsOpeningOf : Request → Type 0
+IsOpeningOf (Open asked) = Unit {0}
+IsOpeningOf (OpenWatch asked) = Unit {0}
+IsOpeningOf (OpenCsv asked) = Unit {0}
+IsOpeningOf other = ⊥
+
 -- the words ask for none of these
 pub record AskNone (words : List (List ℕ)) : Type 0 where
   pub run : asks_run words ≡ false
@@ -25,11 +32,15 @@ none_by_record : (words : List (List ℕ)) → asks_record words ≡ true → As
 none_by_record [] h = absurd (clash h)
 none_by_record (word ∷ words) h = rw ((bytes_eq-Decides word (codes "record")).0 h) (record { run = refl; «import» = refl; report = refl; lives = refl })
 
+none_by_open : (words : List (List ℕ)) → asks_open words ≡ true → AskNone words
+none_by_open [] h = absurd (clash h)
+none_by_open (word ∷ words) h = rw ((bytes_eq-Decides word (codes "open")).0 h) (record { run = refl; «import» = refl; report = refl; lives = refl })
+
 no_opening : (words : List (List ℕ)) → asks_record words ≡ true → asks_open words ≡ false
 no_opening [] h = refl
 no_opening (word ∷ words) h = rw ((bytes_eq-Decides word (codes "record")).0 h) refl
 
--- a recording or an opening
+-- what is asked for by words is one of the two that are left
 abbrev IsLeft : Request → Type 0
 IsLeft (Record config dialect starts files) = Unit {0}
 IsLeft (Open asked) = Unit {0}
@@ -60,7 +71,18 @@ recording_of words (OpenWatch asked) other opens left = absurd (clash (sym other
 recording_of words (OpenCsv asked) other opens left = absurd (clash (sym other ∙ opens))
 recording_of words r other opens left = absurd left
 
+opening_of : (words : List (List ℕ)) (r : Request) → asks_open words ≡ true → OpensBy (asks_open words) r → IsLeft r → IsOpeningOf r
+opening_of words (Record config dialect starts files) asks opens left = absurd (clash (sym opens ∙ asks))
+opening_of words (Open asked) asks opens left = tt
+opening_of words (OpenWatch asked) asks opens left = tt
+opening_of words (OpenCsv asked) asks opens left = tt
+opening_of words r asks opens left = absurd left
+
 module _ (words : List (List ℕ)) (r : Request) (imports : IsOfWords (asks_import words) r) (opens : OpensBy (asks_open words) r) (runs : RunsBy (asks_run words) r) (reports : ReportsBy (asks_report words) r) (lives : LivesBy (asks_lives words) (asks_why words) r) where
   -- words that say `record` ask for a recording
   pub records_only : asks_record words ≡ true → IsRecording r
   records_only asks = recording_of words r (no_opening words asks) opens (left_by words r (none_by_record words asks) imports runs reports lives)
+
+  -- and those that say `open` for an opening
+  pub opens_only : asks_open words ≡ true → IsOpeningOf r
+  opens_only asks = opening_of words r asks opens (left_by words r (none_by_open words asks) imports runs reports lives)

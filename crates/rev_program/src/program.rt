@@ -2,6 +2,7 @@
 ghost use Rattle.std.specs.Prelude.{◌≡◌, ◌≢◌, ◌≤◌, [], length, map, true, false, None, Ok, Err, IfOk, IfErr, IfSome, OnOk};
 ghost use Rattle.std.specs.Io.KnownBytes.{Keeps};
 ghost use Rattle.rev_classes.specs.Limits.{IsWithinLimits, fault_of};
+ghost use Rattle.rev_options.specs.declared.opening.Manner.{Manner};
 ghost use Rattle.rev_options.specs.Request.{asks_import, asks_lives, asks_open, asks_report, asks_run, asks_why, brings};
 ghost use Rattle.rev_messages.specs.Progress.{asks_progress};
 ghost use Rattle.rev_messages.specs.Ends.{IsStatus, StopsBy, EndsPlainly};
@@ -12,6 +13,7 @@ ghost use Rattle.rev_script.specs.declared.dialect.Dialect.TheVariants.{CrLf};
 ghost use Rattle.rev_shell.specs.Run.{without_bookmarks};
 ghost use Rattle.rev_shell.specs.declared.run.Summary.{Summary};
 ghost use Rattle.rev_program.specs.Running.{Stops, HasRun, HasStopped, HasRunBehind, StopsBehind, Answers, AnswersLess, AnswersNamed, StopsNamed, HaveNames, EndsAnswering};
+ghost use Rattle.rev_program.specs.Greeted.{EndsOpening, IsOpened};
 ghost use Rattle.rev_program.specs.Recorded.{AreStartsNamed, EndsRecording, HasRecorded};
 ghost use Rattle.rev_program.specs.Program.{EndsAsked, EndsEarly, EndsBehind, EndsNoted, EndsSought, EndsUnwritten, EndsRun, IsCounted, asks_record, seeks, tally_text};
 
@@ -426,6 +428,8 @@ fn program_with<
         (I.remaining reader) (O.contents writer.old) (O.contents writer.new) result }
     ensures records { asks_record (map S.text words.now) ≡ true → EndsRecording R.File.Read.remaining (E.contents errors.old) (E.contents errors.new) (E.failures errors.old) (E.failures errors.new)
         (O.contents writer.old) (O.contents writer.new) result }
+    ensures opens { asks_open (map S.text words.now) ≡ true → (manner : Manner) × EndsOpening manner IsOpened (E.contents errors.old) (E.contents errors.new) (E.failures errors.old) (E.failures errors.new)
+        (I.remaining reader) (O.contents writer.old) (O.contents writer.new) result }
     ensures placed { asks_import (map S.text words.now) ≡ false → asks_run (map S.text words.now) ≡ false → asks_lives (map S.text words.now) ≡ false → EndsSought (seeks (map S.text words.now)) (E.contents errors.old) (E.contents errors.new) (E.failures errors.old) (E.failures errors.new) result }
     ensures noted { asks_import (map S.text words.now) ≡ false → asks_run (map S.text words.now) ≡ false → asks_lives (map S.text words.now) ≡ false → seeks (map S.text words.now) ≡ false → EndsNoted (E.contents errors.old) (E.contents errors.new) (E.failures errors.old) (E.failures errors.new) result }
     ensures behind { asks_import (map S.text words.now) ≡ false → asks_run (map S.text words.now) ≡ false → asks_lives (map S.text words.now) ≡ false → brings (map S.text words.now) ≡ false → seeks (map S.text words.now) ≡ false → EndsBehind (E.contents errors.old) (E.contents errors.new) (E.failures errors.old) (E.failures errors.new) result }
@@ -501,6 +505,8 @@ pub fn program<
         (I.remaining reader) (O.contents writer.old) (O.contents writer.new) result }
     ensures records { asks_record (map S.text words.now) ≡ true → EndsRecording R.File.Read.remaining (E.contents errors.old) (E.contents errors.new) (E.failures errors.old) (E.failures errors.new)
         (O.contents writer.old) (O.contents writer.new) result }
+    ensures opens { asks_open (map S.text words.now) ≡ true → (manner : Manner) × EndsOpening manner IsOpened (E.contents errors.old) (E.contents errors.new) (E.failures errors.old) (E.failures errors.new)
+        (I.remaining reader) (O.contents writer.old) (O.contents writer.new) result }
     ensures placed { asks_import (map S.text words.now) ≡ false → asks_run (map S.text words.now) ≡ false → asks_lives (map S.text words.now) ≡ false → EndsSought (seeks (map S.text words.now)) (E.contents errors.old) (E.contents errors.new) (E.failures errors.old) (E.failures errors.new) result }
     ensures noted { asks_import (map S.text words.now) ≡ false → asks_run (map S.text words.now) ≡ false → asks_lives (map S.text words.now) ≡ false → seeks (map S.text words.now) ≡ false → EndsNoted (E.contents errors.old) (E.contents errors.new) (E.failures errors.old) (E.failures errors.new) result }
     ensures behind { asks_import (map S.text words.now) ≡ false → asks_run (map S.text words.now) ≡ false → asks_lives (map S.text words.now) ≡ false → brings (map S.text words.now) ≡ false → seeks (map S.text words.now) ≡ false → EndsBehind (E.contents errors.old) (E.contents errors.new) (E.failures errors.old) (E.failures errors.new) result }
