@@ -94,11 +94,12 @@ abbrev pub asks_open : List (List ℕ) → Bool
 asks_open [] = false
 asks_open (word ∷ words) = bytes_eq word (codes "open")
 
--- traces are opened by that word alone
+-- traces are opened by that word alone, and it asks for no recording
 abbrev pub OpensBy : Bool → Request → Type 0
 OpensBy asks (Open asked) = asks ≡ true
 OpensBy asks (OpenWatch asked) = asks ≡ true
 OpensBy asks (OpenCsv asked) = asks ≡ true
+OpensBy asks (Record config dialect starts files) = asks ≡ false
 OpensBy asks other = Unit {0}
 
 -- the word begins with these bytes

@@ -244,9 +244,35 @@ fn recording(alloc: Global, matches: &ArgMatches<'_>) -> Result<Request, Error>
     })
 }
 
-// What the words ask for other than a run, by the parser's reading of them, or the parser's error. Whether the first
-// word says `import` or `open`, and what the words say of an opening, is told apart, since the parser's contracts do not
-// say so.
+// What the words ask for other than a run, a report or an opening, by the parser's reading of them, or the parser's error.
+// Whether the first word says `import` is told apart, since the parser's contracts do not say so.
+fn unopened_request(
+    alloc: Global,
+    matches: &ArgMatches<'_>,
+    asks_import: bool,
+) -> Result<Request, Error>
+    ensures range { IfOk result IsInRange }
+    ensures words { IfOk result (IsOfWords asks_import) }
+    ensures opens { IfOk result (OpensBy false) }
+    ensures brings { IfOk result (BringsBy false false) }
+    ensures runs { IfOk result (RunsBy false) }
+    ensures reports { IfOk result (ReportsBy false) }
+    ensures lives { IfOk result (LivesBy false false) }
+{
+    if asks_import {
+        if let Some(inner) = matches.subcommand_matches("import") {
+            return import(alloc, inner);
+        }
+    }
+    match matches.subcommand_matches("record") {
+        Some(inner) => recording(alloc, inner),
+        None => Err(fault(alloc, ErrorKind::MissingSubcommand, "run")),
+    }
+}
+
+// What the words ask for other than a run or a report, by the parser's reading of them, or the parser's error. Whether
+// the first word says `import` or `open`, and what the words say of an opening, is told apart, since the parser's
+// contracts do not say so.
 fn other_request(
     alloc: Global,
     matches: &ArgMatches<'_>,
@@ -262,20 +288,14 @@ fn other_request(
     ensures reports { IfOk result (ReportsBy false) }
     ensures lives { IfOk result (LivesBy false false) }
 {
-    if let Some(inner) = matches.subcommand_matches("record") {
-        return recording(alloc, inner);
-    }
-    if asks_import {
-        if let Some(inner) = matches.subcommand_matches("import") {
-            return import(alloc, inner);
-        }
-    }
     if asks_open {
-        if let Some(inner) = matches.subcommand_matches("open") {
-            return opening_of(alloc, inner, said);
+        match matches.subcommand_matches("open") {
+            Some(inner) => opening_of(alloc, inner, said),
+            None => Err(fault(alloc, ErrorKind::MissingSubcommand, "open")),
         }
+    } else {
+        unopened_request(alloc, matches, asks_import)
     }
-    Err(fault(alloc, ErrorKind::MissingSubcommand, "run"))
 }
 
 // The run that the words ask for by the parser's reading of them, or the parser's error.

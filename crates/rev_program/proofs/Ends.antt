@@ -53,12 +53,12 @@ pub plainly : (told tells : Option (List ℕ)) (before after n : ℕ) → (n ≡
 plainly told tells before after n quiet early = record { full = None; at = None; between = told; failures = before; noted = kept told; quiet = quiet; early = early }
 
 -- nothing is the empty text
-nothing : (a b : Option (List ℕ)) → Keeps a b → Appends a b []
+pub nothing : (a b : Option (List ℕ)) → Keeps a b → Appends a b []
 nothing None b h = tt
 nothing (Some xs) None h = absurd h
 nothing (Some xs) (Some ys) h = h ∙ sym (append-nil xs)
 
-told_text : (old new : Option (List ℕ)) (before after : ℕ) (full : Option Full) (at : Option OpenedAt) → IsNoted old new before after full at → Told old new before after (notes_text full at)
+pub told_text : (old new : Option (List ℕ)) (before after : ℕ) (full : Option Full) (at : Option OpenedAt) → IsNoted old new before after full at → Told old new before after (notes_text full at)
 told_text old new before after None None h = record { front = ([], [], nothing old new h, refl); whole = λ _. nothing old new h }
 told_text old new before after None (Some at) h = h
 told_text old new before after (Some full) at h = h

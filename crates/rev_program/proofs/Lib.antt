@@ -3,3 +3,5 @@ mod Grows
 mod Places
 mod Tallies
 mod Running
+mod Opens
+mod Asks

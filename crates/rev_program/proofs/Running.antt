@@ -1,29 +1,35 @@
 -- What a run wrote, seen through the exchange on which it ran.
-use Rattle.std.proofs.Common.{◌≡◌, ◌≢◌, inl, inr, ℕ, Bool, true, false, List, [], ◌∷◌, ◌++◌, map, Option, None, Some, String, Result, Ok, Err, IfOk, IfErr, IfSome, refl, sym, ◌∙◌, ap, subst, append-nil}
+use Rattle.std.proofs.Common.{◌≡◌, ◌≢◌, inl, inr, ℕ, Bool, true, false, List, [], ◌∷◌, ◌++◌, ◌-◌, map, Option, None, Some, String, Result, Ok, Err, IfOk, IfErr, IfSome, refl, sym, ◌∙◌, ap, subst, append-nil}
 use Rattle.std.specs.declared.alloc.Global.{Global}
-use Rattle.std.specs.Io.KnownBytes.{Keeps, Appends, append_known}
+use Rattle.std.specs.Io.KnownBytes.{Keeps, Appends, Consumes, append_known}
 use Rattle.rev_classes.specs.declared.Config.{Config}
 use Rattle.rev_classes.specs.declared.ConfigFault.{ConfigFault}
 use Rattle.rev_classes.specs.Limits.{fault_of}
+use Rattle.rev_script.specs.Source as sources
 use Rattle.rev_script.specs.Source.{Told, told_of}
 use Rattle.rev_script.specs.Exchange.{PlainExchange, exchange_at, told_in}
 use Rattle.rev_script.specs.declared.dialect.Dialect.{Dialect}
+use Rattle.rev_script.specs.declared.dialect.Dialect.TheVariants.{AnyFeed}
 use Rattle.rev_script.specs.declared.source.LastRead.TheVariants.{Gave}
+use Rattle.rev_options.specs.declared.opening.Manner.{Manner}
+use Rattle.rev_output.specs.Sink as sinks
 use Rattle.rev_output.specs.Sink.{PlainSink, sink_at}
 use Rattle.rev_output.specs.Outbox.{known_since, contents}
 use Rattle.rev_shell.specs.Answers.{BookmarkedSession}
 use Rattle.rev_evidence.specs.Notes.{no_notes}
-use Rattle.rev_shell.specs.Run.{Because, IsDone, IsStopped, without_bookmarks}
+use Rattle.rev_shell.specs.Run.{Because, IsDone, IsStopped, Wrote, without_bookmarks}
 use Rattle.rev_shell.specs.declared.run.Prompts.{Prompts}
 use Rattle.rev_shell.specs.declared.run.Prompts.TheVariants.{Hidden}
 use Rattle.rev_shell.specs.declared.run.RunFault.{RunFault}
 use Rattle.rev_shell.specs.declared.run.RunFault.TheVariants as faults
 use Rattle.rev_shell.specs.declared.run.Summary.{Summary}
+use Rattle.rev_json.specs.JsonLines.{WroteAt, WroteLines}
 use Rattle.rev_json.specs.Told.{IsTold, IsStoppedTelling}
 use Rattle.rev_messages.specs.declared.stop.Stop.{Stop}
 use Rattle.rev_messages.specs.Ends.{StopsBy}
 use Rattle.rev_program.specs.Program.{IsCounted}
-use Rattle.rev_program.specs.Running.{HasDone, HasEnded, Stops, HasRun, HasStopped, HasRunBehind, StopsBehind, Answers, AnswersLess, AnswersNamed, StopsNamed, HaveNames, EndsAnswering}
+use Rattle.rev_program.specs.Greeted.{Greets, GreetsLess, HasGreeted, HasGreetedLess, HasPut, prompts_in}
+use Rattle.rev_program.specs.Running.{HasDone, HasEnded, Stops, HasRun, HasStopped, HasRunBehind, StopsBehind, Reaches, HasAnswered, HasAnsweredSome, Answers, AnswersLess, AnswersNamed, StopsNamed, HaveNames, EndsAnswering}
 
 -- ---- what is known of the writer
 
@@ -47,161 +53,203 @@ all_sent None sent unsent e k = tt
 all_sent (Some xs) None unsent e k = absurd k
 all_sent (Some xs) (Some ys) unsent e k = sym (append-nil ys) ∙ ap (λ l. ys ++ l) (sym e) ∙ k
 
-wrote_through : (h c s : Option (List ℕ)) (t : List ℕ) → Appends (known_since h (append_known h [])) c t → Keeps c s → Appends h s t
-wrote_through None c s t p k = tt
-wrote_through (Some xs) None s t p k = absurd p
-wrote_through (Some xs) (Some ys) None t p k = absurd k
-wrote_through (Some xs) (Some ys) (Some zs) t p k = k ∙ p ∙ ap (λ l. l ++ t) (append-nil xs)
+-- a writer that holds what was sent holds what was written, but for what waits
+reaches_by : (new : PlainExchange) (s written : Option (List ℕ)) → new.outbox.sent ≡ s → contents new.outbox ≡ written → Reaches written s
+reaches_by new s written sent kept =
+    let o = new.outbox in (
+      o.unsent,
+      subst (λ z. Keeps z (append_known s o.unsent)) kept (subst (λ z. Keeps (contents o) (append_known z o.unsent)) sent (reached o.first o.sent o.unsent)),
+    )
+
+-- a text that was written behind what a writer held is behind it where the text is sent
+wrote_through : (h m c s : Option (List ℕ)) (t : List ℕ) → Keeps h m → Appends m c t → Keeps c s → Appends h s t
+wrote_through None m c s t e p k = tt
+wrote_through (Some xs) None c s t e p k = absurd e
+wrote_through (Some xs) (Some ms) None s t e p k = absurd p
+wrote_through (Some xs) (Some ms) (Some ys) None t e p k = absurd k
+wrote_through (Some xs) (Some ms) (Some ys) (Some zs) t e p k = k ∙ p ∙ ap (λ l. l ++ t) e
+
+abbrev wrote_here : (h m c : Option (List ℕ)) (t : List ℕ) → Keeps h m → Appends m c t → Appends h c t
+wrote_here h m c t e p = wrote_through h m c c t e p (keep c)
+
+-- what a writer held, and a text behind it
+put_through : (h m c : Option (List ℕ)) (t : List ℕ) → Keeps h m → Appends m c t → Keeps (append_known h t) c
+put_through None m c t e p = tt
+put_through (Some xs) None c t e p = absurd e
+put_through (Some xs) (Some ms) None t e p = absurd p
+put_through (Some xs) (Some ms) (Some ys) t e p = p ∙ ap (λ l. l ++ t) e
 
 -- ---- from the exchange to the reader and the writer
 
-module _ (d : Dialect) (p : Prompts) (r h : Option (List ℕ)) (w : ℕ) (left : Told) (start : BookmarkedSession) where
-  abbrev began : Told
-  began = told_in (exchange_at r h w)
+-- on this exchange nothing failed yet; its reader gives these bytes, and its writer held those
+pub record BeginsAs (old : PlainExchange) (r held : Option (List ℕ)) : Type 0 where
+  pub remaining : (told_in old).remaining ≡ r
+  pub failures : old.failures ≡ 0
+  pub writes : old.outbox.failures ≡ 0
+  pub holds : Keeps held (contents old.outbox)
+
+pub begins_at : (old : PlainExchange) (b r h : Option (List ℕ)) (w : ℕ) → old ≡ exchange_at b h w → b ≡ r → BeginsAs old r h
+begins_at old b r h w e f =
+    subst (λ x. BeginsAs x r h) (sym e) (record { remaining = f; failures = refl; writes = refl; holds = subst (λ z. Keeps h z) (sym (at_first h)) (keep h) })
+
+-- a text was put behind what it held
+pub begins_behind : (old mid : PlainExchange) (r h : Option (List ℕ)) (text : List ℕ) → BeginsAs old r h → HasPut text old mid → BeginsAs mid r (append_known h text)
+begins_behind old mid r h text x put = record {
+  remaining = ap (λ t. t.remaining) put.kept ∙ x.remaining;
+  failures = ap (λ t. t.failures) put.kept ∙ x.failures;
+  writes = put.failures ∙ x.writes;
+  holds = put_through h (contents old.outbox) (contents mid.outbox) text x.holds put.wrote;
+}
+
+module _ (d : Dialect) (p : Prompts) (old : PlainExchange) (r held : Option (List ℕ)) (left : Told) (start : BookmarkedSession) (x : BeginsAs old r held) where
+  took_from : (read : List ℕ) → Consumes (told_in old).remaining left.remaining read → Consumes r left.remaining read
+  took_from read took = subst (λ z. Consumes z left.remaining read) x.remaining took
+
+  -- all of it, to a writer that holds what was written, and at which nothing failed
+  done_on : (new last : PlainSink) (sum : Summary) → Keeps new.contents last.contents → last.failures ≡ 0 →
+      IsDone d p (told_in old) left (told_in old).beside.sink new start sum → IsDone d p (told_of r Gave 0) left (sink_at held 0) last start sum
+  done_on new last sum k none y = record {
+    read = y.read;
+    took = took_from y.read y.took;
+    none_left = y.none_left;
+    ended = y.ended;
+    wrote = wrote_through held (contents old.outbox) new.contents last.contents _ x.holds y.wrote k;
+    reads = y.reads ∙ x.failures;
+    writes = none;
+    lines_are = y.lines_are;
+    plays_are = y.plays_are;
+    bad_are = y.bad_are;
+    refused_are = y.refused_are;
+  }
+
+  told_on : (new last : PlainSink) (then : BookmarkedSession) (sum : Summary) → Keeps new.contents last.contents → last.failures ≡ 0 →
+      IsTold d (told_in old) left (told_in old).beside.sink new start then sum → IsTold d (told_of r Gave 0) left (sink_at held 0) last start then sum
+  told_on new last then sum k none y =
+      let e = y.ended.done in
+      record {
+        ended = record {
+          done = record {
+            read = e.read;
+            took = took_from e.read e.took;
+            none_left = e.none_left;
+            ended = e.ended;
+            wrote = tt;
+            reads = e.reads ∙ x.failures;
+            writes = none;
+            lines_are = e.lines_are;
+            plays_are = e.plays_are;
+            bad_are = e.bad_are;
+            refused_are = e.refused_are;
+          };
+          left_is = y.ended.left_is;
+        };
+        wrote = (y.wrote.0, y.wrote.1, wrote_through held (contents old.outbox) new.contents last.contents _ x.holds y.wrote.2 k);
+      }
 
   -- all that was written is sent
   pub done_through : (json : Bool) (new : PlainSink) (s : Option (List ℕ)) (sum : Summary) → Keeps new.contents s →
-      HasDone json d p began left began.beside.sink new start sum → HasDone json d p (told_of r Gave 0) left (sink_at h 0) (sink_at s 0) start sum
-  done_through false new s sum k x = record {
-    read = x.read;
-    took = x.took;
-    none_left = x.none_left;
-    ended = x.ended;
-    wrote = wrote_through h new.contents s _ x.wrote k;
-    reads = x.reads;
-    writes = refl;
-    lines_are = x.lines_are;
-    plays_are = x.plays_are;
-    bad_are = x.bad_are;
-    refused_are = x.refused_are;
-  }
-  done_through true new s sum k x =
-      let e = x.1.ended.done in (
-        x.0,
-        record {
-          ended = record {
-            done = record {
-              read = e.read;
-              took = e.took;
-              none_left = e.none_left;
-              ended = e.ended;
-              wrote = tt;
-              reads = e.reads;
-              writes = refl;
-              lines_are = e.lines_are;
-              plays_are = e.plays_are;
-              bad_are = e.bad_are;
-              refused_are = e.refused_are;
-            };
-            left_is = x.1.ended.left_is;
-          };
-          wrote = (x.1.wrote.0, x.1.wrote.1, wrote_through h new.contents s _ x.1.wrote.2 k);
-        },
-      )
+      HasDone json d p (told_in old) left (told_in old).beside.sink new start sum → HasDone json d p (told_of r Gave 0) left (sink_at held 0) (sink_at s 0) start sum
+  done_through false new s sum k y = done_on new (sink_at s 0) sum k refl y
+  done_through true new s sum k y = (y.0, told_on new (sink_at s 0) y.0 sum k refl y.1)
 
-  because_from : (e : RunFault) (read : List ℕ) (old new : PlainSink) → Because e read began left old new → Because e read (told_of r Gave 0) left old new
-  because_from (faults.Memory line) read old new x = x
-  because_from faults.Read read old new x = x
-  because_from faults.Write read old new x = x
-  because_from faults.TooLong read old new x = x
+  because_on : (e : RunFault) (read : List ℕ) (a b : PlainSink) (now : Option (List ℕ)) → a.failures ≡ 0 → Because e read (told_in old) left a b → Because e read (told_of r Gave 0) left (sink_at now 0) b
+  because_on (faults.Memory line) read a b now none y = y
+  because_on faults.Read read a b now none y = (y.0, y.1 ∙ ap (λ n. sources.one_more n) x.failures)
+  because_on faults.TooLong read a b now none y = y
+  because_on faults.Write read a b now none y = y ∙ ap (λ n. sinks.one_more n) none
 
-  done_from : (old new : PlainSink) (sum : Summary) → IsDone d p began left old new start sum → IsDone d p (told_of r Gave 0) left old new start sum
-  done_from old new sum x = record {
-    read = x.read;
-    took = x.took;
-    none_left = x.none_left;
-    ended = x.ended;
-    wrote = x.wrote;
-    reads = x.reads;
-    writes = x.writes;
-    lines_are = x.lines_are;
-    plays_are = x.plays_are;
-    bad_are = x.bad_are;
-    refused_are = x.refused_are;
+  wrote_on : (e : RunFault) (read : List ℕ) (new : Option (List ℕ)) → Wrote e d p start read (contents old.outbox) new → Wrote e d p start read held new
+  wrote_on (faults.Memory line) read new y = wrote_here held (contents old.outbox) new _ x.holds y
+  wrote_on faults.Read read new y = wrote_here held (contents old.outbox) new _ x.holds y
+  wrote_on faults.TooLong read new y = wrote_here held (contents old.outbox) new _ x.holds y
+  wrote_on faults.Write read new y = (y.0, y.1, wrote_here held (contents old.outbox) new y.0 x.holds y.2, y.3)
+
+  stopped_on : (new : PlainSink) (e : RunFault) → IsStopped d p (told_in old) left (told_in old).beside.sink new start e → IsStopped d p (told_of r Gave 0) left (sink_at held 0) new start e
+  stopped_on new e y = record {
+    read = y.read;
+    took = took_from y.read y.took;
+    because = because_on e y.read (told_in old).beside.sink new held x.writes y.because;
+    wrote = wrote_on e y.read new.contents y.wrote;
   }
 
-  stopped_from : (old new : PlainSink) (e : RunFault) → IsStopped d p began left old new start e → IsStopped d p (told_of r Gave 0) left old new start e
-  stopped_from old new e x = record { read = x.read; took = x.took; because = because_from e x.read old new x.because; wrote = x.wrote }
+  lines_on : (n : ℕ) (new : Option (List ℕ)) → WroteLines n (contents old.outbox) new → WroteLines n held new
+  lines_on n new y = (y.0, y.1, wrote_here held (contents old.outbox) new y.0 x.holds y.2)
 
-abbrev told_from : (d : Dialect) (p : Prompts) (r h : Option (List ℕ)) (w : ℕ) (left : Told) (start then : BookmarkedSession) (old new : PlainSink) (sum : Summary) →
-    IsTold d (told_in (exchange_at r h w)) left old new start then sum → IsTold d (told_of r Gave 0) left old new start then sum
-told_from d p r h w left start then old new sum x =
-    let e = x.ended.done in
-    record {
-      ended = record {
-        done = record {
-          read = e.read;
-          took = e.took;
-          none_left = e.none_left;
-          ended = e.ended;
-          wrote = tt;
-          reads = e.reads;
-          writes = e.writes;
-          lines_are = e.lines_are;
-          plays_are = e.plays_are;
-          bad_are = e.bad_are;
-          refused_are = e.refused_are;
-        };
-        left_is = x.ended.left_is;
-      };
-      wrote = x.wrote;
-    }
+  lines_at : (e : RunFault) (new : Option (List ℕ)) → WroteAt e (contents old.outbox) new → WroteAt e held new
+  lines_at (faults.Memory line) new y = lines_on (line - 1) new y
+  lines_at faults.Read new y = (y.0, lines_on y.0 new y.1)
+  lines_at faults.TooLong new y = (y.0, lines_on y.0 new y.1)
+  lines_at faults.Write new y = (y.0, y.1, y.2, y.3, wrote_here held (contents old.outbox) new (y.1 ++ y.2) x.holds y.4)
 
--- the same of a run however it ended, on another count of its reader
-ended_from : (d : Dialect) (p : Prompts) (r h : Option (List ℕ)) (w : ℕ) (left : Told) (start : BookmarkedSession) (json : Bool) (old new : PlainSink) (end : Result Summary RunFault) →
-    HasEnded json d p (told_in (exchange_at r h w)) left old new start end → HasEnded json d p (told_of r Gave 0) left old new start end
-ended_from d p r h w left start false old new (Ok sum) x = done_from d p r h w left start old new sum x
-ended_from d p r h w left start true old new (Ok sum) x = (x.0, told_from d p r h w left start x.0 old new sum x.1)
-ended_from d p r h w left start false old new (Err e) x = stopped_from d p r h w left start old new e x
-ended_from d p r h w left start true old new (Err e) x = record {
-  stopped = stopped_from d Hidden r h w left start (sink_at None old.failures) (sink_at None new.failures) e x.stopped;
-  wrote = x.wrote;
-}
+  telling_on : (new : PlainSink) (e : RunFault) → IsStoppedTelling d (told_in old) left (told_in old).beside.sink new start e → IsStoppedTelling d (told_of r Gave 0) left (sink_at held 0) new start e
+  telling_on new e y = record {
+    stopped = record {
+      read = y.stopped.read;
+      took = took_from y.stopped.read y.stopped.took;
+      because = because_on e y.stopped.read (sink_at None old.outbox.failures) (sink_at None new.failures) None x.writes y.stopped.because;
+      wrote = y.stopped.wrote;
+    };
+    wrote = lines_at e new.contents y.wrote;
+  }
 
-pub ended_through : (d : Dialect) (p : Prompts) (r h : Option (List ℕ)) (w : ℕ) (left : Told) (start : BookmarkedSession) (json : Bool) (new : PlainSink) (end : Result Summary RunFault) →
-    HasEnded json d p (told_in (exchange_at r h w)) left (told_in (exchange_at r h w)).beside.sink new start end → HasEnded json d p (told_of r Gave 0) left (sink_at h 0) new start end
-ended_through d p r h w left start json new end x =
-    ended_from d p r h w left start json (sink_at h 0) new end
-    (subst (λ c. HasEnded json d p (told_in (exchange_at r h w)) left (sink_at c 0) new start end) (at_first h) x)
+  -- however it ended
+  pub ended_through : (json : Bool) (new : PlainSink) (end : Result Summary RunFault) → HasEnded json d p (told_in old) left (told_in old).beside.sink new start end →
+      HasEnded json d p (told_of r Gave 0) left (sink_at held 0) new start end
+  ended_through false new (Ok sum) y = done_on new new sum (keep new.contents) (y.writes ∙ x.writes) y
+  ended_through true new (Ok sum) y = (y.0, told_on new new y.0 sum (keep new.contents) (y.1.ended.done.writes ∙ x.writes) y.1)
+  ended_through false new (Err e) y = stopped_on new e y
+  ended_through true new (Err e) y = telling_on new e y
 
--- ---- a run behind starts, from its exchange to its reader and its writer
+-- ---- a run from its exchange to its reader and its writer
 
--- an exchange whose buffers are over this reader
-pub began_at : {old : PlainExchange} {b r h : Option (List ℕ)} {w : ℕ} → old ≡ exchange_at b h w → b ≡ r → old ≡ exchange_at r h w
-began_at {old} {b} {r} {h} {w} e f = e ∙ ap (λ x. exchange_at x h w) f
-
-module _ {F : Type 0} (remaining : F → Option (List ℕ)) (json : Bool) (d : Dialect) (config : Config) (files : List (String Global × F)) (r h s : Option (List ℕ)) (w : ℕ) where
-  pub answers_through : (old new : PlainExchange) (sum : Summary) → old ≡ exchange_at r h w → new.outbox.sent ≡ s → HasRunBehind remaining json d config files old new sum →
-      Answers remaining json d config files r h s sum
-  answers_through old new sum is sent x =
+module _ (json : Bool) (d : Dialect) (p : Prompts) (start : BookmarkedSession) (old new : PlainExchange) (r held s : Option (List ℕ)) (x : BeginsAs old r held) (sent : new.outbox.sent ≡ s) where
+  pub answered_through : (sum : Summary) → HasRun json d p old new start sum → HasAnswered json d p start r held s sum
+  answered_through sum y =
       let o = new.outbox in
-      let y = subst (λ e. HasRun json d Hidden e new (without_bookmarks x.m no_notes) sum) is x.run in
       let k = subst (λ z. Keeps (contents o) z) sent (all_sent (contents o) o.sent o.unsent y.sent (reached o.first o.sent o.unsent)) in
-      record {
-        m = x.m;
-        starts_are = x.starts_are;
-        left = y.left;
-        done = done_through d Hidden r h w y.left (without_bookmarks x.m no_notes) json y.written s sum (subst (λ z. Keeps z s) y.kept k) y.done;
-      }
+      record { left = y.left; done = done_through d p old r held y.left start x json y.written s sum (subst (λ z. Keeps z s) y.kept k) y.done }
 
-  pub less_through : (old new : PlainExchange) (stop : Stop) → old ≡ exchange_at r h w → new.outbox.sent ≡ s → StopsBehind remaining json d config files old new stop →
-      AnswersLess remaining json d config files r h s stop
-  less_through old new stop is sent (inl x) =
-      let k : h ≡ s = ap (λ e. e.outbox.sent) (sym is) ∙ ap (λ e. e.outbox.sent) (sym x.0) ∙ sent in
-      inl (subst (λ z. Keeps h z) k (keep h), x.1)
-  less_through old new stop is sent (inr x) =
+  pub some_through : (stop : Stop) → HasStopped json d p old new start stop → HasAnsweredSome json d p start r held s stop
+  some_through stop y =
       let o = new.outbox in
-      let y = subst (λ e. HasStopped json d Hidden e new (without_bookmarks x.m no_notes) stop) is x.stopped in
-      inr (record {
-        m = x.m;
-        starts_are = x.starts_are;
+      record {
         left = y.left;
         written = y.written;
         end = y.end;
-        ended = ended_through d Hidden r h w y.left (without_bookmarks x.m no_notes) json y.written y.end y.ended;
-        reaches = (o.unsent, subst (λ z. Keeps z (append_known s o.unsent)) y.kept (subst (λ z. Keeps (contents o) (append_known z o.unsent)) sent (reached o.first o.sent o.unsent)));
+        ended = ended_through d p old r held y.left start x json y.written y.end y.ended;
+        reaches = reaches_by new s y.written.contents sent y.kept;
         stop_is = y.stop_is;
-      })
+      }
+
+-- ---- a run behind starts, from its exchange to its reader and its writer
+
+module _ {F : Type 0} (remaining : F → Option (List ℕ)) (json : Bool) (d : Dialect) (config : Config) (files : List (String Global × F)) (old new : PlainExchange) (r h s : Option (List ℕ)) (begins : BeginsAs old r h) (sent : new.outbox.sent ≡ s) where
+  pub answers_through : (sum : Summary) → HasRunBehind remaining json d config files old new sum → Answers remaining json d config files r h s sum
+  answers_through sum y = record { m = y.m; starts_are = y.starts_are; answered = answered_through json d Hidden (without_bookmarks y.m no_notes) old new r h s begins sent sum y.run }
+
+  pub less_through : (stop : Stop) → (begun : h ≡ old.outbox.sent) → StopsBehind remaining json d config files old new stop → AnswersLess remaining json d config files r h s stop
+  less_through stop begun (inl y) =
+      let k : h ≡ s = begun ∙ ap (λ e. e.outbox.sent) (sym y.0) ∙ sent in
+      inl (subst (λ z. Keeps h z) k (keep h), y.1)
+  less_through stop begun (inr y) = inr (record { m = y.m; starts_are = y.starts_are; answered = some_through json d Hidden (without_bookmarks y.m no_notes) old new r h s begins sent stop y.stopped })
+
+-- ---- a session behind a greeting, in the same way
+
+module _ (manner : Manner) (greeting : List ℕ) (start : BookmarkedSession) (old new : PlainExchange) (r h s : Option (List ℕ)) (begins : BeginsAs old r h) (sent : new.outbox.sent ≡ s) where
+  pub greets_through : (sum : Summary) → HasGreeted manner greeting old new start sum → Greets manner greeting start r h s sum
+  greets_through sum y = answered_through manner.json AnyFeed (prompts_in manner) start y.mid new r (append_known h greeting) s (begins_behind old y.mid r h greeting begins y.put) sent sum y.run
+
+  pub greets_less : (stop : Stop) → HasGreetedLess manner greeting old new start stop → GreetsLess manner greeting start r h s stop
+  greets_less stop (inl y) =
+      let o = new.outbox in
+      inr (inl (record {
+        written = contents o;
+        wrote = (y.wrote.0, y.wrote.1, wrote_here h (contents old.outbox) (contents o) y.wrote.0 begins.holds y.wrote.2, y.wrote.3);
+        reaches = reaches_by new s (contents o) sent refl;
+        stop_is = y.stop_is;
+      }))
+  greets_less stop (inr y) =
+      inr (inr (some_through manner.json AnyFeed (prompts_in manner) start y.mid new r (append_known h greeting) s (begins_behind old y.mid r h greeting begins y.put) sent stop y.stopped))
 
 -- ---- a run on an exchange
 

@@ -1,6 +1,7 @@
 -- How the program may end.
 -- Rule of this project: what its user is told, and when nothing.
-use Rattle.std.specs.Prelude.{◌≡◌, ◌≢◌, ◌≤◌, ◌⊎◌, ℕ, Bool, ◌&&◌, true, List, [], ◌∷◌, Option, IfSome, cond, nat_eq, codes, decimal}
+use Rattle.std.specs.Prelude.{◌≡◌, ◌≢◌, ◌≤◌, ◌⊎◌, ℕ, Bool, ◌&&◌, true, false, List, [], ◌∷◌, Option, IfSome, cond, nat_eq, codes, decimal}
+use Rattle.std.specs.Str.{bytes_eq}
 use Rattle.std.specs.Io.KnownBytes.{Keeps}
 use Rattle.rev_options.specs.Request.{asks_open, seeks_key}
 use Rattle.rev_recordings.specs.Fault as fault
@@ -45,6 +46,11 @@ pub record EndsNoted (told tells : Option (List ℕ)) (before after : ℕ) (resu
   pub noted : Told told between before failures notes
   pub quiet : result ≡ 0 → Keeps between tells
   pub early : result ≢ 0 → EndsEarly between tells failures after result
+
+-- the first word says `record`
+abbrev pub asks_record : List (List ℕ) → Bool
+asks_record [] = false
+asks_record (word ∷ words) = bytes_eq word (codes "record")
 
 -- `open` is asked for at the place where a key is gone
 abbrev pub seeks : List (List ℕ) → Bool

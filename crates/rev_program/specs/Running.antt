@@ -99,25 +99,33 @@ StopsBehind remaining json d config files old new stop =
 abbrev pub Reaches : Option (List ℕ) → Option (List ℕ) → Type 0
 Reaches written held = (unsent : List ℕ) × Keeps written (append_known held unsent)
 
--- the files are starts, one after another; all that the reader gives was read, and the answers of all its lines from
--- the session that the starts leave, and nothing else, went to the writer
-pub record Answers {F : Type 0} (remaining : F → Option (List ℕ)) (json : Bool) (d : Dialect) (config : Config) (files : List (String Global × F)) (reader old new : Option (List ℕ)) (sum : Summary) : Type 0 where
-  pub m : SessionState
-  pub starts_are : AreStarts d remaining files (opened config) m
+-- all that the reader gives was read, and the answers of all its lines from this session, and nothing else, went to a
+-- writer that held so much
+pub record HasAnswered (json : Bool) (d : Dialect) (p : Prompts) (start : BookmarkedSession) (reader held new : Option (List ℕ)) (sum : Summary) : Type 0 where
   pub left : Told
-  pub done : HasDone json d Hidden (told_of reader Gave 0) left (sink_at old 0) (sink_at new 0) (without_bookmarks m no_notes) sum
+  pub done : HasDone json d p (told_of reader Gave 0) left (sink_at held 0) (sink_at new 0) start sum
 
--- the files are starts, and what was answered from the session that they leave before the run ended so went to the
--- writer, but for an end that could not be sent
-pub record AnswersSome {F : Type 0} (remaining : F → Option (List ℕ)) (json : Bool) (d : Dialect) (config : Config) (files : List (String Global × F)) (reader old new : Option (List ℕ)) (stop : Stop) : Type 0 where
-  pub m : SessionState
-  pub starts_are : AreStarts d remaining files (opened config) m
+-- what was answered from this session before the run ended so went to a writer that held so much, but for an end that
+-- could not be sent
+pub record HasAnsweredSome (json : Bool) (d : Dialect) (p : Prompts) (start : BookmarkedSession) (reader held new : Option (List ℕ)) (stop : Stop) : Type 0 where
   pub left : Told
   pub written : PlainSink
   pub end : Result Summary RunFault
-  pub ended : HasEnded json d Hidden (told_of reader Gave 0) left (sink_at old 0) written (without_bookmarks m no_notes) end
+  pub ended : HasEnded json d p (told_of reader Gave 0) left (sink_at held 0) written start end
   pub reaches : Reaches written.contents new
   pub stop_is : Stops end stop
+
+-- the files are starts, one after another, and all was answered from the session that they leave
+pub record Answers {F : Type 0} (remaining : F → Option (List ℕ)) (json : Bool) (d : Dialect) (config : Config) (files : List (String Global × F)) (reader old new : Option (List ℕ)) (sum : Summary) : Type 0 where
+  pub m : SessionState
+  pub starts_are : AreStarts d remaining files (opened config) m
+  pub answered : HasAnswered json d Hidden (without_bookmarks m no_notes) reader old new sum
+
+-- the files are starts, and what was answered from the session that they leave before the run ended so was written
+pub record AnswersSome {F : Type 0} (remaining : F → Option (List ℕ)) (json : Bool) (d : Dialect) (config : Config) (files : List (String Global × F)) (reader old new : Option (List ℕ)) (stop : Stop) : Type 0 where
+  pub m : SessionState
+  pub starts_are : AreStarts d remaining files (opened config) m
+  pub answered : HasAnsweredSome json d Hidden (without_bookmarks m no_notes) reader old new stop
 
 -- a run that was stopped, or it never began and nothing was written
 abbrev pub AnswersLess : {F : Type 0} → (F → Option (List ℕ)) → Bool → Dialect → Config → List (String Global × F) → Option (List ℕ) → Option (List ℕ) → Option (List ℕ) → Stop → Type 0

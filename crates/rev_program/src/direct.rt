@@ -1,10 +1,12 @@
 //! `lrudb open` of logs and of published traces: what logs lead to, or what an import would write, is played as they
 //! are read, and then a session is answered.
-ghost use Rattle.std.specs.Prelude.{◌≡◌, IfOk, IfSome};
+ghost use Rattle.std.specs.Prelude.{◌≡◌, Ok, IfOk, IfErr, IfSome, OnOk};
 ghost use Rattle.rev_classes.specs.Limits.{IsWithinLimits, fault_of};
 ghost use Rattle.rev_messages.specs.Ends.{IsStatus, StopsBy};
 ghost use Rattle.rev_messages.specs.Stop.{stop_of_config};
 ghost use Rattle.rev_options.specs.Request.{sought_key};
+ghost use Rattle.rev_shell.specs.declared.run.Summary.{Summary};
+ghost use Rattle.rev_program.specs.Greeted.{AnswersOpened, AnswersOpenedLess, AreLimited, EndsOpening, IsOnLogs, IsOnScripts, greeting_text, with_greeting};
 ghost use Rattle.rev_program.specs.Scripted.{IsPlacedBy, IsScripted};
 ghost use Rattle.rev_program.specs.Program.{EndsNoted, EndsPlaced};
 ghost use Rattle.rev_program.specs.declared.placed.Placed.TheVariants.{NeverLeft};
@@ -215,10 +217,11 @@ fn sampled_keys(alloc: Global, asked: &WatchOpening) -> Result<Option<Sampling<G
 }
 
 // The session, where what is told of a key says whether it is one of these.
-fn limited(
-    opened: Opened,
-    sampling: Result<Option<Sampling<Global>>, Stop>,
-) -> Result<Opened, Stop> {
+fn limited(opened: Opened, sampling: Result<Option<Sampling<Global>>, Stop>) -> Result<Opened, Stop>
+    ensures session { IfOk result (λ limited. limited.session ≡ opened.session) }
+    ensures at { IfOk result (λ limited. limited.at ≡ opened.at) }
+    ensures log { IfOk result (λ limited. AreLimited opened.log limited.log) }
+{
     let Opened { session, log, at } = opened;
     match sampling {
         Err(stop) => {
@@ -296,28 +299,43 @@ fn placed_on_rows<R: Files + AllocGlobal, C: Clock, W: Sink>(
     placed_in(rt, &rows(&config, asked), &asked.standing, notes, progress)
 }
 
-// What is written in front of the answers, in this manner, of a session that stands there.
-fn greeting_of(alloc: Global, manner: Manner, at: Option<OpenedAt>) -> Result<Vec<u8>, AllocError> {
-    let mut greeting = Vec::new(alloc);
-    match at {
-        Some(at) if manner.json => put_opened_object(&mut greeting, at)?,
-        Some(at) if manner.has_prompt => {
-            put_opened(&mut greeting, at)?;
-            greeting.extend_from_slice(b"\r\n")?;
-        }
-        _ => {}
+// Puts what is written in front of the answers, in this manner, of a session that stands there.
+fn put_greeting(text: &mut Vec<u8>, manner: Manner, at: Option<OpenedAt>) -> Result<(), AllocError>
+    ensures { OnOk result (text.new.items ≡ with_greeting text.old.items manner at) }
+{
+    let Some(at) = at else {
+        return Ok(());
+    };
+    if manner.json {
+        return put_opened_object(text, at);
     }
+    if !manner.has_prompt {
+        return Ok(());
+    }
+    put_opened(text, at)?;
+    text.extend_from_slice(b"\r\n")
+}
+
+// The same, by itself.
+fn greeting_of(alloc: Global, manner: Manner, at: Option<OpenedAt>) -> Result<Vec<u8>, AllocError>
+    ensures { IfOk result (λ greeting. greeting.items ≡ greeting_text manner at) }
+{
+    let mut greeting = Vec::new(alloc);
+    put_greeting(&mut greeting, manner, at)?;
     Ok(greeting)
 }
 
 /// Answers the session that the reader gives, in the manner that is asked for.
-pub(crate) fn answer_opened<I: Read + Drop, O: Write + Drop>(
+pub(crate) fn answer_opened<I: Read + Drop, O: Write>(
     alloc: Global,
     opened: Opened,
     manner: Manner,
     reader: I,
-    writer: O,
-) -> Result<(), Stop> {
+    writer: &mut O,
+) -> Result<(), Stop>
+    ensures ok { OnOk result ((sum : Summary) × AnswersOpened manner opened (I.remaining reader) (O.contents writer.old) (O.contents writer.new) sum) }
+    ensures err { IfErr result (AnswersOpenedLess manner opened (I.remaining reader) (O.contents writer.old) (O.contents writer.new)) }
+{
     let Opened { session, log, at } = opened;
     match greeting_of(alloc, manner, at) {
         Ok(greeting) => answer(
@@ -338,17 +356,19 @@ pub(crate) fn answer_opened<I: Read + Drop, O: Write + Drop>(
 }
 
 // Tells the notes, and answers the session that the reader gives, where there is one, in the manner that is asked for.
-fn answered<I: Read + Drop, O: Write + Drop, E: Sink>(
+fn answered<I: Read + Drop, O: Write, E: Sink>(
     alloc: Global,
     opened: Result<Opened, Stop>,
     notes: &[u8],
     manner: Manner,
     reader: I,
-    writer: O,
+    writer: &mut O,
     errors: &mut E,
 ) -> u8
     ensures status { IsStatus result }
     ensures ends { EndsNoted (E.contents errors.old) (E.contents errors.new) (E.failures errors.old) (E.failures errors.new) result }
+    ensures answers { EndsOpening manner (λ other. Ok other ≡ opened) (E.contents errors.old) (E.contents errors.new) (E.failures errors.old) (E.failures errors.new)
+        (I.remaining reader) (O.contents writer.old) (O.contents writer.new) result }
 {
     match opened {
         Err(stop) => ended(Err(stop), errors),
@@ -363,60 +383,56 @@ fn answered<I: Read + Drop, O: Write + Drop, E: Sink>(
 /// gives at the place that is asked for. What is told of the logs, where the tree is full, and where the session stands
 /// is told before it is read. Answers the exit status, and tells why where it is not 0. It is 1 where a key is asked
 /// for that never left, and then nothing is answered.
-pub fn open_watch<
-    R: Files + AllocGlobal,
-    I: Read + Drop,
-    O: Write + Drop,
-    E: Sink,
-    C: Clock,
-    W: Sink,
->(
+pub fn open_watch<R: Files + AllocGlobal, I: Read + Drop, O: Write, E: Sink, C: Clock, W: Sink>(
     rt: &R,
     asked: WatchOpening,
     reader: I,
-    writer: O,
+    writer: &mut O,
     errors: &mut E,
     progress: &Progress<C, W>,
 ) -> u8
-    ensures { EndsPlaced (sought_key asked.standing) (E.contents errors.old) (E.contents errors.new) (E.failures errors.old) (E.failures errors.new) result }
+    ensures ends { EndsPlaced (sought_key asked.standing) (E.contents errors.old) (E.contents errors.new) (E.failures errors.old) (E.failures errors.new) result }
+    ensures answers { EndsOpening asked.manner (IsOnLogs asked.leader asked.standing) (E.contents errors.old) (E.contents errors.new) (E.failures errors.old) (E.failures errors.new)
+        (I.remaining reader) (O.contents writer.old) (O.contents writer.new) result }
 {
     let manner = asked.manner;
     let sampling = sampled_keys(rt.alloc(), &asked);
     let mut notes = Vec::new(rt.alloc());
     let placed = placed_as(rt, asked, &mut notes, progress);
     progress.end();
-    let opened = match placed {
+    match placed {
+        Err(stop) => ended(Err(stop), errors),
         Ok(Placed::NeverLeft) => {
             tell_bytes(errors, notes.as_slice());
             return 1;
         }
-        Ok(Placed::There(opened)) => limited(opened, sampling),
-        Err(stop) => Err(stop),
-    };
-    answered(
-        rt.alloc(),
-        opened,
-        notes.as_slice(),
-        manner,
-        reader,
-        writer,
-        errors,
-    )
+        Ok(Placed::There(opened)) => answered(
+            rt.alloc(),
+            limited(opened, sampling),
+            notes.as_slice(),
+            manner,
+            reader,
+            writer,
+            errors,
+        ),
+    }
 }
 
 /// Plays what the published traces become that are asked for, in the same way. A configuration at fault is told before
 /// a file is opened.
 #[tactic(auto, using(crate::proofs::Ends::placed_well, crate::proofs::Ends::placed_never, crate::proofs::Ends::placed_stopped))]
-pub fn open_csv<
-    R: Files + AllocGlobal,
-    I: Read + Drop,
-    O: Write + Drop,
-    E: Sink,
-    C: Clock,
-    W: Sink,
->(rt: &R, asked: CsvOpening, reader: I, writer: O, errors: &mut E, progress: &Progress<C, W>) -> u8
+pub fn open_csv<R: Files + AllocGlobal, I: Read + Drop, O: Write, E: Sink, C: Clock, W: Sink>(
+    rt: &R,
+    asked: CsvOpening,
+    reader: I,
+    writer: &mut O,
+    errors: &mut E,
+    progress: &Progress<C, W>,
+) -> u8
     ensures config { IfSome (fault_of asked.config) (λ fault. StopsBy (E.contents errors.old) (E.contents errors.new) (E.failures errors.old) (E.failures errors.new) result (stop_of_config fault)) }
     ensures ends { EndsPlaced (sought_key asked.standing) (E.contents errors.old) (E.contents errors.new) (E.failures errors.old) (E.failures errors.new) result }
+    ensures answers { EndsOpening asked.manner (IsOnScripts asked.standing) (E.contents errors.old) (E.contents errors.new) (E.failures errors.old) (E.failures errors.new)
+        (I.remaining reader) (O.contents writer.old) (O.contents writer.new) result }
 {
     if let Some(fault) = fault_of(&asked.config) {
         return ended(Err(Stop::from(fault)), errors);

@@ -1,11 +1,17 @@
 //! `lrudb open`: traces are played, each step as a node, and then a session is answered at any of them.
-ghost use Rattle.std.specs.Prelude.{◌≡◌, IfOk, IfSome, OnOk};
+ghost use Rattle.std.specs.Prelude.{◌≡◌, cond, IfOk, IfErr, IfSome, OnOk};
 ghost use Rattle.rev_classes.specs.Limits.{fault_of};
 ghost use Rattle.rev_messages.specs.Ends.{IsStatus, StopsBy};
 ghost use Rattle.rev_messages.specs.Stop.{stop_of_config};
 ghost use Rattle.rev_options.specs.Request.{sought_key};
+ghost use Rattle.rev_script.specs.declared.dialect.Dialect.TheVariants.{AnyFeed};
+ghost use Rattle.rev_shell.specs.Run.{without_bookmarks};
+ghost use Rattle.rev_shell.specs.declared.run.Prompts.TheVariants.{Shown, Hidden};
+ghost use Rattle.rev_shell.specs.declared.run.Summary.{Summary};
+ghost use Rattle.rev_program.specs.Greeted.{EndsOpening, Greets, GreetsLess, HasGreeted, HasGreetedLess, IsOnScripts, prompts_in};
 ghost use Rattle.rev_program.specs.Opening.{IsNoted, notes_text, with_full};
 ghost use Rattle.rev_program.specs.Program.{EndsBehind, EndsStood};
+ghost use Rattle.rev_program.specs.Running.{HasRun, HasStopped};
 ghost use Rattle.rev_program.specs.Scripted.{IsScripted};
 
 use crate::direct::answer_opened;
@@ -26,7 +32,7 @@ use rev_output::Sink;
 use rev_script::dialect::Dialect;
 use rev_script::duplex::Duplex;
 use rev_script::exchange::{Buffers, Exchange};
-use rev_shell::run::Prompts;
+use rev_shell::run::{Prompts, Summary};
 use rev_undotree::Session;
 use std::alloc::{AllocError, Global};
 use std::io::{Read, Write};
@@ -80,17 +86,19 @@ fn note<E: Sink>(full: &Option<Full>, at: Option<OpenedAt>, notes: &[u8], errors
 }
 
 // Tells where the session stands, and answers it, in the manner that is asked for.
-fn answer_stood<I: Read + Drop, O: Write + Drop, E: Sink>(
+fn answer_stood<I: Read + Drop, O: Write, E: Sink>(
     alloc: Global,
     opened: Opened,
     full: &Option<Full>,
     manner: Manner,
     reader: I,
-    writer: O,
+    writer: &mut O,
     errors: &mut E,
 ) -> u8
     ensures status { IsStatus result }
     ensures ends { EndsBehind (E.contents errors.old) (E.contents errors.new) (E.failures errors.old) (E.failures errors.new) result }
+    ensures answers { EndsOpening manner (λ other. other ≡ opened) (E.contents errors.old) (E.contents errors.new) (E.failures errors.old) (E.failures errors.new)
+        (I.remaining reader) (O.contents writer.old) (O.contents writer.new) result }
 {
     let at = opened.at;
     match notes_of(alloc, full, at) {
@@ -123,7 +131,9 @@ pub(crate) fn told_files<'p, R: Files, C, W>(
     Ok(files)
 }
 
-fn prompts_of(has_prompt: bool) -> Prompts {
+fn prompts_of(has_prompt: bool) -> Prompts
+    ensures { result ≡ cond has_prompt Shown Hidden }
+{
     if has_prompt {
         Prompts::Shown
     } else {
@@ -131,28 +141,20 @@ fn prompts_of(has_prompt: bool) -> Prompts {
     }
 }
 
-/// Answers the session that the reader gives, of which LF ends data as CR LF does, in the manner that is asked for.
-/// What a log tells of its nodes is told with it, and a greeting stands in front of the answers.
-pub(crate) fn answer<I: Read + Drop, O: Write + Drop>(
+// Answers the lines of the exchange, in the manner that is asked for.
+fn answer_on<I: Read, O: Write>(
     alloc: Global,
     session: Session<Global>,
     log: &LogNotes<Global>,
-    greeting: &[u8],
     manner: Manner,
-    reader: I,
-    writer: O,
-) -> Result<(), Stop> {
-    let mut writer = writer;
-    let Some(buffers) = Buffers::new(alloc, reader) else {
-        // The program ends here, and all memory goes back at once.
-        let _session = ManuallyDrop::new(session);
-        return Err(Stop::Memory);
-    };
-    let mut exchange = Exchange::new(buffers, &mut writer);
-    // Where that fails, nothing more is read, and it is told so at the end.
-    let _ = exchange.put(greeting);
-    let done = if manner.json {
-        run_as_json_on(alloc, session, log, Dialect::AnyFeed, &mut exchange)
+    exchange: &mut Exchange<'_, I, O>,
+) -> Result<Summary, Stop>
+    ensures ok { IfOk result (λ sum. HasRun manner.json AnyFeed (prompts_in manner) exchange.old exchange.new (without_bookmarks session log.now) sum) }
+    ensures err { IfErr result (λ stop. HasStopped manner.json AnyFeed (prompts_in manner) exchange.old exchange.new (without_bookmarks session log.now) stop) }
+    ensures same { exchange.new.outbox.writer ≡ exchange.old.outbox.writer }
+{
+    if manner.json {
+        run_as_json_on(alloc, session, log, Dialect::AnyFeed, exchange)
     } else {
         run_on(
             &alloc,
@@ -160,9 +162,59 @@ pub(crate) fn answer<I: Read + Drop, O: Write + Drop>(
             log,
             Dialect::AnyFeed,
             prompts_of(manner.has_prompt),
-            &mut exchange,
+            exchange,
         )
+    }
+}
+
+// The same, with the greeting in front.
+fn greet_and_answer<I: Read, O: Write>(
+    alloc: Global,
+    session: Session<Global>,
+    log: &LogNotes<Global>,
+    greeting: &[u8],
+    manner: Manner,
+    exchange: &mut Exchange<'_, I, O>,
+) -> Result<Summary, Stop>
+    ensures ok { IfOk result (HasGreeted manner greeting.now exchange.old exchange.new (without_bookmarks session log.now)) }
+    ensures err { IfErr result (HasGreetedLess manner greeting.now exchange.old exchange.new (without_bookmarks session log.now)) }
+    ensures same { exchange.new.outbox.writer ≡ exchange.old.outbox.writer }
+{
+    match exchange.put(greeting) {
+        Err(_) => {
+            // The program ends here, and all memory goes back at once.
+            let _session = ManuallyDrop::new(session);
+            Err(Stop::CannotWrite)
+        }
+        Ok(()) => match answer_on(alloc, session, log, manner, exchange) {
+            Err(stop) => Err(stop),
+            Ok(summary) => Ok(summary),
+        },
+    }
+}
+
+/// Answers the session that the reader gives, of which LF ends data as CR LF does, in the manner that is asked for.
+/// What a log tells of its nodes is told with it, and a greeting stands in front of the answers.
+pub(crate) fn answer<I: Read + Drop, O: Write>(
+    alloc: Global,
+    session: Session<Global>,
+    log: &LogNotes<Global>,
+    greeting: &[u8],
+    manner: Manner,
+    reader: I,
+    writer: &mut O,
+) -> Result<(), Stop>
+    ensures ok { OnOk result ((sum : Summary) × Greets manner greeting.now (without_bookmarks session log.now) (I.remaining reader) (O.contents writer.old) (O.contents writer.new) sum) }
+    ensures err { IfErr result (GreetsLess manner greeting.now (without_bookmarks session log.now) (I.remaining reader) (O.contents writer.old) (O.contents writer.new)) }
+{
+    let Some(buffers) = Buffers::new(alloc, reader) else {
+        // The program ends here, and all memory goes back at once.
+        let _session = ManuallyDrop::new(session);
+        return Err(Stop::Memory);
     };
+    let mut exchange = Exchange::new(buffers, writer);
+    let done = greet_and_answer(alloc, session, log, greeting, manner, &mut exchange);
+    let _writer = exchange.into_writer();
     match done {
         Err(stop) => Err(stop),
         Ok(_) => Ok(()),
@@ -197,16 +249,18 @@ fn settled_traces<R: Files + AllocGlobal, C: Clock, W: Sink>(
 /// the tree is full, and where the session stands, is told before it is read. Answers the exit status, and tells why
 /// where it is not 0. It is 1 where a key is asked for that never left, and then nothing is answered.
 #[tactic(auto, using(crate::proofs::Ends::stood_well, crate::proofs::Ends::stood_never))]
-pub fn open_traces<
-    R: Files + AllocGlobal,
-    I: Read + Drop,
-    O: Write + Drop,
-    E: Sink,
-    C: Clock,
-    W: Sink,
->(rt: &R, asked: Opening, reader: I, writer: O, errors: &mut E, progress: &Progress<C, W>) -> u8
+pub fn open_traces<R: Files + AllocGlobal, I: Read + Drop, O: Write, E: Sink, C: Clock, W: Sink>(
+    rt: &R,
+    asked: Opening,
+    reader: I,
+    writer: &mut O,
+    errors: &mut E,
+    progress: &Progress<C, W>,
+) -> u8
     ensures config { IfSome (fault_of asked.config) (λ fault. StopsBy (E.contents errors.old) (E.contents errors.new) (E.failures errors.old) (E.failures errors.new) result (stop_of_config fault)) }
     ensures ends { EndsStood (sought_key asked.standing) (E.contents errors.old) (E.contents errors.new) (E.failures errors.old) (E.failures errors.new) result }
+    ensures answers { EndsOpening asked.manner (IsOnScripts asked.standing) (E.contents errors.old) (E.contents errors.new) (E.failures errors.old) (E.failures errors.new)
+        (I.remaining reader) (O.contents writer.old) (O.contents writer.new) result }
 {
     if let Some(fault) = fault_of(&asked.config) {
         return ended(Err(Stop::from(fault)), errors);

@@ -1,7 +1,8 @@
 //! The whole program.
-ghost use Rattle.std.specs.Prelude.{◌≡◌, ◌≢◌, ◌≤◌, [], length, map, true, false, Ok, Err, IfOk, IfErr, IfSome, OnOk};
+ghost use Rattle.std.specs.Prelude.{◌≡◌, ◌≢◌, ◌≤◌, [], length, map, true, false, None, Ok, Err, IfOk, IfErr, IfSome, OnOk};
 ghost use Rattle.std.specs.Io.KnownBytes.{Keeps};
 ghost use Rattle.rev_classes.specs.Limits.{IsWithinLimits, fault_of};
+ghost use Rattle.rev_options.specs.declared.opening.Manner.{Manner};
 ghost use Rattle.rev_options.specs.Request.{asks_import, asks_lives, asks_open, asks_report, asks_run, asks_why, brings};
 ghost use Rattle.rev_messages.specs.Progress.{asks_progress};
 ghost use Rattle.rev_messages.specs.Ends.{IsStatus, StopsBy, EndsPlainly};
@@ -12,7 +13,9 @@ ghost use Rattle.rev_script.specs.declared.dialect.Dialect.TheVariants.{CrLf};
 ghost use Rattle.rev_shell.specs.Run.{without_bookmarks};
 ghost use Rattle.rev_shell.specs.declared.run.Summary.{Summary};
 ghost use Rattle.rev_program.specs.Running.{Stops, HasRun, HasStopped, HasRunBehind, StopsBehind, Answers, AnswersLess, AnswersNamed, StopsNamed, HaveNames, EndsAnswering};
-ghost use Rattle.rev_program.specs.Program.{EndsAsked, EndsEarly, EndsBehind, EndsNoted, EndsSought, EndsUnwritten, EndsRun, IsCounted, seeks, tally_text};
+ghost use Rattle.rev_program.specs.Greeted.{EndsOpening, IsOpened};
+ghost use Rattle.rev_program.specs.Recorded.{AreStartsNamed, EndsRecording, HasRecorded};
+ghost use Rattle.rev_program.specs.Program.{EndsAsked, EndsEarly, EndsBehind, EndsNoted, EndsSought, EndsUnwritten, EndsRun, IsCounted, asks_record, seeks, tally_text};
 
 use crate::direct::{open_csv, open_watch};
 use crate::json::run_script_as_json;
@@ -368,7 +371,9 @@ fn opened_for_recording<R: Files + AllocGlobal>(
     names: Vec<String>,
 ) -> Result<(Session<Global>, Vec<(String, R::File)>), Stop>
     requires { IsWithinLimits config.now }
-    ensures { IfOk result (λ opened. length opened.1.items ≡ length names.items) }
+    ensures count { IfOk result (λ opened. length opened.1.items ≡ length names.items) }
+    ensures starts { IfOk result (λ opened. AreStartsNamed R.File.Read.remaining dialect config.entry.now starts.items opened.0) }
+    ensures names { IfOk result (λ opened. HaveNames opened.1.items names.items) }
 {
     let starts = all_opened(rt, rt.alloc(), starts)?;
     let files = all_opened(rt, rt.alloc(), names)?;
@@ -394,6 +399,7 @@ fn record_files<R: Files + Threads + Wait + Sync + AllocGlobal, O: Write, E: Sin
     ensures early { result ≢ 0 → EndsUnwritten (E.contents errors.old) (E.contents errors.new) (E.failures errors.old) (E.failures errors.new) result
         (O.contents writer.old) (O.contents writer.new) }
     ensures quiet { result ≡ 0 → Keeps (E.contents errors.old) (E.contents errors.new) }
+    ensures recorded { result ≡ 0 → (fault_of config ≡ None) × HasRecorded R.File.Read.remaining dialect config starts.items names.items (O.contents writer.old) (O.contents writer.new) }
 {
     if let Some(fault) = fault_of(&config) {
         return ended(Err(Stop::from(fault)), errors);
@@ -419,6 +425,10 @@ fn program_with<
     ensures quiet { result ≡ 0 → asks_import (map S.text words.now) ≡ false → asks_open (map S.text words.now) ≡ false → asks_run (map S.text words.now) ≡ false → asks_lives (map S.text words.now) ≡ false → Keeps (E.contents errors.old) (E.contents errors.new) }
     ensures run { asks_run (map S.text words.now) ≡ true → EndsRun (E.contents errors.old) (E.contents errors.new) (E.failures errors.old) (E.failures errors.new) result }
     ensures answers { asks_run (map S.text words.now) ≡ true → EndsAnswering R.File.Read.remaining (E.contents errors.old) (E.contents errors.new) (E.failures errors.old) (E.failures errors.new)
+        (I.remaining reader) (O.contents writer.old) (O.contents writer.new) result }
+    ensures records { asks_record (map S.text words.now) ≡ true → EndsRecording R.File.Read.remaining (E.contents errors.old) (E.contents errors.new) (E.failures errors.old) (E.failures errors.new)
+        (O.contents writer.old) (O.contents writer.new) result }
+    ensures opens { asks_open (map S.text words.now) ≡ true → (manner : Manner) × EndsOpening manner IsOpened (E.contents errors.old) (E.contents errors.new) (E.failures errors.old) (E.failures errors.new)
         (I.remaining reader) (O.contents writer.old) (O.contents writer.new) result }
     ensures placed { asks_import (map S.text words.now) ≡ false → asks_run (map S.text words.now) ≡ false → asks_lives (map S.text words.now) ≡ false → EndsSought (seeks (map S.text words.now)) (E.contents errors.old) (E.contents errors.new) (E.failures errors.old) (E.failures errors.new) result }
     ensures noted { asks_import (map S.text words.now) ≡ false → asks_run (map S.text words.now) ≡ false → asks_lives (map S.text words.now) ≡ false → seeks (map S.text words.now) ≡ false → EndsNoted (E.contents errors.old) (E.contents errors.new) (E.failures errors.old) (E.failures errors.new) result }
@@ -492,6 +502,10 @@ pub fn program<
     ensures quiet { result ≡ 0 → asks_import (map S.text words.now) ≡ false → asks_open (map S.text words.now) ≡ false → asks_run (map S.text words.now) ≡ false → asks_lives (map S.text words.now) ≡ false → Keeps (E.contents errors.old) (E.contents errors.new) }
     ensures run { asks_run (map S.text words.now) ≡ true → EndsRun (E.contents errors.old) (E.contents errors.new) (E.failures errors.old) (E.failures errors.new) result }
     ensures answers { asks_run (map S.text words.now) ≡ true → EndsAnswering R.File.Read.remaining (E.contents errors.old) (E.contents errors.new) (E.failures errors.old) (E.failures errors.new)
+        (I.remaining reader) (O.contents writer.old) (O.contents writer.new) result }
+    ensures records { asks_record (map S.text words.now) ≡ true → EndsRecording R.File.Read.remaining (E.contents errors.old) (E.contents errors.new) (E.failures errors.old) (E.failures errors.new)
+        (O.contents writer.old) (O.contents writer.new) result }
+    ensures opens { asks_open (map S.text words.now) ≡ true → (manner : Manner) × EndsOpening manner IsOpened (E.contents errors.old) (E.contents errors.new) (E.failures errors.old) (E.failures errors.new)
         (I.remaining reader) (O.contents writer.old) (O.contents writer.new) result }
     ensures placed { asks_import (map S.text words.now) ≡ false → asks_run (map S.text words.now) ≡ false → asks_lives (map S.text words.now) ≡ false → EndsSought (seeks (map S.text words.now)) (E.contents errors.old) (E.contents errors.new) (E.failures errors.old) (E.failures errors.new) result }
     ensures noted { asks_import (map S.text words.now) ≡ false → asks_run (map S.text words.now) ≡ false → asks_lives (map S.text words.now) ≡ false → seeks (map S.text words.now) ≡ false → EndsNoted (E.contents errors.old) (E.contents errors.new) (E.failures errors.old) (E.failures errors.new) result }

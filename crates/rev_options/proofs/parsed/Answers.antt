@@ -3,7 +3,7 @@ use Rattle.std.proofs.lemmas.Bool.{cases_Bool}
 use Rattle.std.proofs.lemmas.Slice.Eq.{bytes_eq-Decides}
 use Rattle.std.specs.Str.{bytes_eq}
 use Rattle.rev_options.specs.Request.{asks_lives, asks_report, asks_run}
-use Rattle.rev_options.proofs.Weaker.{no_import, no_opening, brings_none}
+use Rattle.rev_options.proofs.Weaker.{no_import, lives_no_opening, brings_none}
 use Rattle.rev_options.proofs.parsed.Goals as goal
 
 -- the first word is one word
@@ -29,7 +29,7 @@ pub returns-then-asks_lives-clause-words : goal.returns-then-asks_lives-clause-w
 returns-then-asks_lives-clause-words g c = no_import _ c.asking_of.result c.asking_of.ensures.words
 
 pub returns-then-asks_lives-clause-opens : goal.returns-then-asks_lives-clause-opens
-returns-then-asks_lives-clause-opens g c = no_opening _ c.asking_of.result c.asking_of.ensures.opens
+returns-then-asks_lives-clause-opens g c = lives_no_opening _ _ c.asking_of.result c.asking_of.ensures.opens c.asking_of.ensures.lives
 
 pub returns-then-asks_lives-clause-brings : goal.returns-then-asks_lives-clause-brings
 returns-then-asks_lives-clause-brings g c = brings_none _ _ c.asking_of.result c.asking_of.ensures.brings

@@ -1,5 +1,6 @@
-use Rattle.std.proofs.Common.{inl, Err}
-use Rattle.rev_program.proofs.Ends.{stopped_of, unnoted}
+use Rattle.std.proofs.Common.{inl, Err, sym}
+use Rattle.rev_program.proofs.Ends.{kept, stopped_of, unnoted}
+use Rattle.rev_program.proofs.Opens.{opened_ends, unopened_ends}
 use Rattle.rev_program.proofs.direct.answered.Goals as goal
 
 pub returns-in-Err-clause-ends : goal.returns-in-Err-clause-ends
@@ -15,3 +16,11 @@ returns-in-Ok-clause-ends g c = record {
   quiet = c.ended-in-Ok.ensures.quiet;
   early = λ n. inl (stopped_of _ _ _ _ c.answer_opened.result _ c.ended-in-Ok.ensures.status c.ended-in-Ok.ensures.told n);
 }
+
+pub returns-in-Err-clause-answers : goal.returns-in-Err-clause-answers
+returns-in-Err-clause-answers g c = unopened_ends _ _ _ _ _ _ _ _ _ _ c.in-Err.stop c.ended.ensures.status c.ended.ensures.told (kept _)
+
+pub returns-in-Ok-clause-answers : goal.returns-in-Ok-clause-answers
+returns-in-Ok-clause-answers g c =
+    opened_ends _ _ _ _ _ _ _ _ _ _ c.in-Ok.opened c.args.notes.now (g.E.Sink.contents c.tell_bytes.new.errors) (g.E.Sink.failures c.tell_bytes.new.errors) c.answer_opened.result (sym c.in-Ok.is)
+    c.tell_bytes.ensures c.answer_opened.ensures.ok c.answer_opened.ensures.err c.ended-in-Ok.ensures.status c.ended-in-Ok.ensures.told

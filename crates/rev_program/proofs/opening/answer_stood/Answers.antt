@@ -1,6 +1,8 @@
-use Rattle.std.proofs.Common.{inl, Err}
+use Rattle.std.proofs.Common.{inl, Err, refl}
 use Rattle.rev_messages.specs.declared.stop.Stop.TheVariants.{Memory}
-use Rattle.rev_program.proofs.Ends.{stopped_of, plainly}
+use Rattle.rev_program.proofs.Ends.{kept, stopped_of, plainly, told_text}
+use Rattle.rev_program.proofs.Opens.{opened_ends, unopened_ends}
+use Rattle.rev_program.specs.Opening.{notes_text}
 use Rattle.rev_program.proofs.opening.answer_stood.Goals as goal
 
 pub returns-in-Err-clause-ends : goal.returns-in-Err-clause-ends
@@ -17,3 +19,11 @@ returns-in-Ok-clause-ends g c = record {
   quiet = c.ended-in-Ok.ensures.quiet;
   early = λ n. inl (stopped_of _ _ _ _ c.answer_opened.result _ c.ended-in-Ok.ensures.status c.ended-in-Ok.ensures.told n);
 }
+
+pub returns-in-Err-clause-answers : goal.returns-in-Err-clause-answers
+returns-in-Err-clause-answers g c = unopened_ends _ _ _ _ _ _ _ _ _ _ Memory c.ended.ensures.status c.ended.ensures.told (kept _)
+
+pub returns-in-Ok-clause-answers : goal.returns-in-Ok-clause-answers
+returns-in-Ok-clause-answers g c =
+    opened_ends _ _ _ _ _ _ _ _ _ _ c.args.opened (notes_text c.args.full.now c.args.opened.at) (g.E.Sink.contents c.note.new.errors) (g.E.Sink.failures c.note.new.errors) c.answer_opened.result refl
+    (told_text _ _ _ _ c.args.full.now c.args.opened.at c.note.ensures) c.answer_opened.ensures.ok c.answer_opened.ensures.err c.ended-in-Ok.ensures.status c.ended-in-Ok.ensures.told
