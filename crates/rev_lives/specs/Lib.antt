@@ -1,3 +1,4 @@
 pub mod Follow
 pub mod Told
 pub mod Leaving
+pub mod Hashes

@@ -11,6 +11,7 @@
 mod asked;
 mod follow;
 mod gone;
+mod hashes;
 pub mod leaving;
 mod lives;
 pub mod tell;

@@ -1,23 +1,15 @@
 //! The lives of the keys that are asked for, as events are heard.
 use crate::follow::{follow, restart};
+use crate::hashes::gather;
 use indexmap::IndexMap;
-use rev_evidence::blame::key_of;
-use rev_evidence::heard::key_in;
-use rev_inverse::{Change, RecordRef, Store};
-use rev_items::{Item, Key};
+use rev_items::Key;
 use rev_life::life::{Ended, KeyLives};
-use rev_log::held_key::{HeldKey, SoughtKey};
-use rev_model::ChunkRef;
 use rev_pushers::counted::{ClassStart, Classes};
 use rev_replay::fault::ReplayFault;
 use rev_replay::heard::{Heard, Listener};
 use rev_watch::event::Timestamp;
 use std::alloc::{AllocError, Allocator};
 use std::hash::{BuildHasherDefault, FoldHasher};
-
-/// Up to so many keys are each looked at in each event; of more, those that the event's steps name (this project's own
-/// figure).
-const FEW: usize = 16;
 
 /// A key that is asked for.
 #[derive(Drop)]
@@ -33,9 +25,10 @@ pub struct Lives<A: Allocator> {
     alloc: A,
     keys: Vec<Asked<A>, A>,
     classes: Classes<A>,
-    // the place of each key
-    places: IndexMap<HeldKey<A>, usize, BuildHasherDefault<FoldHasher>, A>,
-    // the places of the keys that an event concerns
+    // the places of the keys of each hash
+    places: IndexMap<u32, Vec<usize, A>, BuildHasherDefault<FoldHasher>, A>,
+    // the hashes of the keys that an event may concern, and the places of those that are asked for
+    hashes: Vec<u32, A>,
     concerned: Vec<usize, A>,
     last: bool,
     // which life of the server is asked for, from 1, and which one it is
@@ -43,28 +36,6 @@ pub struct Lives<A: Allocator> {
     life: u64,
     // the time of the last event
     now: Timestamp,
-}
-
-// The item that a change of a record holds.
-fn item_in<A: Allocator>(undo: &Change<A>) -> Option<&Item<A>> {
-    match undo {
-        Change::Enter { item, .. } | Change::Link { item, .. } | Change::Revive { item, .. } => {
-            Some(item)
-        }
-        _ => None,
-    }
-}
-
-// The chunks that a change of a record concerns.
-fn chunks_in<A: Allocator>(undo: &Change<A>) -> (Option<ChunkRef>, Option<ChunkRef>) {
-    match undo {
-        Change::Unlink { chunk, .. }
-        | Change::Leave { chunk, .. }
-        | Change::Free { chunk, .. }
-        | Change::Requeue { chunk, .. } => (Some(*chunk), None),
-        Change::Shift(from, to) => (Some(*from), Some(*to)),
-        _ => (None, None),
-    }
 }
 
 // Forgets the connections of a life that has ended.
@@ -140,6 +111,27 @@ impl<A: Allocator + Copy> Asked<A> {
     }
 }
 
+// Whether a key stands at a place.
+fn is_at<A: Allocator>(keys: &[Asked<A>], place: usize, key: &Key<A>) -> bool {
+    match keys.get(place) {
+        Some(asked) => asked.lives.key.is_same(key),
+        None => false,
+    }
+}
+
+// Adds places to others, but for those that are there.
+fn add_places<A: Allocator>(
+    concerned: &mut Vec<usize, A>,
+    places: &[usize],
+) -> Result<(), AllocError> {
+    for place in places {
+        if !concerned.contains(place) {
+            concerned.push(*place)?;
+        }
+    }
+    Ok(())
+}
+
 impl<A: Allocator + Copy> Lives<A> {
     /// No key is asked for. With `last` only the last life of each is kept. With `asked` only events of this life of
     /// the server are looked at, from 1. Prefixes end with this byte.
@@ -149,6 +141,7 @@ impl<A: Allocator + Copy> Lives<A> {
             keys: Vec::new(alloc),
             classes: Classes::new(alloc, prefix_end),
             places: IndexMap::new(alloc),
+            hashes: Vec::new(alloc),
             concerned: Vec::new(alloc),
             last,
             asked,
@@ -160,19 +153,40 @@ impl<A: Allocator + Copy> Lives<A> {
         }
     }
 
+    // Whether a key is asked for.
+    fn has(&self, key: &Key<A>) -> bool {
+        match self.places.get(&key.hash()) {
+            Some(places) => places
+                .iter()
+                .any(|place| is_at(self.keys.as_slice(), *place, key)),
+            None => false,
+        }
+    }
+
+    // Notes the place of a key.
+    fn note_place(&mut self, hash: u32, place: usize) -> Result<(), AllocError> {
+        match self.places.get_mut(&hash) {
+            Some(places) => places.push(place)?,
+            None => {
+                let mut places = Vec::new(self.alloc);
+                places.push(place)?;
+                self.places.insert(hash, places)?;
+            }
+        }
+        Ok(())
+    }
+
     /// Asks for a key, too. One that is asked for already is not asked for twice.
     ///
     /// Err: memory was refused.
     pub fn ask(&mut self, key: &Key<A>) -> Result<(), AllocError> {
-        if self.places.get(SoughtKey { key }).is_some() {
+        if self.has(key) {
             return Ok(());
         }
-        let held = HeldKey::copy_of(self.alloc, key)?;
         let lives = KeyLives::new(self.alloc, key.copy(self.alloc)?);
         let place = self.keys.len();
         self.keys.push(Asked { lives, begun: None })?;
-        self.places.insert(held, place)?;
-        Ok(())
+        self.note_place(key.hash(), place)
     }
 
     /// The keys that were asked for, in the order in which they were first asked for.
@@ -200,76 +214,15 @@ impl<A: Allocator + Copy> Lives<A> {
         }
     }
 
-    // An event may concern this key.
-    fn add(&mut self, key: Option<&Key<A>>) -> Result<(), AllocError> {
-        let Some(key) = key else {
-            return Ok(());
-        };
-        let Some(place) = self.places.get(SoughtKey { key }).copied() else {
-            return Ok(());
-        };
-        if !self.concerned.contains(&place) {
-            self.concerned.push(place)?;
-        }
-        Ok(())
-    }
-
-    // An event may concern the key of the item that a chunk holds.
-    fn add_chunk(&mut self, store: &Store<A>, chunk: Option<ChunkRef>) -> Result<(), AllocError> {
-        let Some(chunk) = chunk else {
-            return Ok(());
-        };
-        match store.content(chunk) {
-            Some(item) => self.add(Some(item.key())),
-            None => Ok(()),
-        }
-    }
-
-    // An event may concern the keys that a change of a record names.
-    fn add_change(&mut self, store: &Store<A>, undo: &Change<A>) -> Result<(), AllocError> {
-        match item_in(undo) {
-            Some(item) => self.add(Some(item.key()))?,
-            None => {}
-        }
-        let (first, second) = chunks_in(undo);
-        self.add_chunk(store, first)?;
-        self.add_chunk(store, second)
-    }
-
-    fn add_record(&mut self, store: &Store<A>, trace: &RecordRef<A>) -> Result<(), AllocError> {
-        for i in 0..trace.len() {
-            match trace.change(i) {
-                Some(undo) => self.add_change(store, undo)?,
-                None => {}
-            }
-        }
-        Ok(())
-    }
-
-    // Finds the keys that an event may concern.
+    // Finds the keys that an event may concern. To the others it does nothing.
     fn find_concerned(&mut self, heard: &Heard<'_, A>) -> Result<(), AllocError> {
+        gather(&mut self.hashes, heard)?;
         self.concerned.clear();
-        match heard.event {
-            Some(event) => self.add(key_in(event))?,
-            None => {}
-        }
-        let session = heard.session;
-        for depth in 0..session.depth() {
-            match session.trail(depth + 1) {
-                Some((_, step, _, trace)) => {
-                    self.add(key_of(step))?;
-                    self.add_record(session.store(), &trace)?;
-                }
+        for hash in self.hashes.iter() {
+            match self.places.get(hash) {
+                Some(places) => add_places(&mut self.concerned, places.as_slice())?,
                 None => {}
             }
-        }
-        Ok(())
-    }
-
-    // Follows each key.
-    fn follow_all(&mut self, heard: &Heard<'_, A>) -> Result<(), AllocError> {
-        for key in self.keys.iter_mut() {
-            key.follow(self.alloc, heard, &self.classes, self.last)?;
         }
         Ok(())
     }
@@ -298,12 +251,8 @@ impl<A: Allocator + Copy> Listener<A> for Lives<A> {
                 .count(event, heard.time, heard.session.store())?,
             None => {}
         }
-        if self.keys.len() <= FEW {
-            self.follow_all(heard)?;
-        } else {
-            self.find_concerned(heard)?;
-            self.follow_concerned(heard)?;
-        }
+        self.find_concerned(heard)?;
+        self.follow_concerned(heard)?;
         Ok(())
     }
 

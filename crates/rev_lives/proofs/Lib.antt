@@ -1,0 +1,4 @@
+pub mod Lacks
+pub mod Unnamed
+pub mod Aside
+pub mod Gathered
