@@ -255,15 +255,36 @@ impl<'a, A: Allocator + Copy> Wanted<'a, A> {
         Ok(())
     }
 
+    // Whether a live item may still change what was found. If not, none of them is looked at: a queue is long, and its
+    // items lie far apart in memory.
+    fn asks_live(&self, search: &Search<A>) -> bool {
+        search.wants_live() || (!search.is_full() && self.candidates.len(self.class) != 0)
+    }
+
     fn look_at(&self, chunk: ChunkRef, search: &mut Search<A>) -> Result<(), AllocError> {
-        let (Some(item), Some(header)) = (self.store.content(chunk), self.store.header(chunk))
-        else {
+        let Some(header) = self.store.header(chunk) else {
             return Ok(());
         };
+        let is_dead = is_dead(self.store.globals(), header);
+        if !is_dead && !self.asks_live(search) {
+            return Ok(());
+        }
+        match self.store.content(chunk) {
+            Some(item) => self.look_at_item(item, is_dead, search),
+            None => Ok(()),
+        }
+    }
+
+    fn look_at_item(
+        &self,
+        item: &Item<A>,
+        is_dead: bool,
+        search: &mut Search<A>,
+    ) -> Result<(), AllocError> {
         if self.is_spared(item.key()) {
             return Ok(());
         }
-        if is_dead(self.store.globals(), header) {
+        if is_dead {
             self.look_at_dead(item, search)
         } else {
             self.look_at_live(item, search)
@@ -300,6 +321,16 @@ impl<'a, A: Allocator + Copy> Wanted<'a, A> {
 }
 
 impl<A: Allocator + Copy> Search<A> {
+    // Whether any live item may be what is found.
+    fn wants_live(&self) -> bool {
+        self.last.is_none() || (self.likely.is_none() && self.unseen.is_none())
+    }
+
+    // Whether as many keys were found as are kept of those that may have been let go.
+    fn is_full(&self) -> bool {
+        self.likely.is_some() && self.others.len() >= MOST_OTHERS
+    }
+
     fn add_likely(&mut self, key: &Key<A>) -> Result<(), AllocError> {
         let copy = key.copy(self.alloc)?;
         if self.likely.is_none() {
